@@ -1,0 +1,44 @@
+-- Laws of choice, and the facts of a branch as the tests of a definition.
+use mathlib.Core.Path.{_≡_, refl}
+use mathlib.Core.Bool.{Bool, true, false}
+use mathlib.Core.Logic.{_⊎_, inl, inr}
+use Prim.Native.Nat.{ℕ}
+use native.Mathlib.Omega.{arith}
+use borrow.Author.Tests.{lt-leb, le-leb, lt-ltb, le-ltb, ne-eqb, eq-eqb}
+use Rattle.prelude.specs.Choice.{choose, _also_}
+
+-- turns the facts of branches into the tests of a definition
+pub ruleset tests = (lt-leb, le-leb, lt-ltb, le-ltb, ne-eqb, eq-eqb)
+
+-- true is not false
+pub clash {ℓ} : {C : Type ℓ} → true ≡ false → C
+clash e = let z : _≡_ {A = ℕ} 0 1 = cc in absurd (omega arith)
+
+module _ {X : Type 0} where
+  pub choose-yes : (b : Bool) (x y : X) → b ≡ true → choose b x y ≡ x
+  unfolding choose
+  choose-yes b x y e = rw e
+
+  pub choose-no : (b : Bool) (x y : X) → b ≡ false → choose b x y ≡ y
+  unfolding choose
+  choose-no b x y e = rw e
+
+  pub choose-same : (b : Bool) (x : X) → choose b x x ≡ x
+  unfolding choose
+  choose-same true x = refl
+  choose-same false x = refl
+
+  -- which of the two it is
+  pub choose-cases : (b : Bool) {x y z : X} → choose b x y ≡ z → ((b ≡ true) × (x ≡ z)) ⊎ ((b ≡ false) × (y ≡ z))
+  unfolding choose
+  choose-cases true e = inl (refl, e)
+  choose-cases false e = inr (refl, e)
+
+pub also-true : (a b : Bool) → (a also b) ≡ true → (a ≡ true) × (b ≡ true)
+unfolding _also_
+also-true true b e = (refl, e)
+also-true false b e = clash (cc)
+
+pub also-yes : {a b : Bool} → a ≡ true → b ≡ true → (a also b) ≡ true
+unfolding _also_
+also-yes {a} {b} p q = rw (p, q)
