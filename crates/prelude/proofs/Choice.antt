@@ -42,3 +42,12 @@ also-true false b e = clash (cc)
 pub also-yes : {a b : Bool} → a ≡ true → b ≡ true → (a also b) ≡ true
 unfolding _also_
 also-yes {a} {b} p q = rw (p, q)
+
+pub also-left : {a : Bool} (b : Bool) → a ≡ false → (a also b) ≡ false
+unfolding _also_
+also-left b p = rw p
+
+pub also-right : (a : Bool) {b : Bool} → b ≡ false → (a also b) ≡ false
+unfolding _also_
+also-right true q = q
+also-right false q = refl

@@ -1,0 +1,132 @@
+-- Laws of the lowest row at fault.
+use mathlib.Core.Path.{_≡_, refl, sym, _∙_, ap}
+use mathlib.Core.Bool.{Bool, true, false}
+use mathlib.Core.Logic.{_⊎_, inl, inr, ⊎-elim}
+use Prim.Native.Nat.{ℕ, zero, suc, _+_, _≤_, _<_}
+use native.Mathlib.Omega.{arith}
+use native.Mathlib.Decide.{decLe}
+use Rattle.prelude.specs.Choice.{choose, _also_}
+use Rattle.prelude.proofs.Choice.{choose-cases, also-true, also-yes, also-left, also-right}
+use Rattle.image.specs.Faults.{firstFrom, lowestFault, allFrom}
+use Rattle.image.specs.declared.Verdict.{Verdict}
+use Rattle.image.specs.declared.Verdict.the-variants.{Kept, Fault}
+
+-- the rows from k on and below e keep the rule
+pub record KeptIn (keeps : ℕ → Bool) (k e : ℕ) : Type 0 where
+  pub each : (j : ℕ) → k ≤ j → j < e → keeps j ≡ true
+
+-- the row is at fault, and no lower one is
+pub record Lowest (keeps : ℕ → Bool) (n r : ℕ) : Type 0 where
+  pub within : r < n
+  pub fault : keeps r ≡ false
+  pub lower : (j : ℕ) → j < r → keeps j ≡ true
+
+differ : {r : ℕ} {C : Type 0} → Fault r ≡ Kept → C
+differ e = let z : _≡_ {A = ℕ} 0 1 = cc in absurd (omega arith)
+
+module _ (keeps : ℕ → Bool) where
+  -- one row more
+  kept-more : (k e : ℕ) → keeps k ≡ true → KeptIn keeps (k + 1) e → KeptIn keeps k e
+  kept-more k e here rest = record { each = λ j low high. go j (decLe (k + 1) j) low high }
+    where
+      go : (j : ℕ) → Dec (k + 1 ≤ j) → k ≤ j → j < e → keeps j ≡ true
+      go j (yes h) low high = rest .each j h high
+      go j (no h) low high = let q : k ≡ j = omega arith in rw (← q) here
+
+  from-kept : (n k : ℕ) → firstFrom keeps k n ≡ Kept → KeptIn keeps k (k + n)
+  unfolding firstFrom
+  from-kept zero k e = record { each = λ j low high. absurd (omega arith) }
+  from-kept (suc n) k e =
+      ⊎-elim
+      (λ h. let q : k + 1 + n ≡ k + suc n = omega arith in rw q at (kept-more k (k + 1 + n) (h .0) (from-kept n (k + 1) (h .1))))
+      (λ h. differ (h .1))
+      (choose-cases (keeps k) e)
+
+  kept-from : (n k : ℕ) → KeptIn keeps k (k + n) → firstFrom keeps k n ≡ Kept
+  unfolding firstFrom choose
+  kept-from zero k h = refl
+  kept-from (suc n) k h =
+      rw (h .each k (omega arith) (omega arith))
+      (kept-from n (k + 1) (record { each = λ j low high. h .each j (omega arith) (omega arith) }))
+
+  from-fault : (n k r : ℕ) → firstFrom keeps k n ≡ Fault r → (k ≤ r) × (r < k + n) × (keeps r ≡ false) × KeptIn keeps k r
+  unfolding firstFrom
+  from-fault zero k r e = differ (sym e)
+  from-fault (suc n) k r e =
+      ⊎-elim
+      (λ h. let (a, b, f, l) = from-fault n (k + 1) r (h .1) in (omega arith, omega arith, f, kept-more k r (h .0) l))
+      (λ h. let q : k ≡ r = cc in (omega arith, omega arith, rw (← q) (h .0), record { each = λ j low high. absurd (omega arith) }))
+      (choose-cases (keeps k) e)
+
+  fault-from : (n k r : ℕ) → k ≤ r → r < k + n → keeps r ≡ false → KeptIn keeps k r → firstFrom keeps k n ≡ Fault r
+  unfolding firstFrom choose
+  fault-from zero k r a b f l = absurd (omega arith)
+  fault-from (suc n) k r a b f l =
+      go (decLe (k + 1) r)
+      (λ h. fault-from n (k + 1) r h (omega arith) f (record { each = λ j low high. l .each j (omega arith) high }))
+    where
+      go : Dec (k + 1 ≤ r) → (k + 1 ≤ r → firstFrom keeps (k + 1) n ≡ Fault r)
+          → choose (keeps k) (firstFrom keeps (k + 1) n) (Fault k) ≡ Fault r
+      go (yes h) rest = rw (l .each k (omega arith) (omega arith)) (rest h)
+      go (no h) rest = let q : k ≡ r = omega arith in rw (q, f)
+
+  -- none at fault gives the rule at every row, and the other way round
+  pub verdict-kept : (n : ℕ) → lowestFault keeps n ≡ Kept → (j : ℕ) → j < n → keeps j ≡ true
+  unfolding lowestFault
+  verdict-kept n e j h = from-kept n 0 e .each j (omega arith) (omega arith)
+
+  pub kept-verdict : (n : ℕ) → ((j : ℕ) → j < n → keeps j ≡ true) → lowestFault keeps n ≡ Kept
+  unfolding lowestFault
+  kept-verdict n h = kept-from n 0 (record { each = λ j low high. h j (omega arith) })
+
+  -- the first at fault is at fault and no lower one is, and the other way round
+  pub verdict-fault : (n r : ℕ) → lowestFault keeps n ≡ Fault r → Lowest keeps n r
+  unfolding lowestFault
+  verdict-fault n r e =
+      let (a, b, f, l) = from-fault n 0 r e in
+      record { within = omega arith; fault = f; lower = λ j h. l .each j (omega arith) h }
+
+  pub fault-verdict : (n r : ℕ) → Lowest keeps n r → lowestFault keeps n ≡ Fault r
+  unfolding lowestFault
+  fault-verdict n r h =
+      let w = h .within in
+      fault-from n 0 r (omega arith) (omega arith) (h .fault) (record { each = λ j low high. h .lower j high })
+
+from-same : (f g : ℕ → Bool) (n k : ℕ) → ((j : ℕ) → k ≤ j → j < k + n → f j ≡ g j) → firstFrom f k n ≡ firstFrom g k n
+unfolding firstFrom
+from-same f g zero k h = refl
+from-same f g (suc n) k h =
+    rw (h k (omega arith) (omega arith), from-same f g n (k + 1) (λ j low high. h j (omega arith) (omega arith)))
+
+-- rules that agree on the rows have the same verdict
+pub verdict-same : (f g : ℕ → Bool) (n : ℕ) → ((j : ℕ) → j < n → f j ≡ g j) → lowestFault f n ≡ lowestFault g n
+unfolding lowestFault
+verdict-same f g n h = from-same f g n 0 (λ j low high. h j (omega arith))
+
+-- ---- all rows of a stretch
+
+module _ (keeps : ℕ → Bool) where
+  pub all-each : (n k : ℕ) → allFrom keeps k n ≡ true → KeptIn keeps k (k + n)
+  unfolding allFrom
+  all-each zero k e = record { each = λ j low high. absurd (omega arith) }
+  all-each (suc n) k e =
+      let (here, rest) = also-true _ _ e in
+      let q : k + 1 + n ≡ k + suc n = omega arith in
+      rw q at (kept-more keeps k (k + 1 + n) here (all-each n (k + 1) rest))
+
+  pub each-all : (n k : ℕ) → KeptIn keeps k (k + n) → allFrom keeps k n ≡ true
+  unfolding allFrom
+  each-all zero k h = refl
+  each-all (suc n) k h =
+      also-yes (h .each k (omega arith) (omega arith))
+      (each-all n (k + 1) (record { each = λ j low high. h .each j (omega arith) (omega arith) }))
+
+  pub not-all : (n k j : ℕ) → k ≤ j → j < k + n → keeps j ≡ false → allFrom keeps k n ≡ false
+  unfolding allFrom
+  not-all zero k j a b f = absurd (omega arith)
+  not-all (suc n) k j a b f =
+      go (decLe (k + 1) j) (λ h. not-all n (k + 1) j h (omega arith) f)
+    where
+      go : Dec (k + 1 ≤ j) → (k + 1 ≤ j → allFrom keeps (k + 1) n ≡ false) → (keeps k also allFrom keeps (k + 1) n) ≡ false
+      go (yes h) rest = also-right (keeps k) (rest h)
+      go (no h) rest = let q : k ≡ j = omega arith in also-left (allFrom keeps (k + 1) n) (rw q f)
