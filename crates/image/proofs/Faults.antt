@@ -7,25 +7,26 @@ use native.Mathlib.Omega.{arith}
 use native.Mathlib.Decide.{decLe}
 use Rattle.prelude.specs.Choice.{choose, _also_}
 use Rattle.prelude.proofs.Choice.{choose-cases, also-true, also-yes, also-left, also-right}
-use Rattle.image.specs.Faults.{firstFrom, lowestFault, allFrom}
+use Rattle.image.specs.Faults.{firstFrom, lowestFault, allFrom, KeptIn, Lowest}
 use Rattle.image.specs.declared.Verdict.{Verdict}
 use Rattle.image.specs.declared.Verdict.the-variants.{Kept, Fault}
-
--- the rows from k on and below e keep the rule
-pub record KeptIn (keeps : ℕ → Bool) (k e : ℕ) : Type 0 where
-  pub each : (j : ℕ) → k ≤ j → j < e → keeps j ≡ true
-
--- the row is at fault, and no lower one is
-pub record Lowest (keeps : ℕ → Bool) (n r : ℕ) : Type 0 where
-  pub within : r < n
-  pub fault : keeps r ≡ false
-  pub lower : (j : ℕ) → j < r → keeps j ≡ true
 
 differ : {r : ℕ} {C : Type 0} → Fault r ≡ Kept → C
 differ e = let z : _≡_ {A = ℕ} 0 1 = cc in absurd (omega arith)
 
 module _ (keeps : ℕ → Bool) where
-  -- one row more
+  -- no row
+  pub kept-none : (k : ℕ) → KeptIn keeps k k
+  kept-none k = record { each = λ j low high. absurd (omega arith) }
+
+  -- one row more, above or below
+  pub kept-next : (k e : ℕ) → KeptIn keeps k e → keeps e ≡ true → KeptIn keeps k (e + 1)
+  kept-next k e rest here = record { each = λ j low high. go j (decLe e j) low high }
+    where
+      go : (j : ℕ) → Dec (e ≤ j) → k ≤ j → j < e + 1 → keeps j ≡ true
+      go j (yes h) low high = let q : e ≡ j = omega arith in rw (← q) here
+      go j (no h) low high = rest .each j low (omega arith)
+
   kept-more : (k e : ℕ) → keeps k ≡ true → KeptIn keeps (k + 1) e → KeptIn keeps k e
   kept-more k e here rest = record { each = λ j low high. go j (decLe (k + 1) j) low high }
     where

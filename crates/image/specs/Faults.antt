@@ -1,5 +1,6 @@
 -- The lowest row at fault.
-use Prim.Native.Nat.{ℕ, zero, suc, _+_}
+use mathlib.Core.Path.{_≡_}
+use Prim.Native.Nat.{ℕ, zero, suc, _+_, _≤_, _<_}
 use mathlib.Core.Bool.{Bool, true, false}
 use lib.Dec.{ltb}
 use Rattle.prelude.specs.Choice.{choose, _also_}
@@ -19,3 +20,13 @@ lowestFault keeps n = firstFrom keeps 0 n
 unfoldable pub allFrom : (ℕ → Bool) → ℕ → ℕ → Bool
 allFrom keeps k zero = true
 allFrom keeps k (suc n) = keeps k also allFrom keeps (k + 1) n
+
+-- the rows from k on and below e keep the rule
+pub record KeptIn (keeps : ℕ → Bool) (k e : ℕ) : Type 0 where
+  pub each : (j : ℕ) → k ≤ j → j < e → keeps j ≡ true
+
+-- the row is at fault, and no lower one is
+pub record Lowest (keeps : ℕ → Bool) (n r : ℕ) : Type 0 where
+  pub within : r < n
+  pub fault : keeps r ≡ false
+  pub lower : (j : ℕ) → j < r → keeps j ≡ true

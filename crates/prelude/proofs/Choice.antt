@@ -51,3 +51,7 @@ pub also-right : (a : Bool) {b : Bool} → b ≡ false → (a also b) ≡ false
 unfolding _also_
 also-right true q = q
 also-right false q = refl
+
+pub also-pass : {a : Bool} (b : Bool) → a ≡ true → (a also b) ≡ b
+unfolding _also_
+also-pass b p = rw p

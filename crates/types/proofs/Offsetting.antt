@@ -1,0 +1,75 @@
+-- Laws of the loop that writes the places of own fields.
+use mathlib.Core.Path.{_≡_, refl, sym, _∙_, ap}
+use mathlib.Core.List.{List, [], _∷_, map}
+use Prim.Native.Nat.{ℕ, zero, suc, _+_, _-_, _≤_, _<_}
+use native.Mathlib.Omega.{arith}
+use native.Mathlib.Decide.{decLt, decLe}
+use native.Mathlib.Nat.{add-zero}
+use lib.ListN.{length, getD, set, length-set}
+use lib.Seq.{getD-set-same, getD-set-other}
+use Rattle.prelude.specs.Parts.{sum}
+use Rattle.image.specs.Rows.{rowAt}
+use Rattle.types.specs.Forms.{ownTypes}
+use Rattle.types.specs.Filling.{OffsetsFit, Offsets}
+
+-- the sizes of one own field more, at the end
+pub sum-more : (f : List ℕ) (g : ℕ → ℕ) (m k : ℕ) → sum (map g (ownTypes f k (suc m))) ≡ sum (map g (ownTypes f k m)) + g (rowAt f (k + m) .a)
+unfolding ownTypes sum
+sum-more f g zero k = let q : k + 0 ≡ k = omega arith in rw q (omega arith)
+sum-more f g (suc m) k =
+    let q : k + 1 + m ≡ k + suc m = omega arith in
+    let rest = rw q at (sum-more f g m (k + 1)) in
+    omega (arith, rest)
+
+pub sum-up : (f : List ℕ) (g : ℕ → ℕ) (m n k : ℕ) → m ≤ n → sum (map g (ownTypes f k m)) ≤ sum (map g (ownTypes f k n))
+unfolding ownTypes sum
+sum-up f g zero n k h = omega arith
+sum-up f g (suc m) zero k h = absurd (omega arith)
+sum-up f g (suc m) (suc n) k h = let rest = sum-up f g m n (k + 1) (omega arith) in omega (arith, rest)
+
+module _ (f : List ℕ) (k at : ℕ) (old : List ℕ) where
+  abbrev held : ℕ → ℕ
+  held r = getD old r 0
+
+  pub offsets-none : Offsets f k 0 at old old
+  offsets-none = record { cells = refl; place = λ j h. absurd (omega arith); below = λ i h. refl; above = λ i h. refl }
+
+  -- one place more, at field row i
+  pub offsets-next : (i place : ℕ) (plan : List ℕ) → k ≤ i → Offsets f k (i - k) at old plan → 128 + i < length plan
+      → place ≡ at + sum (map held (ownTypes f k (i - k))) → Offsets f k (i + 1 - k) at old (set plan (128 + i) place)
+  offsets-next i place plan low o room e = record {
+    cells = length-set plan (128 + i) place ∙ o .cells;
+    place = λ j h. go j (decLt j (i - k)) h;
+    below = λ x h. getD-set-other plan (128 + i) x place 0 (omega arith) ∙ o .below x h;
+    above = λ x h. getD-set-other plan (128 + i) x place 0 (omega arith) ∙ o .above x (omega arith);
+  }
+    where
+      go : (j : ℕ) → Dec (j < i - k) → j < i + 1 - k → getD (set plan (128 + i) place) (128 + (k + j)) 0 ≡ at + sum (map held (ownTypes f k j))
+      go j (yes l) h = getD-set-other plan (128 + i) (128 + (k + j)) place 0 (omega arith) ∙ o .place j l
+      go j (no l) h =
+          let q : i - k ≡ j = omega arith in
+          let here : 128 + (k + j) ≡ 128 + i = omega arith in
+          rw here (getD-set-same plan (128 + i) place 0 room ∙ rw q at e)
+
+-- what a turn of the loop has: room for the place, and the next place, which is small
+pub record Turn (f : List ℕ) (k at : ℕ) (old : List ℕ) (i place size : ℕ) (plan : List ℕ) : Type 0 where
+  pub room : 128 + i < length plan
+  pub next : place + size ≡ at + sum (map (λ r. getD old r 0) (ownTypes f k (i + 1 - k)))
+  pub small : place + size ≤ 4096
+
+pub at-turn : (f : List ℕ) (k n at : ℕ) (old : List ℕ) (i place size : ℕ) (plan : List ℕ) → OffsetsFit f old k n at → k ≤ i → i < k + n
+    → Offsets f k (i - k) at old plan → place ≡ at + sum (map (λ r. getD old r 0) (ownTypes f k (i - k)))
+    → size ≡ getD plan (rowAt f i .a) 0 → Turn f k at old i place size plan
+at-turn f k n at old i place size plan fit low high o e s =
+    let g : ℕ → ℕ = λ r. getD old r 0 in
+    let typed = fit .low i low high in
+    let size-is : size ≡ g (rowAt f i .a) = s ∙ o .below (rowAt f i .a) (omega arith) in
+    let count : i + 1 - k ≡ suc (i - k) = omega arith in
+    let here : k + (i - k) ≡ i = omega arith in
+    let more = rw here at (sum-more f g (i - k) k) in
+    let up = sum-up f g (suc (i - k)) n k (omega arith) in
+    let next : place + size ≡ at + sum (map g (ownTypes f k (suc (i - k)))) = omega (arith, more, e, size-is) in
+    let same = o .cells in
+    let fits = fit .cells in
+    let whole = fit .total in
+    record { room = omega arith; next = rw count next; small = omega (arith, next, up, whole) }

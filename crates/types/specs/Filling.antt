@@ -1,0 +1,39 @@
+-- What the functions that fill the plan ask and give.
+use Prim.Native.Nat.{ℕ, _+_, _≤_, _<_}
+use mathlib.Core.Path.{_≡_}
+use mathlib.Core.Bool.{true}
+use mathlib.Core.List.{List, map}
+use lib.ListN.{length, getD}
+use Rattle.prelude.specs.Parts.{sum}
+use Rattle.image.specs.declared.Row.{Row}
+use Rattle.image.specs.Rows.{rowAt, rowsOf}
+use Rattle.image.specs.Faults.{KeptIn}
+use Rattle.types.specs.Forms.{ownTypes}
+use Rattle.types.specs.Sizes.{sizeOf}
+use Rattle.types.specs.Question.{usedBelow, typeKept}
+use Rattle.types.specs.Plan.{Plan}
+
+-- n field rows from row k on have types below 64, and behind `at` their sizes do not exceed 4,096
+pub record OffsetsFit (f plan : List ℕ) (k n at : ℕ) : Type 0 where
+  pub cells : 128 + (k + n) ≤ length plan
+  pub low : (j : ℕ) → k ≤ j → j < k + n → rowAt f j .a < 64
+  pub total : at + sum (map (λ r. getD plan r 0) (ownTypes f k n)) ≤ 4096
+
+-- their places are written, and nothing else
+pub record Offsets (f : List ℕ) (k n at : ℕ) (old plan : List ℕ) : Type 0 where
+  pub cells : length plan ≡ length old
+  pub place : (j : ℕ) → j < n → getD plan (128 + (k + j)) 0 ≡ at + sum (map (λ r. getD old r 0) (ownTypes f k j))
+  pub below : (i : ℕ) → i < 128 + k → getD plan i 0 ≡ getD old i 0
+  pub above : (i : ℕ) → 128 + (k + n) ≤ i → getD plan i 0 ≡ getD old i 0
+
+-- type row r keeps its rule, and the plan holds what it does of the rows below
+pub record Ready (t f plan : List ℕ) (used r : ℕ) (row : Row) (size : ℕ) : Type 0 where
+  pub few-rows : r < 64
+  pub few-fields : rowsOf f ≤ 256
+  pub cells : 384 ≤ length plan
+  pub this-row : row ≡ rowAt t r
+  pub claimed : used ≡ usedBelow t r
+  pub sized : size ≡ sizeOf t f r
+  pub below : KeptIn (typeKept t f) 0 r
+  pub here : typeKept t f r ≡ true
+  pub planned : Plan t f r plan

@@ -1,0 +1,35 @@
+-- What a row of the types table is.
+use Prim.Native.Nat.{ℕ, zero, suc, _+_}
+use mathlib.Core.List.{List, [], _∷_}
+use lib.Dec.{leb, eqb}
+use Rattle.prelude.specs.Choice.{choose}
+use Rattle.image.specs.declared.Row.{Row}
+use Rattle.image.specs.Rows.{rowAt}
+
+-- "Rows 0, 1, 2 are kinds 0 BOOLEAN, 1 INTEGER, 2 SET. Later rows are kind 3, array (a element type, b length 1 to 4,096),
+-- or kind 4, record (a is 0 or base row plus 1, b first own field row, c own field count)."
+pub data Form : Type 0 where
+  scalar : ℕ → Form
+  array : ℕ → ℕ → Form
+  recordOf : ℕ → ℕ → ℕ → Form
+  noForm : Form
+
+unfoldable pub formOf : Row → Form
+formOf r =
+    choose (leb (r .kind) 2) (scalar (r .kind))
+    (choose (eqb (r .kind) 3) (array (r .a) (r .b))
+    (choose (eqb (r .kind) 4) (recordOf (r .a) (r .b) (r .c)) noForm))
+
+-- the form of type row r of the table t
+unfoldable pub form : List ℕ → ℕ → Form
+form t r = formOf (rowAt t r)
+
+-- what a record takes over from its base: `none` where it has no base
+unfoldable pub ofBase : {X : Type 0} → X → (ℕ → X) → ℕ → X
+ofBase none g zero = none
+ofBase none g (suc b) = g b
+
+-- "A field row has kind 0 and type a": the types of n field rows from row k on
+unfoldable pub ownTypes : List ℕ → ℕ → ℕ → List ℕ
+ownTypes f k zero = []
+ownTypes f k (suc n) = rowAt f k .a ∷ ownTypes f (k + 1) n
