@@ -20,9 +20,9 @@ use Rattle.image.specs.declared.Verdict.the-variants.{Kept, Fault}
 use Rattle.image.specs.Rows.{rowAt, rowsOf}
 use Rattle.image.specs.Faults.{allFrom, lowestFault, KeptIn}
 use Rattle.image.proofs.Faults.{all-each, verdict-kept}
-use Rattle.types.specs.Forms.{Form, Form.scalar, Form.array, Form.recordOf, Form.noForm, formOf, form, ofBase, ownTypes}
+use Rattle.types.specs.Forms.{Form, Form.scalar, Form.array, Form.recordOf, Form.noForm, formOf, form, baseOf, countOf, ofBase, ownTypes}
 use Rattle.types.specs.Sizes.{sizeBy, sizeOf, layoutBy, layoutOf, fieldsBy, fieldsOf}
-use Rattle.types.specs.Question.{claimedBy, usedBelow, scalarKept, arrayKept, fieldKept, baseKept, recordKept, laterKept, shapeKept, typeKept, typeRule, question4}
+use Rattle.types.specs.Question.{usedBelow, scalarKept, arrayKept, fieldKept, baseKept, recordKept, laterKept, shapeKept, typeKept, typeRule, question4}
 use Rattle.types.proofs.Rows.{form-scalar, form-array, form-record}
 
 -- ---- a row
@@ -87,6 +87,45 @@ shape-of t f used r row e = go (decLt r 3) (also-true _ _ e .1)
     go (yes h) k = scalar-shape t f used r row h (sym (choose-yes _ _ _ (lt-ltb r 3 h)) ∙ k)
     go (no h) k = later-shape t f used r row (omega arith) (sym (choose-no _ _ _ (le-ltb r 3 (omega arith))) ∙ k)
 
+-- a shape that is a record's
+pub record IsRecord (t f : List ℕ) (used r base first count : ℕ) : Type 0 where
+  pub later : 3 ≤ r
+  pub on : Based t r base
+  pub claims : first ≡ used
+  pub within : first + count ≤ rowsOf f
+  pub own : KeptIn (fieldKept f r) first (first + count)
+
+pub record-is : {t f : List ℕ} {used r : ℕ} {x : Form} {base first count : ℕ} → Shape t f used r x → x ≡ recordOf base first count
+    → IsRecord t f used r base first count
+record-is (is-scalar l) e = let z : _≡_ {A = ℕ} 0 1 = cc in absurd (omega arith)
+record-is (is-array l a b c) e = let z : _≡_ {A = ℕ} 0 1 = cc in absurd (omega arith)
+record-is {t} {f} {used} {r} {base = base} {first} {count} (is-record {base = b} {count = n} l on rows own) e =
+    let at : used ≡ first = cc in
+    let bases : b ≡ base = cc in
+    let counts : n ≡ count = cc in
+    record {
+      later = l;
+      on = rw bases at on;
+      claims = sym at;
+      within = rw (← at, ← counts) rows;
+      own = rw (at, counts) at own;
+    }
+
+-- a shape that is an array's
+pub record IsArray (r element n : ℕ) : Type 0 where
+  pub later : 3 ≤ r
+  pub low : element < r
+  pub least : 1 ≤ n
+  pub most : n ≤ 4096
+
+pub array-is : {t f : List ℕ} {used r : ℕ} {x : Form} {element n : ℕ} → Shape t f used r x → x ≡ array element n → IsArray r element n
+array-is (is-scalar l) e = let z : _≡_ {A = ℕ} 0 1 = cc in absurd (omega arith)
+array-is {element = element} {n} (is-array {element = b} {n = m} l a x y) e =
+    let elements : b ≡ element = cc in
+    let counts : m ≡ n = cc in
+    record { later = l; low = rw (← elements) a; least = rw (← counts) x; most = rw (← counts) y }
+array-is (is-record l on rows own) e = let z : _≡_ {A = ℕ} 0 1 = cc in absurd (omega arith)
+
 -- an accepted row: its shape, and "No size exceeds 4,096."
 pub record RowKept (t f : List ℕ) (r : ℕ) : Type 0 where
   pub shape : Shape t f (usedBelow t r) r (form t r)
@@ -109,7 +148,7 @@ field-low f r k e =
 
 -- ---- a row's size, layout and fields hang on lower rows alone
 
-base-agree : {X : Type 0} {t : List ℕ} {r a : ℕ} (none : X) (g h : ℕ → X) → Based t r a → ((b : ℕ) → b < r → g b ≡ h b) → ofBase none g a ≡ ofBase none h a
+pub base-agree : {X : Type 0} {t : List ℕ} {r a : ℕ} (none : X) (g h : ℕ → X) → Based t r a → ((b : ℕ) → b < r → g b ≡ h b) → ofBase none g a ≡ ofBase none h a
 unfolding ofBase
 base-agree none g h no-base same = refl
 base-agree none g h (on-base {b = b} low kind) same = same b low
@@ -121,7 +160,7 @@ own-agree f g h zero k same = refl
 own-agree f g h (suc n) k same =
     rw (same k (omega arith) (omega arith), own-agree f g h n (k + 1) (λ j low high. same j (omega arith) (omega arith)))
 
-fields-agree : {X : Type 0} (f : List ℕ) (g h : ℕ → X) (r k n : ℕ) → KeptIn (fieldKept f r) k (k + n) → ((b : ℕ) → b < r → g b ≡ h b)
+pub fields-agree : {X : Type 0} (f : List ℕ) (g h : ℕ → X) (r k n : ℕ) → KeptIn (fieldKept f r) k (k + n) → ((b : ℕ) → b < r → g b ≡ h b)
     → map g (ownTypes f k n) ≡ map h (ownTypes f k n)
 fields-agree f g h r k n kept same =
     own-agree f g h n k (λ j low high. same (rowAt f j .a) (field-low f r j (kept .each j low high)))

@@ -1,3 +1,6 @@
 pub mod Rows
 pub mod Accepted
 pub mod Offsetting
+pub mod Planning
+pub mod Checking
+pub mod Climbing

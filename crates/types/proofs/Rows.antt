@@ -14,8 +14,7 @@ use Rattle.prelude.specs.Choice.{choose, _also_}
 use Rattle.prelude.specs.Parts.{sum}
 use Rattle.image.specs.declared.Row.{Row}
 use Rattle.image.specs.Rows.{rowAt}
-use Rattle.types.specs.Forms.{Form, Form.scalar, Form.array, Form.recordOf, Form.noForm, formOf, ofBase, ownTypes}
-use Rattle.types.specs.Extends.{baseOf}
+use Rattle.types.specs.Forms.{Form, Form.scalar, Form.array, Form.recordOf, Form.noForm, formOf, baseOf, countOf, ofBase, ownTypes}
 use Rattle.types.specs.Question.{baseKept}
 
 -- the product of a number of j bits and one of k bits has at most j + k
@@ -42,15 +41,19 @@ module _ (r : Row) where
   unfolding formOf choose
   form-none h = rw (lt-leb (r .kind) 2 (omega arith), ne-eqb (r .kind) 3 (omega arith), ne-eqb (r .kind) 4 (omega arith))
 
-  -- a row of another kind has no base
-  pub no-record : (r .kind ≡ 4 → ⊥) → baseOf (formOf r) ≡ 0
-  unfolding baseOf
-  no-record h = go (decLt (r .kind) 3) (decLt 4 (r .kind))
+  -- what holds of every other form holds of a row that is no record
+  pub by-form : (P : Form → Type 0) → ((k : ℕ) → P (scalar k)) → ((e n : ℕ) → P (array e n)) → P noForm → (r .kind ≡ 4 → ⊥) → P (formOf r)
+  by-form P s a n h = go (decLt (r .kind) 3) (decLt 4 (r .kind))
     where
-      go : Dec (r .kind < 3) → Dec (4 < r .kind) → baseOf (formOf r) ≡ 0
-      go (yes l) d = rw (form-scalar l)
-      go (no l) (yes m) = rw (form-none m)
-      go (no l) (no m) = rw (form-array (omega arith))
+      go : Dec (r .kind < 3) → Dec (4 < r .kind) → P (formOf r)
+      go (yes l) d = rw (form-scalar l) (s (r .kind))
+      go (no l) (yes m) = rw (form-none m) n
+      go (no l) (no m) = rw (form-array (omega arith)) (a (r .a) (r .b))
+
+  -- it has no base and no fields
+  pub no-record : (r .kind ≡ 4 → ⊥) → (baseOf (formOf r) ≡ 0) × (countOf (formOf r) ≡ 0)
+  unfolding baseOf countOf
+  no-record h = by-form (λ x. (baseOf x ≡ 0) × (countOf x ≡ 0)) (λ k. (refl, refl)) (λ e n. (refl, refl)) (refl, refl) h
 
 -- ---- bases and own fields
 

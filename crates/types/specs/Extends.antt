@@ -5,14 +5,7 @@ use mathlib.Core.List.{List}
 use lib.Dec.{eqb}
 use Rattle.prelude.specs.Choice.{choose}
 use Rattle.prelude.specs.Rec.{rec}
-use Rattle.types.specs.Forms.{Form, Form.scalar, Form.array, Form.recordOf, Form.noForm, form, ofBase}
-
--- 0, or a record's base row plus 1
-unfoldable pub baseOf : Form → ℕ
-baseOf (scalar kind) = 0
-baseOf (array element n) = 0
-baseOf (recordOf base first count) = base
-baseOf noForm = 0
+use Rattle.types.specs.Forms.{form, baseOf, ofBase}
 
 -- "Types are the same if their rows are. T extends U if T is U or T's base extends U."
 unfoldable pub extendsTo : List ℕ → ℕ → ℕ → Bool

@@ -16,16 +16,18 @@ unfoldable pub fieldOf : List ℕ → List ℕ → ℕ → ℕ → FieldAnswer
 fieldOf t f r n =
     choose (ltb n (length (fieldsOf t f r))) (Field (offsetOf t f r n) (getD (fieldsOf t f r) n 0)) Missing
 
--- the same as found in a plan, whatever it holds: up the bases, to the record that has the field of its own
+-- own field j of a record, as a plan has it, whatever it holds
+unfoldable pub plannedOwn : List ℕ → List ℕ → ℕ → ℕ → ℕ → FieldAnswer
+plannedOwn f plan first count j =
+    choose (ltb j count) (Field (getD plan (128 + (first + j)) 0) (rowAt f (first + j) .a)) Missing
+
+-- field n of type r in a plan: up the bases, to the record that has it of its own
 unfoldable pub plannedBy : List ℕ → List ℕ → ℕ → (ℕ → FieldAnswer) → ℕ → Form → FieldAnswer
 plannedBy f plan n above r (scalar kind) = Missing
 plannedBy f plan n above r (array element m) = Missing
 plannedBy f plan n above r (recordOf base first count) =
-    choose (ltb n (getD plan (64 + r) 0)) (ofBase Missing above base)
-    (choose (ltb (n - getD plan (64 + r) 0) count)
-    (Field (getD plan (128 + (first + (n - getD plan (64 + r) 0))) 0) (rowAt f (first + (n - getD plan (64 + r) 0)) .a))
-    Missing)
+    choose (ltb n (getD plan (64 + r) 0)) (ofBase Missing above base) (plannedOwn f plan first count (n - getD plan (64 + r) 0))
 plannedBy f plan n above r noForm = Missing
 
 unfoldable pub plannedField : List ℕ → List ℕ → List ℕ → ℕ → ℕ → FieldAnswer
-plannedField t f plan r n = rec Missing (λ above r. plannedBy f plan n above r (form t r)) r
+plannedField t f plan n = rec Missing (λ above r. plannedBy f plan n above r (form t r))

@@ -24,6 +24,20 @@ formOf r =
 unfoldable pub form : List ℕ → ℕ → Form
 form t r = formOf (rowAt t r)
 
+-- 0, or a record's base row plus 1
+unfoldable pub baseOf : Form → ℕ
+baseOf (scalar kind) = 0
+baseOf (array element n) = 0
+baseOf (recordOf base first count) = base
+baseOf noForm = 0
+
+-- how many field rows a type claims
+unfoldable pub countOf : Form → ℕ
+countOf (scalar kind) = 0
+countOf (array element n) = 0
+countOf (recordOf base first count) = count
+countOf noForm = 0
+
 -- what a record takes over from its base: `none` where it has no base
 unfoldable pub ofBase : {X : Type 0} → X → (ℕ → X) → ℕ → X
 ofBase none g zero = none

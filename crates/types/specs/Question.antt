@@ -8,16 +8,13 @@ use Rattle.image.specs.declared.Row.{Row}
 use Rattle.image.specs.declared.Verdict.{Verdict}
 use Rattle.image.specs.Rows.{rowAt, rowsOf}
 use Rattle.image.specs.Faults.{allFrom, lowestFault}
+use Rattle.types.specs.Forms.{form, countOf}
 use Rattle.types.specs.Sizes.{sizeOf}
-
--- how many field rows a type row claims
-unfoldable pub claimedBy : Row → ℕ
-claimedBy r = choose (eqb (r .kind) 4) (r .c) 0
 
 -- "Records use up the field rows in order without gaps": the next unused field row, once the rows below r have theirs
 unfoldable pub usedBelow : List ℕ → ℕ → ℕ
 usedBelow t zero = 0
-usedBelow t (suc r) = usedBelow t r + claimedBy (rowAt t r)
+usedBelow t (suc r) = usedBelow t r + countOf (form t r)
 
 -- "Rows 0, 1, 2 are kinds 0 BOOLEAN, 1 INTEGER, 2 SET." "A number without a use below is 0."
 unfoldable pub scalarKept : ℕ → Row → Bool

@@ -9,12 +9,12 @@ ghost use Rattle.image.specs.Faults.{allFrom};
 ghost use Rattle.image.specs.Rows.{rowsOf};
 ghost use Rattle.prelude.specs.Parts.{sum};
 ghost use Rattle.image.specs.Rows.{rowAt};
-ghost use Rattle.types.specs.Extends.{baseOf, extends as extendsOf};
-ghost use Rattle.types.specs.Fields.{plannedField};
-ghost use Rattle.types.specs.Forms.{formOf, ofBase, ownTypes};
+ghost use Rattle.types.specs.Extends.{extends as extendsOf};
+ghost use Rattle.types.specs.Fields.{plannedOwn, plannedField};
+ghost use Rattle.types.specs.Forms.{formOf, baseOf, countOf, ofBase, ownTypes};
 ghost use Rattle.types.specs.Plan.{Plan, Rest, passed};
 ghost use Rattle.types.specs.Filling.{OffsetsFit, Offsets, Ready};
-ghost use Rattle.types.specs.Question.{claimedBy, scalarKept, arrayKept, fieldKept, baseKept, recordKept, laterKept, shapeKept, question4};
+ghost use Rattle.types.specs.Question.{scalarKept, arrayKept, fieldKept, baseKept, recordKept, laterKept, shapeKept, question4};
 ghost use Rattle.types.specs.Sizes.{sizeBy};
 
 // A field: where it begins in its record, and its type; or that there is none.
@@ -174,7 +174,7 @@ fn shape_kept(t: &[u8], f: &[u8], used: usize, r: usize, row: Row) -> bool
 
 // How many field rows a type row claims.
 fn claimed(row: Row) -> u16
-    ensures { λ x. ⌜ x ≡ claimedBy row ⌝ }
+    ensures { λ x. ⌜ x ≡ countOf (formOf row) ⌝ }
 {
     let kind = row.kind;
     let c = row.c;
@@ -284,5 +284,120 @@ fn plan_offsets(f: &[u8], plan: &mut [u32], k: usize, n: u16, at: u32)
         plan[128 + i] = place;
         place = place + size;
         i = i + 1;
+    }
+}
+
+// Writes what the plan holds of type row r.
+fn plan_row(t: &[u8], f: &[u8], plan: &mut [u32], used: usize, r: usize, row: Row, size: u32)
+    requires { ⌜ Ready (now t) (now f) (now plan) used r row size ⌝ }
+    ensures { λ x. ⌜ Plan (now (t .entry)) (now (f .entry)) (r + 1) (now (plan .exit)) ⌝ }
+    ensures rest { λ x. ⌜ Rest (now (t .entry)) (r + 1) (now (plan .entry)) (now (plan .exit)) ⌝ }
+{
+    let base = base_of(row);
+    let above = inherited(t, plan, base);
+    let at = base_size(plan, base);
+    let own = claimed(row);
+    plan_offsets(f, plan, used, own, at);
+    plan[64 + r] = above;
+    plan[r] = size;
+}
+
+// Question 4, with the plan of the rows that it passes.
+pub fn check_types(t: &[u8], f: &[u8], plan: &mut [u32]) -> Verdict
+    requires { ⌜ (rowsOf (now t) ≤ 64) × (rowsOf (now f) ≤ 256) × (384 ≤ length (now plan)) ⌝ }
+    ensures { λ x. ⌜ x ≡ question4 (now (t .entry)) (now (f .entry)) ⌝ }
+    ensures plan { λ x. ⌜ Plan (now (t .entry)) (now (f .entry)) (passed (now (t .entry)) x) (now (plan .exit)) ⌝ }
+    ensures rest { λ x. ⌜ Rest (now (t .entry)) (passed (now (t .entry)) x) (now (plan .entry)) (now (plan .exit)) ⌝ }
+{
+    let n = image::rows_of(t);
+    let fields = image::rows_of(f);
+    let mut r: usize = 0;
+    let mut used: usize = 0;
+    while r < n {
+        let row = image::row_at(t, r);
+        if !shape_kept(t, f, used, r, row) {
+            let bad = r as u16;
+            return Verdict::Fault(bad);
+        }
+        let size = type_size(f, plan, row);
+        if 4096 < size {
+            let large = r as u16;
+            return Verdict::Fault(large);
+        }
+        let small = size as u32;
+        plan_row(t, f, plan, used, r, row, small);
+        used = used + (claimed(row) as usize);
+        r = r + 1;
+    }
+    if used == fields {
+        return Verdict::Kept;
+    }
+    let count = r as u16;
+    Verdict::Fault(count)
+}
+
+// ---- relations and fields
+
+// Whether type row r extends row u.
+pub fn extends(t: &[u8], r: u16, u: u16) -> bool
+    ensures { λ x. ⌜ x ≡ extendsOf (now (t .entry)) r u ⌝ }
+{
+    let sought = u as usize;
+    let mut at = r as usize;
+    while at != sought {
+        let row = image::row_at(t, at);
+        let base = base_of(row);
+        if base == 0 {
+            return false;
+        }
+        let next = (base as usize) - 1;
+        if at <= next {
+            return false;
+        }
+        at = next;
+    }
+    true
+}
+
+// Own field j of a record whose own fields are c rows from row b on.
+fn own_field(f: &[u8], plan: &[u32], b: u16, c: u16, j: usize) -> FieldAnswer
+    ensures { λ x. ⌜ x ≡ plannedOwn (now (f .entry)) (now (plan .entry)) b c j ⌝ }
+{
+    if c as usize <= j {
+        return FieldAnswer::Missing;
+    }
+    let k = (b as usize) + j;
+    let row = image::row_at(f, k);
+    let place = cell(plan, 128 + k);
+    FieldAnswer::Field(place, row.a)
+}
+
+// Field n of type row r, the base's fields counted first, as the plan has it.
+pub fn field(t: &[u8], f: &[u8], plan: &[u32], r: u16, n: u16) -> FieldAnswer
+    ensures { λ x. ⌜ x ≡ plannedField (now (t .entry)) (now (f .entry)) (now (plan .entry)) n r ⌝ }
+{
+    let sought = n as usize;
+    let mut at = r as usize;
+    loop {
+        let row = image::row_at(t, at);
+        let kind = row.kind;
+        let a = row.a;
+        let b = row.b;
+        let c = row.c;
+        if kind != 4 {
+            return FieldAnswer::Missing;
+        }
+        let inherited = cell(plan, 64 + at) as usize;
+        if inherited <= sought {
+            return own_field(f, plan, b, c, sought - inherited);
+        }
+        if a == 0 {
+            return FieldAnswer::Missing;
+        }
+        let base = (a as usize) - 1;
+        if at <= base {
+            return FieldAnswer::Missing;
+        }
+        at = base;
     }
 }

@@ -1,5 +1,5 @@
 use mathlib.Core.Path.{_≡_, refl, sym, _∙_, ap}
-use Rattle.types.specs.Extends.{baseOf}
+use Rattle.types.specs.Forms.{baseOf}
 use Rattle.types.proofs.Rows.{form-record, no-record}
 use Rattle.types.proofs.base_of.Statement.{statement}
 use Rattle.types.proofs.base_of.Tie as tie
@@ -11,7 +11,7 @@ unfolding baseOf
 returns c = rw (form-record (c .before .args .row) (c .if1 .taken))
 
 returns-2 : tie.Need-returns-2
-returns-2 c = sym (no-record (c .before .args .row) (c .if1 .left))
+returns-2 c = sym (no-record (c .before .args .row) (c .if1 .left) .0)
 
 pub base-of-spec : {M : Type 1} → statement M
 base-of-spec = tie.close (tie.spec returns returns-2)

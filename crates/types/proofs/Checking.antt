@@ -1,0 +1,148 @@
+-- Laws of the loop that asks question 4, row by row.
+use mathlib.Core.Path.{_≡_, refl, sym, _∙_, ap}
+use mathlib.Core.Bool.{Bool, true, false}
+use mathlib.Core.List.{List}
+use Prim.Native.Nat.{ℕ, zero, suc, _+_, _≤_, _<_}
+use native.Mathlib.Omega.{arith}
+use native.Mathlib.Decide.{decLt}
+use borrow.Author.Tests.{eq-eqb, ne-eqb, le-leb, lt-leb}
+use lib.Dec.{leb, eqb}
+use lib.ListN.{length, getD}
+use Rattle.prelude.specs.Choice.{_also_}
+use Rattle.prelude.proofs.Choice.{also-yes, also-left, also-right}
+use Rattle.image.specs.declared.Row.{Row}
+use Rattle.image.specs.declared.Verdict.{Verdict}
+use Rattle.image.specs.declared.Verdict.the-variants.{Kept, Fault}
+use Rattle.image.specs.Rows.{rowAt, rowsOf}
+use Rattle.image.specs.Faults.{lowestFault, KeptIn, Lowest}
+use Rattle.image.proofs.Faults.{kept-none, kept-next, kept-verdict, fault-verdict}
+use Rattle.types.specs.Forms.{formOf, form, countOf}
+use Rattle.types.specs.Sizes.{sizeBy, sizeOf}
+use Rattle.types.specs.Question.{usedBelow, shapeKept, typeKept, typeRule, question4}
+use Rattle.types.specs.Plan.{Plan, Rest, passed}
+use Rattle.types.specs.Filling.{Ready}
+use Rattle.types.proofs.Accepted.{Shape, shape-of, size-agree, size-is, rule-low, rule-top}
+use Rattle.types.proofs.Planning.{used-next, used-fits, plan-none, rest-none, rest-more}
+
+-- the rows below r are passed
+pub record Sofar (t f old plan : List ℕ) (r used : ℕ) : Type 0 where
+  pub few-rows : rowsOf t ≤ 64
+  pub few-fields : rowsOf f ≤ 256
+  pub room : 384 ≤ length old
+  pub within : r ≤ rowsOf t
+  pub claimed : used ≡ usedBelow t r
+  pub below : KeptIn (typeKept t f) 0 r
+  pub planned : Plan t f r plan
+  pub rest : Rest t r old plan
+
+pub sofar-none : (t f plan : List ℕ) → rowsOf t ≤ 64 → rowsOf f ≤ 256 → 384 ≤ length plan → Sofar t f plan plan 0 0
+unfolding usedBelow
+sofar-none t f plan a b c = record {
+  few-rows = a;
+  few-fields = b;
+  room = c;
+  within = omega arith;
+  claimed = refl;
+  below = kept-none (typeKept t f) 0;
+  planned = plan-none t f plan;
+  rest = rest-none t plan;
+}
+
+-- what the function gives back
+abbrev pub Answered : List ℕ → List ℕ → List ℕ → List ℕ → Verdict → Type 0
+Answered t f old plan v = (v ≡ question4 t f) × (Plan t f (passed t v) plan × Rest t (passed t v) old plan)
+
+module _ (t f old plan : List ℕ) (r used : ℕ) (s : Sofar t f old plan r used) where
+  open Sofar s using (few-rows, few-fields, room, within, claimed, below, planned, rest)
+
+  pub used-small : used ≤ 256
+  used-small = let fits = used-fits t f r below in omega arith
+
+  rules-below : (j : ℕ) → j < r → typeRule t f j ≡ true
+  rules-below j h = rule-low t f j (omega arith) ∙ below .each j (omega arith) h
+
+  -- a row at fault
+  faulty : typeRule t f r ≡ false → Answered t f old plan (Fault r)
+  unfolding question4 passed
+  faulty bad =
+      (sym (fault-verdict (typeRule t f) (rowsOf t + 1) r (record { within = omega arith; fault = bad; lower = rules-below })), (planned, rest))
+
+  module _ (more : r < rowsOf t) (row : Row) (this-row : row ≡ rowAt t r) where
+    shape-same : shapeKept t f used r row ≡ shapeKept t f (usedBelow t r) r (rowAt t r)
+    shape-same = rw (this-row, claimed)
+
+    pub shape-bad : shapeKept t f used r row ≡ false → Answered t f old plan (Fault r)
+    unfolding typeKept
+    shape-bad e = faulty (rule-low t f r more ∙ also-left _ (sym shape-same ∙ e))
+
+    module _ (shape : shapeKept t f used r row ≡ true) (size : ℕ) (adds : size ≡ sizeBy f (λ b. getD plan b 0) (formOf row)) where
+      here-shape : Shape t f used r (form t r)
+      unfolding form
+      here-shape = rw this-row at (shape-of t f used r row shape)
+
+      sized : size ≡ sizeOf t f r
+      unfolding form
+      sized =
+          adds
+          ∙ ap (λ (x : Row). sizeBy f (λ b. getD plan b 0) (formOf x)) this-row
+          ∙ size-agree (λ b. getD plan b 0) (sizeOf t f) here-shape (λ b low. planned .size b low)
+          ∙ sym (size-is t f r here-shape)
+
+      pub size-bad : 4096 < size → Answered t f old plan (Fault r)
+      unfolding typeKept
+      size-bad h = faulty (rule-low t f r more ∙ also-right _ (lt-leb (sizeOf t f r) 4096 (let e = sized in omega arith)))
+
+      module _ (small : size ≤ 4096) where
+        kept-here : typeKept t f r ≡ true
+        unfolding typeKept
+        kept-here = also-yes (sym shape-same ∙ shape) (le-leb (sizeOf t f r) 4096 (let e = sized in omega arith))
+
+        pub ready : Ready t f plan used r row size
+        ready = record {
+          few-rows = omega arith;
+          few-fields = few-fields;
+          cells = let same = rest .cells in omega arith;
+          this-row = this-row;
+          claimed = claimed;
+          sized = sized;
+          below = below;
+          here = kept-here;
+          planned = planned;
+        }
+
+        pub sofar-next : (next : List ℕ) (own : ℕ) → own ≡ countOf (formOf row) → Plan t f (r + 1) next → Rest t (r + 1) plan next
+            → Sofar t f old next (r + 1) (used + own)
+        unfolding form
+        sofar-next next own counted p q = record {
+          few-rows = few-rows;
+          few-fields = few-fields;
+          room = room;
+          within = omega arith;
+          claimed = let one : r + 1 ≡ suc r = omega arith in rw one (rw (claimed, counted, this-row) (sym (used-next t r)));
+          below = kept-next (typeKept t f) 0 r below kept-here;
+          planned = p;
+          rest = rest-more t r old plan next rest q;
+        }
+
+  -- the rows are used up
+  module _ (done : rowsOf t ≤ r) where
+    all-rows : r ≡ rowsOf t
+    all-rows = omega arith
+
+    top-rule : typeRule t f r ≡ eqb used (rowsOf f)
+    top-rule = rw (claimed, all-rows) (rule-top t f)
+
+    pub fields-bad : (used ≡ rowsOf f → ⊥) → Answered t f old plan (Fault r)
+    fields-bad h = faulty (top-rule ∙ ne-eqb used (rowsOf f) h)
+
+    pub fields-good : used ≡ rowsOf f → Answered t f old plan Kept
+    unfolding question4 passed
+    fields-good h =
+        (sym (kept-verdict (typeRule t f) (rowsOf t + 1) rules), (rw all-rows at planned, rw all-rows at rest))
+      where
+        rules : (j : ℕ) → j < rowsOf t + 1 → typeRule t f j ≡ true
+        rules j l = go (decLt j r)
+          where
+            go : Dec (j < r) → typeRule t f j ≡ true
+            go (yes k) = rules-below j k
+            go (no k) = let q : r ≡ j = omega arith in rw (← q) (top-rule ∙ eq-eqb used (rowsOf f) h)

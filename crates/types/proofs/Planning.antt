@@ -1,0 +1,294 @@
+-- Laws of the plan, a type row at a time.
+use mathlib.Core.Path.{_≡_, refl, sym, _∙_, ap}
+use mathlib.Core.Bool.{Bool, true, false}
+use mathlib.Core.List.{List, [], _∷_, _++_, map}
+use Prim.Native.Nat.{ℕ, zero, suc, _+_, _-_, _≤_, _<_}
+use native.Mathlib.Omega.{arith}
+use native.Mathlib.Decide.{decLt, decLe}
+use lib.ListN.{length, getD, set, length-set, length-append}
+use lib.Seq.{getD-set-same, getD-set-other}
+use Rattle.prelude.specs.Parts.{sum}
+use Rattle.image.specs.declared.Row.{Row}
+use Rattle.image.specs.Rows.{rowAt, rowsOf}
+use Rattle.image.specs.Faults.{KeptIn}
+use Rattle.types.specs.Forms.{Form, Form.scalar, Form.array, Form.recordOf, Form.noForm, formOf, form, baseOf, countOf, ofBase, ownTypes}
+use Rattle.types.specs.Sizes.{sizeBy, sizeOf, fieldsBy, fieldsOf}
+use Rattle.types.specs.Question.{fieldKept, usedBelow, typeKept}
+use Rattle.types.specs.Plan.{inheritedOf, ownOffset, Plan, Rest}
+use Rattle.types.specs.Filling.{OffsetsFit, Offsets, Ready}
+use Rattle.types.proofs.Rows.{own-length, form-record}
+use Rattle.types.proofs.Accepted.{Based, Based.no-base, Based.on-base, Shape, Shape.is-scalar, Shape.is-array, Shape.is-record, RowKept, IsRecord, row-kept, record-is, field-low, size-agree, size-is, fields-are, base-agree, fields-agree}
+
+-- ---- field rows used up
+
+pub used-next : (t : List ℕ) (r : ℕ) → usedBelow t (suc r) ≡ usedBelow t r + countOf (form t r)
+unfolding usedBelow
+used-next t r = refl
+
+pub used-up : (t : List ℕ) (m n : ℕ) → m ≤ n → usedBelow t m ≤ usedBelow t n
+unfolding usedBelow
+used-up t zero n h = omega arith
+used-up t (suc m) zero h = absurd (omega arith)
+used-up t (suc m) (suc n) h = go (decLt m n) (λ l. used-up t (suc m) n l)
+  where
+    go : Dec (m < n) → (m < n → usedBelow t (suc m) ≤ usedBelow t n) → usedBelow t m + countOf (form t m) ≤ usedBelow t n + countOf (form t n)
+    go (yes l) rest = let r = rest l in omega arith
+    go (no l) rest = let q : m ≡ n = omega arith in rw q (omega arith)
+
+count-fits : {t f : List ℕ} {used r : ℕ} {x : Form} → Shape t f used r x → used ≤ rowsOf f → used + countOf x ≤ rowsOf f
+unfolding countOf
+count-fits (is-scalar l) h = omega arith
+count-fits (is-array l a b c) h = omega arith
+count-fits (is-record l on rows own) h = rows
+
+pub used-fits : (t f : List ℕ) (n : ℕ) → KeptIn (typeKept t f) 0 n → usedBelow t n ≤ rowsOf f
+unfolding usedBelow
+used-fits t f zero kept = omega arith
+used-fits t f (suc n) kept =
+    count-fits (row-kept t f n (kept .each n (omega arith) (omega arith)) .shape)
+    (used-fits t f n (record { each = λ j low high. kept .each j low (omega arith) }))
+
+-- ---- counts of fields
+
+length-by : {t f : List ℕ} {used r : ℕ} {x : Form} (g : ℕ → List ℕ) → Shape t f used r x
+    → length (fieldsBy f g x) ≡ ofBase 0 (λ b. length (g b)) (baseOf x) + countOf x
+unfolding fieldsBy baseOf countOf ofBase
+length-by g (is-scalar l) = refl
+length-by g (is-array l a b c) = refl
+length-by {f = f} {used} g (is-record {base = zero} {count = c} l on rows own) = own-length f used c ∙ sym (plus c)
+  where
+    plus : (n : ℕ) → 0 + n ≡ n
+    plus n = omega arith
+length-by {f = f} {used} g (is-record {base = suc b} {count = c} l on rows own) =
+    length-append (g b) (ownTypes f used c) ∙ rw (own-length f used c)
+
+-- a record's fields are its base's and its own
+pub fields-count : (t f : List ℕ) (r : ℕ) → typeKept t f r ≡ true → length (fieldsOf t f r) ≡ inheritedOf t f r + countOf (form t r)
+unfolding inheritedOf
+fields-count t f r kept =
+    let shape = row-kept t f r kept .shape in
+    ap length (fields-are t f r shape) ∙ length-by (fieldsOf t f) shape
+
+base-few : {t : List ℕ} {r a : ℕ} (g : ℕ → ℕ) (n : ℕ) → Based t r a → ((b : ℕ) → b < r → g b ≤ n) → ofBase 0 g a ≤ n
+unfolding ofBase
+base-few g n no-base h = omega arith
+base-few g n (on-base {b = b} low kind) h = h b low
+
+based-in : {t f : List ℕ} {used r : ℕ} {x : Form} → Shape t f used r x → Based t r (baseOf x)
+unfolding baseOf
+based-in (is-scalar l) = no-base
+based-in (is-array l a b c) = no-base
+based-in (is-record l on rows own) = on
+
+-- a record has no more fields than field rows are used up
+few-fields : (t f : List ℕ) (n r : ℕ) → r < n → KeptIn (typeKept t f) 0 (r + 1) → inheritedOf t f r ≤ usedBelow t r
+unfolding inheritedOf
+few-fields t f zero r h kept = absurd (omega arith)
+few-fields t f (suc n) r h kept =
+    base-few _ _ (based-in (row-kept t f r (kept .each r (omega arith) (omega arith)) .shape))
+    (λ b low. step b low (few-fields t f n b (omega arith) (record { each = λ j a z. kept .each j a (omega arith) })))
+  where
+    step : (b : ℕ) → b < r → inheritedOf t f b ≤ usedBelow t b → length (fieldsOf t f b) ≤ usedBelow t r
+    step b low few =
+        let count = fields-count t f b (kept .each b (omega arith) (omega arith)) in
+        let up = used-up t (suc b) r low in
+        omega (arith, count, few, used-next t b, up)
+
+pub inherited-fits : (t f : List ℕ) (r : ℕ) → KeptIn (typeKept t f) 0 (r + 1) → inheritedOf t f r ≤ rowsOf f
+inherited-fits t f r kept =
+    let few = few-fields t f (suc r) r (omega arith) kept in
+    let fits = used-fits t f r (record { each = λ j low high. kept .each j low (omega arith) }) in
+    omega arith
+
+count-record : (t : List ℕ) (b : ℕ) → rowAt t b .kind ≡ 4 → countOf (form t b) ≡ rowAt t b .c
+unfolding form countOf
+count-record t b kind = rw (form-record (rowAt t b) kind)
+
+own-low : {t f : List ℕ} {used r : ℕ} {x : Form} → Shape t f used r x → (j : ℕ) → used ≤ j → j < used + countOf x → rowAt f j .a < r
+unfolding countOf
+own-low (is-scalar l) j low high = absurd (omega arith)
+own-low (is-array l a b c) j low high = absurd (omega arith)
+own-low {f = f} {r = r} (is-record l on rows own) j low high = field-low f r j (own .each j low high)
+
+-- ---- a row that is to be planned
+
+module _ (t f plan : List ℕ) (used r : ℕ) (row : Row) (size : ℕ) (ready : Ready t f plan used r row size) where
+  open Ready ready using (few-rows, cells, this-row, claimed, sized, below, here, planned)
+
+  -- its shape, and the plan's sizes of the rows below
+  abbrev held : ℕ → ℕ
+  held b = getD plan b 0
+
+  row-form : formOf row ≡ form t r
+  unfolding form
+  row-form = ap formOf this-row
+
+  row-shape : Shape t f used r (form t r)
+  row-shape = rw claimed (row-kept t f r here .shape)
+
+  held-is : (b : ℕ) → b < r → held b ≡ sizeOf t f b
+  held-is b low = planned .size b low
+
+  row-base : Based t r (baseOf (formOf row))
+  row-base = rw row-form (based-in row-shape)
+
+  -- the base's size, as the plan has it
+  base-is : ofBase 0 held (baseOf (formOf row)) ≡ ofBase 0 (sizeOf t f) (baseOf (form t r))
+  base-is = base-agree 0 held (sizeOf t f) row-base held-is ∙ ap (λ x. ofBase 0 (sizeOf t f) (baseOf x)) row-form
+
+  kept-to : KeptIn (typeKept t f) 0 (r + 1)
+  kept-to = record { each = λ j low high. go j (decLt j r) high }
+    where
+      go : (j : ℕ) → Dec (j < r) → j < r + 1 → typeKept t f j ≡ true
+      go j (yes h) high = below .each j (omega arith) h
+      go j (no h) high = let q : r ≡ j = omega arith in rw (← q) here
+
+  -- what the count of inherited fields asks and gives
+  pub few-inherited : ofBase 0 (λ b. getD plan (64 + b) 0) (baseOf (formOf row)) ≤ 65535
+  few-inherited = base-few _ _ row-base few
+    where
+      few : (b : ℕ) → b < r → getD plan (64 + b) 0 ≤ 65535
+      few b low =
+          let fits = inherited-fits t f b (record { each = λ j a z. below .each j a (omega arith) }) in
+          let count = planned .inherited b low in
+          let rows = ready .few-fields in
+          omega arith
+
+  base-counts : {a : ℕ} → Based t r a → ofBase 0 (λ b. getD plan (64 + b) 0 + rowAt t b .c) a ≡ ofBase 0 (λ b. length (fieldsOf t f b)) a
+  unfolding ofBase
+  base-counts no-base = refl
+  base-counts (on-base {b = b} low kind) =
+      rw (planned .inherited b low, ← count-record t b kind) (sym (fields-count t f b (below .each b (omega arith) low)))
+
+  pub inherited-is : ofBase 0 (λ b. getD plan (64 + b) 0 + rowAt t b .c) (baseOf (formOf row)) ≡ inheritedOf t f r
+  unfolding inheritedOf
+  inherited-is = base-counts row-base ∙ ap (λ x. ofBase 0 (λ b. length (fieldsOf t f b)) (baseOf x)) row-form
+
+  -- what the places of its own fields ask
+  total-is : {x : Form} → Shape t f used r x → ofBase 0 held (baseOf x) + sum (map held (ownTypes f used (countOf x))) ≤ sizeBy f held x
+  unfolding sizeBy baseOf countOf ofBase ownTypes sum
+  total-is (is-scalar l) = omega arith
+  total-is (is-array l a b c) = omega arith
+  total-is (is-record l on rows own) = omega arith
+
+  pub offsets-fit : OffsetsFit f plan used (countOf (formOf row)) (ofBase 0 held (baseOf (formOf row)))
+  offsets-fit = rw row-form (record { cells = room; low = types; total = whole })
+    where
+      fits : used + countOf (form t r) ≤ rowsOf f
+      fits = count-fits row-shape (rw claimed (used-fits t f r below))
+
+      room : 128 + (used + countOf (form t r)) ≤ length plan
+      room = let rows = ready .few-fields in omega (arith, fits)
+
+      types : (j : ℕ) → used ≤ j → j < used + countOf (form t r) → rowAt f j .a < 64
+      types j low high = let l = own-low row-shape j low high in omega arith
+
+      whole : ofBase 0 held (baseOf (form t r)) + sum (map held (ownTypes f used (countOf (form t r)))) ≤ 4096
+      whole =
+          let total = total-is row-shape in
+          let size = size-agree held (sizeOf t f) row-shape held-is ∙ sym (size-is t f r row-shape) in
+          let small = row-kept t f r here .small in
+          omega (arith, total, size, small)
+
+  -- the plan once its places, its count and its size are written
+  module _ (q : List ℕ) (above : ℕ) (o : Offsets f used (countOf (formOf row)) (ofBase 0 held (baseOf (formOf row))) plan q)
+      (count : above ≡ inheritedOf t f r) where
+    abbrev next : List ℕ
+    next = set (set q (64 + r) above) r size
+
+    other : (i : ℕ) → (i ≡ r → ⊥) → (i ≡ 64 + r → ⊥) → getD next i 0 ≡ getD q i 0
+    other i a b = getD-set-other (set q (64 + r) above) r i size 0 a ∙ getD-set-other q (64 + r) i above 0 b
+
+    next-size : (x : ℕ) → x < r + 1 → getD next x 0 ≡ sizeOf t f x
+    next-size x h = go (decLt x r)
+      where
+        go : Dec (x < r) → getD next x 0 ≡ sizeOf t f x
+        go (yes l) = other x (omega arith) (omega arith) ∙ o .below x (omega arith) ∙ planned .size x l
+        go (no l) =
+            let e : x ≡ r = omega arith in
+            let same = o .cells in
+            rw e (getD-set-same (set q (64 + r) above) r size 0 (rw (length-set q (64 + r) above) (omega arith)) ∙ sized)
+
+    next-inherited : (x : ℕ) → x < r + 1 → getD next (64 + x) 0 ≡ inheritedOf t f x
+    next-inherited x h = go (decLt x r)
+      where
+        go : Dec (x < r) → getD next (64 + x) 0 ≡ inheritedOf t f x
+        go (yes l) = other (64 + x) (omega arith) (omega arith) ∙ o .below (64 + x) (omega arith) ∙ planned .inherited x l
+        go (no l) =
+            let e : x ≡ r = omega arith in
+            let same = o .cells in
+            rw e (getD-set-other (set q (64 + r) above) r (64 + r) size 0 (omega arith) ∙ getD-set-same q (64 + r) above 0 (omega arith) ∙ count)
+
+    own-place : (base first n j : ℕ) → form t r ≡ recordOf base first n → j < n → getD next (128 + (first + j)) 0 ≡ ownOffset t f base first j
+    unfolding ownOffset baseOf countOf
+    own-place base first n j e h =
+        let is = record-is row-shape e in
+        let shape = row-form ∙ e in
+        let few : j < countOf (formOf row) = rw (ap countOf shape) h in
+        let own = fields-agree f held (sizeOf t f) r first j (record { each = λ k low high. is .own .each k low (omega arith) }) held-is in
+        let base-size : ofBase 0 held (baseOf (formOf row)) ≡ ofBase 0 (sizeOf t f) base = base-is ∙ ap (λ x. ofBase 0 (sizeOf t f) (baseOf x)) e in
+        other (128 + (first + j)) (omega arith) (omega arith)
+        ∙ rw (is .claims) (o .place j few ∙ rw (base-size, ← is .claims, own))
+
+    next-offset : (x base first n j : ℕ) → x < r + 1 → form t x ≡ recordOf base first n → j < n
+        → getD next (128 + (first + j)) 0 ≡ ownOffset t f base first j
+    unfolding countOf
+    next-offset x base first n j h e l = go (decLt x r)
+      where
+        go : Dec (x < r) → getD next (128 + (first + j)) 0 ≡ ownOffset t f base first j
+        go (yes low) =
+            let is = record-is (row-kept t f x (below .each x (omega arith) low) .shape) e in
+            let claims = is .claims in
+            let counted : countOf (form t x) ≡ n = ap countOf e in
+            let up = used-up t (suc x) r low in
+            let more = used-next t x in
+            other (128 + (first + j)) (omega arith) (omega arith)
+            ∙ o .below (128 + (first + j)) (omega (arith, up, more, counted, claims, claimed))
+            ∙ planned .offset x base first n j low e l
+        go (no low) = let same : x ≡ r = omega arith in own-place base first n j (rw same at e) l
+
+    pub plan-next : Plan t f (r + 1) next
+    plan-next = record { size = next-size; inherited = next-inherited; offset = next-offset }
+
+    pub rest-next : Rest t (r + 1) plan next
+    rest-next = record {
+      cells = simp length-set (o .cells);
+      sizes = λ i low high. other i (omega arith) (omega arith) ∙ o .below i (omega arith);
+      inherited = λ i low high. other i (omega arith) (omega arith) ∙ o .below i (omega arith);
+      offsets = λ i low. other i (beyond i low) (beyond-too i low) ∙ o .above i (far i low);
+    }
+      where
+        far : (i : ℕ) → 128 + usedBelow t (r + 1) ≤ i → 128 + (used + countOf (formOf row)) ≤ i
+        far i low =
+            let one : r + 1 ≡ suc r = omega arith in
+            let more = used-next t r in
+            let counted : countOf (formOf row) ≡ countOf (form t r) = ap countOf row-form in
+            let l = rw one at low in
+            omega (arith, more, counted, l, claimed)
+
+        beyond : (i : ℕ) → 128 + usedBelow t (r + 1) ≤ i → i ≡ r → ⊥
+        beyond i low e = omega arith
+
+        beyond-too : (i : ℕ) → 128 + usedBelow t (r + 1) ≤ i → i ≡ 64 + r → ⊥
+        beyond-too i low e = omega arith
+
+-- ---- the rows passed so far
+
+pub plan-none : (t f plan : List ℕ) → Plan t f 0 plan
+plan-none t f plan = record {
+  size = λ r h. absurd (omega arith);
+  inherited = λ r h. absurd (omega arith);
+  offset = λ r base first n j h. absurd (omega arith);
+}
+
+pub rest-none : (t plan : List ℕ) → Rest t 0 plan plan
+rest-none t plan = record { cells = refl; sizes = λ i a b. refl; inherited = λ i a b. refl; offsets = λ i a. refl }
+
+-- what a row leaves of what the rows before it left
+pub rest-more : (t : List ℕ) (r : ℕ) (old plan next : List ℕ) → Rest t r old plan → Rest t (r + 1) plan next → Rest t (r + 1) old next
+rest-more t r old plan next a b = record {
+  cells = b .cells ∙ a .cells;
+  sizes = λ i low high. b .sizes i low high ∙ a .sizes i (omega arith) high;
+  inherited = λ i low high. b .inherited i low high ∙ a .inherited i (omega arith) high;
+  offsets = λ i low. b .offsets i low ∙ a .offsets i (let up = used-up t r (r + 1) (omega arith) in omega arith);
+}

@@ -1,0 +1,29 @@
+use borrow.Author.Needs.{needs}
+use Rattle.types.proofs.own_field.Statement.{statement}
+use Rattle.types.proofs.own_field.Tie as tie
+use Rattle.types.proofs.own_field.Reads as reads
+use Rattle.types.proofs.own_field.Lts as lts
+use Rattle.image.proofs.row_at.Reads as row-at-reads
+use Rattle.types.proofs.cell.Reads as cell-reads
+
+returns : tie.Need-returns
+returns c = ?
+
+add-k : tie.Need-add-k
+add-k c = search needs
+
+row-at-requires : tie.Need-row-at-requires
+row-at-requires c κs = search needs
+
+add-cell : tie.Need-add-cell
+add-cell c = search needs
+
+cell-requires : tie.Need-cell-requires
+cell-requires c κs = search needs
+
+returns-2 : tie.Need-returns-2
+returns-2 c = ?
+
+pub own-field-spec : {M : Type 1} → statement M
+own-field-spec =
+    tie.close (tie.spec returns add-k row-at-requires add-cell cell-requires returns-2)
