@@ -1,3 +1,11 @@
+use mathlib.Core.Path.{_≡_, refl, sym, _∙_, ap}
+use native.Mathlib.Omega.{arith}
+use Prim.Native.Nat.{ℕ, _+_, _-_, _≤_, _<_}
+use borrow.Author.Needs.{needs}
+use denote.Ref.{now}
+use lib.ListN.{getD}
+use Rattle.types.specs.Fields.{plannedField}
+use Rattle.types.proofs.Climbing.{planned-other, planned-own, planned-none, planned-high, planned-low}
 use Rattle.types.proofs.field.Statement.{statement}
 use Rattle.types.proofs.field.Tie as tie
 use Rattle.types.proofs.field.Reads as reads
@@ -7,52 +15,62 @@ use Rattle.types.proofs.cell.Reads as cell-reads
 use Rattle.types.proofs.own_field.Reads as own-field-reads
 
 abbrev Inv-loop : tie.InvT-loop
-Inv-loop t f plan r n sought at₀ at = ?
+Inv-loop t f plan r n sought at₀ at = (at ≤ r) × (plannedField t f plan n r ≡ plannedField t f plan n at)
 
 abbrev μ-loop : tie.MeasureT-loop
-μ-loop t f plan r n sought at₀ at = ?
+μ-loop t f plan r n sought at₀ at = at
 
 loop-holds : tie.Need-loop-holds Inv-loop μ-loop
-loop-holds c = ?
+loop-holds c = (omega arith, refl)
 
 row-at-requires : tie.Need-row-at-requires Inv-loop μ-loop
-row-at-requires c κs = ?
+row-at-requires c κs = search needs
 
 returns : tie.Need-returns Inv-loop μ-loop
-returns c = ?
+returns c = let l = c .before .before .loop in
+    sym (l .inv .1 ∙ planned-other _ _ _ _ _ (c .before .row-at .ensures) (c .if1 .taken))
 
 add-cell : tie.Need-add-cell Inv-loop μ-loop
-add-cell c = ?
+add-cell c = omega arith
 
 cell-requires : tie.Need-cell-requires Inv-loop μ-loop
-cell-requires c κs = ?
+cell-requires c κs = search needs
 
 cast-inherited : tie.Need-cast-inherited Inv-loop μ-loop
-cast-inherited c = ?
+cast-inherited c = search needs
 
 own-field-requires : tie.Need-own-field-requires Inv-loop μ-loop
-own-field-requires c κs = ?
+own-field-requires c κs = search needs
 
 returns-2 : tie.Need-returns-2 Inv-loop μ-loop
-returns-2 c = ?
+returns-2 c = let l = c .before .before .before .before .before .loop in
+    let held = c .before .before .cell .ensures in
+    c .own-field .ensures
+    ∙ sym (l .inv .1 ∙ planned-own _ _ _ _ _ (c .before .before .before .before .row-at .ensures) (c .before .before .before .if1 .left) (rw held at (c .before .if2 .taken)) ∙ rw (← held))
 
 returns-3 : tie.Need-returns-3 Inv-loop μ-loop
-returns-3 c = ?
+returns-3 c = let l = c .before .before .before .before .before .loop in
+    let less = rw (c .before .before .cell .ensures) at (c .before .if2 .left) in
+    sym (l .inv .1 ∙ planned-none _ _ _ _ _ (c .before .before .before .before .row-at .ensures) (c .before .before .before .if1 .left) less (c .if3 .taken))
 
 cast-base : tie.Need-cast-base Inv-loop μ-loop
-cast-base c = ?
+cast-base c = search needs
 
 sub-base : tie.Need-sub-base Inv-loop μ-loop
-sub-base c = ?
+sub-base c = omega arith
 
 returns-4 : tie.Need-returns-4 Inv-loop μ-loop
-returns-4 c = ?
+returns-4 c = let l = c .before .before .before .before .before .before .loop in
+    let less = rw (c .before .before .before .cell .ensures) at (c .before .before .if2 .left) in
+    sym (l .inv .1 ∙ planned-high _ _ _ _ _ (c .before .before .before .before .before .row-at .ensures) (c .before .before .before .before .if1 .left) less (omega arith) (c .if4 .taken))
 
 loop-less : tie.Need-loop-less Inv-loop μ-loop
-loop-less c = ?
+loop-less c = omega arith
 
 loop-again : tie.Need-loop-again Inv-loop μ-loop
-loop-again c = ?
+loop-again c = let l = c .before .before .before .before .before .before .loop in
+    let less = rw (c .before .before .before .cell .ensures) at (c .before .before .if2 .left) in
+    (omega arith, l .inv .1 ∙ planned-low _ _ _ _ _ (c .before .before .before .before .before .row-at .ensures) (c .before .before .before .before .if1 .left) less (omega arith) (c .if4 .left))
 
 pub field-spec : {M : Type 1} → statement M
 field-spec =

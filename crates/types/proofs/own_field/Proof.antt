@@ -1,3 +1,6 @@
+use Rattle.prelude.specs.Choice.{choose}
+use borrow.Author.Tests.{le-ltb, lt-ltb}
+use Rattle.types.specs.Fields.{plannedOwn}
 use borrow.Author.Needs.{needs}
 use Rattle.types.proofs.own_field.Statement.{statement}
 use Rattle.types.proofs.own_field.Tie as tie
@@ -7,7 +10,8 @@ use Rattle.image.proofs.row_at.Reads as row-at-reads
 use Rattle.types.proofs.cell.Reads as cell-reads
 
 returns : tie.Need-returns
-returns c = ?
+unfolding plannedOwn choose
+returns c = rw (le-ltb _ _ (c .if1 .taken))
 
 add-k : tie.Need-add-k
 add-k c = search needs
@@ -22,7 +26,8 @@ cell-requires : tie.Need-cell-requires
 cell-requires c κs = search needs
 
 returns-2 : tie.Need-returns-2
-returns-2 c = ?
+unfolding plannedOwn choose
+returns-2 c = rw (lt-ltb _ _ (c .before .before .if1 .left), ← c .cell .ensures, ← c .before .row-at .ensures)
 
 pub own-field-spec : {M : Type 1} → statement M
 own-field-spec =
