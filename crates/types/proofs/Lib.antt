@@ -4,3 +4,5 @@ pub mod Offsetting
 pub mod Planning
 pub mod Checking
 pub mod Climbing
+pub mod Layouts
+pub mod Extension

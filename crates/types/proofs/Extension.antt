@@ -1,0 +1,112 @@
+-- Laws of extension, and that an extension begins with what its base has.
+use mathlib.Core.Path.{_≡_, refl, sym, _∙_, ap}
+use mathlib.Core.Bool.{Bool, true, false}
+use mathlib.Core.List.{List, [], _∷_, _++_, map, append-nil}
+use mathlib.Core.Logic.{⊎-elim}
+use Prim.Native.Nat.{ℕ, zero, suc, _+_, _-_, _≤_, _<_}
+use native.Mathlib.Omega.{arith}
+use native.Mathlib.Decide.{decLt}
+use borrow.Author.Tests.{eqb-true, eq-eqb}
+use lib.Dec.{eqb}
+use Rattle.prelude.specs.Choice.{choose}
+use Rattle.prelude.specs.Parts.{joined, Part}
+use Rattle.prelude.specs.Rec.{below}
+use Rattle.prelude.proofs.Choice.{choose-cases, choose-yes, clash}
+use Rattle.prelude.proofs.Parts.{part-more}
+use Rattle.prelude.proofs.Rec.{below-low, below-high}
+use Rattle.image.specs.Rows.{rowAt, rowsOf}
+use Rattle.types.specs.Forms.{Form, Form.scalar, Form.array, Form.recordOf, Form.noForm, form, baseOf, ofBase, ownTypes}
+use Rattle.types.specs.Sizes.{layoutBy, layoutOf, fieldsBy, fieldsOf}
+use Rattle.types.specs.Extends.{extendsTo, extends}
+use Rattle.types.proofs.Accepted.{TypesKept, RowKept, layout-is, fields-are}
+use Rattle.types.proofs.Climbing.{extends-eq, extends-same}
+
+-- "T extends U if T is U or T's base extends U", as a proof goes through it
+pub data Extends (t : List ℕ) : ℕ → ℕ → Type 0 where
+  same : {r : ℕ} → Extends t r r
+  up : {r b u : ℕ} → baseOf (form t r) ≡ suc b → b < r → Extends t b u → Extends t r u
+
+-- ---- the test and the relation are one
+
+base-yes : (t : List ℕ) (u r a : ℕ) → baseOf (form t r) ≡ a → ofBase false (below false r (extendsTo t u)) a ≡ true
+    → ((b : ℕ) → b < r → extendsTo t u b ≡ true → Extends t b u) → Extends t r u
+unfolding ofBase
+base-yes t u r zero base e ih = clash (sym e)
+base-yes t u r (suc b) base e ih = go (decLt b r)
+  where
+    go : Dec (b < r) → Extends t r u
+    go (yes low) = up base low (ih b low (sym (below-low false r (extendsTo t u) b low) ∙ e))
+    go (no high) = clash (sym e ∙ below-high false r (extendsTo t u) b (omega arith))
+
+yes-by : (t : List ℕ) (u n r : ℕ) → r < n → extendsTo t u r ≡ true → Extends t r u
+yes-by t u zero r h e = absurd (omega arith)
+yes-by t u (suc n) r h e =
+    ⊎-elim
+    (λ k. let q : r ≡ u = eqb-true r u (k .0) in rw q same)
+    (λ k. base-yes t u r (baseOf (form t r)) refl (k .1) (λ b low. yes-by t u n b (omega arith)))
+    (choose-cases (eqb r u) (sym (extends-eq t u r) ∙ e))
+
+pub extends-yes : (t : List ℕ) (r u : ℕ) → extends t r u ≡ true → Extends t r u
+extends-yes t r u e = yes-by t u (suc r) r (omega arith) e
+
+pub yes-extends : {t : List ℕ} {r u : ℕ} → Extends t r u → extends t r u ≡ true
+unfolding choose ofBase
+yes-extends {t} {r} same = extends-same t r r refl
+yes-extends {t} {r} {u} (up {b = b} base low e) = extends-eq t u r ∙ rw base (either (eqb r u) (below-low false r (extendsTo t u) b low ∙ yes-extends e))
+  where
+    either : (x : Bool) → below false r (extendsTo t u) b ≡ true → choose x true (below false r (extendsTo t u) b) ≡ true
+    either true h = refl
+    either false h = h
+
+-- ---- reflexive and transitive
+
+pub extends-refl : (t : List ℕ) (r : ℕ) → extends t r r ≡ true
+extends-refl t r = extends-same t r r refl
+
+pub trans : {t : List ℕ} {r u v : ℕ} → Extends t r u → Extends t u v → Extends t r v
+trans same k = k
+trans (up base low h) k = up base low (trans h k)
+
+pub extends-trans : (t : List ℕ) (r u v : ℕ) → extends t r u ≡ true → extends t u v ≡ true → extends t r v ≡ true
+extends-trans t r u v a b = yes-extends (trans (extends-yes t r u a) (extends-yes t u v b))
+
+-- ---- an extension begins with its base
+
+part-whole : {X : Type 0} (l : List X) → Part l 0 l
+part-whole l = record { rest = []; seen = sym (append-nil l); within = omega arith }
+
+-- a record's layout and fields are its base's, and more
+base-layout : (f : List ℕ) (g : ℕ → List ℕ) (x : Form) {b : ℕ} → baseOf x ≡ suc b → (rest : List ℕ) × (layoutBy f g x ≡ g b ++ rest)
+unfolding layoutBy baseOf ofBase
+base-layout f g (scalar k) e = absurd (omega arith)
+base-layout f g (array m n) e = absurd (omega arith)
+base-layout f g (recordOf zero first count) e = absurd (omega arith)
+base-layout f g (recordOf (suc c) first count) {b} e = let q : c ≡ b = omega arith in (joined (map g (ownTypes f first count)), rw q)
+base-layout f g noForm e = absurd (omega arith)
+
+base-fields : (f : List ℕ) (g : ℕ → List ℕ) (x : Form) {b : ℕ} → baseOf x ≡ suc b → (rest : List ℕ) × (fieldsBy f g x ≡ g b ++ rest)
+unfolding fieldsBy baseOf ofBase
+base-fields f g (scalar k) e = absurd (omega arith)
+base-fields f g (array m n) e = absurd (omega arith)
+base-fields f g (recordOf zero first count) e = absurd (omega arith)
+base-fields f g (recordOf (suc c) first count) {b} e = let q : c ≡ b = omega arith in (ownTypes f first count, rw q)
+base-fields f g noForm e = absurd (omega arith)
+
+module _ (t f : List ℕ) (kept : TypesKept t f) where
+  pub extends-within : {r u : ℕ} → Extends t r u → r < rowsOf t → u < rowsOf t
+  extends-within same h = h
+  extends-within (up base low e) h = extends-within e (omega arith)
+
+  -- an extension's layout begins with its base's
+  pub extension-layout : {r u : ℕ} → Extends t r u → r < rowsOf t → Part (layoutOf t f r) 0 (layoutOf t f u)
+  extension-layout {r} same h = part-whole (layoutOf t f r)
+  extension-layout {r} (up {b = b} base low e) h =
+      let (rest, whole) = base-layout f (layoutOf t f) (form t r) base in
+      rw (layout-is t f r (kept .row r h .shape) ∙ whole) (part-more rest (extension-layout e (omega arith)))
+
+  -- and its fields with its base's
+  pub extension-fields : {r u : ℕ} → Extends t r u → r < rowsOf t → Part (fieldsOf t f r) 0 (fieldsOf t f u)
+  extension-fields {r} same h = part-whole (fieldsOf t f r)
+  extension-fields {r} (up {b = b} base low e) h =
+      let (rest, whole) = base-fields f (fieldsOf t f) (form t r) base in
+      rw (fields-are t f r (kept .row r h .shape) ∙ whole) (part-more rest (extension-fields e (omega arith)))
