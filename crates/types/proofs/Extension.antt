@@ -75,22 +75,13 @@ extends-trans t r u v a b = yes-extends (trans (extends-yes t r u a) (extends-ye
 part-whole : {X : Type 0} (l : List X) → Part l 0 l
 part-whole l = record { rest = []; seen = sym (append-nil l); within = omega arith }
 
--- a record's layout and fields are its base's, and more
-base-layout : (f : List ℕ) (g : ℕ → List ℕ) (x : Form) {b : ℕ} → baseOf x ≡ suc b → (rest : List ℕ) × (layoutBy f g x ≡ g b ++ rest)
-unfolding layoutBy baseOf ofBase
-base-layout f g (scalar k) e = absurd (omega arith)
-base-layout f g (array m n) e = absurd (omega arith)
-base-layout f g (recordOf zero first count) e = absurd (omega arith)
-base-layout f g (recordOf (suc c) first count) {b} e = let q : c ≡ b = omega arith in (joined (map g (ownTypes f first count)), rw q)
-base-layout f g noForm e = absurd (omega arith)
-
-base-fields : (f : List ℕ) (g : ℕ → List ℕ) (x : Form) {b : ℕ} → baseOf x ≡ suc b → (rest : List ℕ) × (fieldsBy f g x ≡ g b ++ rest)
-unfolding fieldsBy baseOf ofBase
-base-fields f g (scalar k) e = absurd (omega arith)
-base-fields f g (array m n) e = absurd (omega arith)
-base-fields f g (recordOf zero first count) e = absurd (omega arith)
-base-fields f g (recordOf (suc c) first count) {b} e = let q : c ≡ b = omega arith in (ownTypes f first count, rw q)
-base-fields f g noForm e = absurd (omega arith)
+-- what has a base is a record
+based-form : (x : Form) {b : ℕ} → baseOf x ≡ suc b → (first : ℕ) × (count : ℕ) × (x ≡ recordOf (suc b) first count)
+unfolding baseOf
+based-form (scalar k) e = absurd (omega arith)
+based-form (array m n) e = absurd (omega arith)
+based-form (recordOf base first count) e = (first, count, rw e)
+based-form noForm e = absurd (omega arith)
 
 module _ (t f : List ℕ) (kept : TypesKept t f) where
   pub extends-within : {r u : ℕ} → Extends t r u → r < rowsOf t → u < rowsOf t
@@ -99,14 +90,17 @@ module _ (t f : List ℕ) (kept : TypesKept t f) where
 
   -- an extension's layout begins with its base's
   pub extension-layout : {r u : ℕ} → Extends t r u → r < rowsOf t → Part (layoutOf t f r) 0 (layoutOf t f u)
+  unfolding layoutBy ofBase
   extension-layout {r} same h = part-whole (layoutOf t f r)
   extension-layout {r} (up {b = b} base low e) h =
-      let (rest, whole) = base-layout f (layoutOf t f) (form t r) base in
-      rw (layout-is t f r (kept .row r h .shape) ∙ whole) (part-more rest (extension-layout e (omega arith)))
+      let (first, count, is) = based-form (form t r) base in
+      rw (layout-is t f r (kept .row r h .shape), is)
+      (part-more (joined (map (layoutOf t f) (ownTypes f first count))) (extension-layout e (omega arith)))
 
   -- and its fields with its base's
   pub extension-fields : {r u : ℕ} → Extends t r u → r < rowsOf t → Part (fieldsOf t f r) 0 (fieldsOf t f u)
+  unfolding fieldsBy ofBase
   extension-fields {r} same h = part-whole (fieldsOf t f r)
   extension-fields {r} (up {b = b} base low e) h =
-      let (rest, whole) = base-fields f (fieldsOf t f) (form t r) base in
-      rw (fields-are t f r (kept .row r h .shape) ∙ whole) (part-more rest (extension-fields e (omega arith)))
+      let (first, count, is) = based-form (form t r) base in
+      rw (fields-are t f r (kept .row r h .shape), is) (part-more (ownTypes f first count) (extension-fields e (omega arith)))

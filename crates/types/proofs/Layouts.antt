@@ -31,7 +31,7 @@ length-replicated zero x = sym (zero-mul (length x))
 length-replicated (suc n) x =
     omega (arith, length-append x (joined (replicate n x)), length-replicated n x, suc-mul n (length x))
 
-length-joined : {X : Type 0} (size : ℕ → ℕ) (layout : ℕ → List X) → ((k : ℕ) → length (layout k) ≡ size k) → (l : List ℕ)
+pub length-joined : {X : Type 0} (size : ℕ → ℕ) (layout : ℕ → List X) → ((k : ℕ) → length (layout k) ≡ size k) → (l : List ℕ)
     → length (joined (map layout l)) ≡ sum (map size l)
 unfolding joined sum
 length-joined size layout h [] = refl
@@ -78,11 +78,11 @@ array-whole : (f : List ℕ) (layout : ℕ → List ℕ) {x : Form} {element n :
 unfolding layoutBy
 array-whole f layout e = rw e
 
-other-fields : (f : List ℕ) (fields : ℕ → List ℕ) (row : Row) → (row .kind ≡ 4 → ⊥) → fieldsBy f fields (formOf row) ≡ []
+pub other-fields : (f : List ℕ) (fields : ℕ → List ℕ) (row : Row) → (row .kind ≡ 4 → ⊥) → fieldsBy f fields (formOf row) ≡ []
 unfolding fieldsBy
 other-fields f fields row other = by-form row (λ x. fieldsBy f fields x ≡ []) (λ k. refl) (λ e n. refl) refl other
 
-decide : (a b : ℕ) → (a ≡ b) ⊎ (a ≡ b → ⊥)
+pub decide : (a b : ℕ) → (a ≡ b) ⊎ (a ≡ b → ⊥)
 decide a b = go (eqb a b) refl
   where
     go : (x : Bool) → eqb a b ≡ x → (a ≡ b) ⊎ (a ≡ b → ⊥)
@@ -91,7 +91,7 @@ decide a b = go (eqb a b) refl
 
 module _ (t f : List ℕ) (kept : TypesKept t f) where
   -- a record's layout is its fields' layouts, one after the other
-  record-layout : (n r : ℕ) → r < n → r < rowsOf t → rowAt t r .kind ≡ 4 → layoutOf t f r ≡ joined (map (layoutOf t f) (fieldsOf t f r))
+  pub record-layout : (n r : ℕ) → r < n → r < rowsOf t → rowAt t r .kind ≡ 4 → layoutOf t f r ≡ joined (map (layoutOf t f) (fieldsOf t f r))
   unfolding form
   record-layout zero r h low kind = absurd (omega arith)
   record-layout (suc n) r h low kind =

@@ -6,3 +6,4 @@ pub mod Checking
 pub mod Climbing
 pub mod Layouts
 pub mod Extension
+pub mod Fielding

@@ -57,7 +57,7 @@ module _ (r : Row) where
 
 -- ---- bases and own fields
 
-less-one : (b : ℕ) → suc b - 1 ≡ b
+pub less-one : (b : ℕ) → suc b - 1 ≡ b
 less-one b = omega arith
 
 pub of-no-base : {X : Type 0} (none : X) (g : ℕ → X) (a : ℕ) → a ≡ 0 → ofBase none g a ≡ none
