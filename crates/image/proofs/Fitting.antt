@@ -51,13 +51,13 @@ unless b e = ⊎-elim (λ h. not-found (h .1)) (λ h. h) (choose-cases b e)
 -- the table whose count stands at byte `from` has `low` to `high` rows, which stand in the image as a part of it
 pub record Placed (image : List ℕ) (from low high : ℕ) (t : Table) : Type 0 where
   pub start : t .start ≡ from + 2
-  pub end : t .end ≡ from + 2 + numberAt image from * 8
+  pub end : t .end ≡ t .start + rowsOf (partOf image t) * 8
   pub within : t .end ≤ length image
-  pub least : low ≤ numberAt image from
-  pub most : numberAt image from ≤ high
   pub part : partOf image t ≡ take (t .end - t .start) (drop (t .start) image)
-  pub bytes : length (partOf image t) ≡ numberAt image from * 8
-  pub rows : rowsOf (partOf image t) ≡ numberAt image from
+  pub count : rowsOf (partOf image t) ≡ numberAt image from
+  pub least : low ≤ rowsOf (partOf image t)
+  pub most : rowsOf (partOf image t) ≤ high
+  pub bytes : length (partOf image t) ≡ rowsOf (partOf image t) * 8
 
 part-is : (image : List ℕ) (t : Table) → t .start ≤ t .end → t .end ≤ length image → partOf image t ≡ take (t .end - t .start) (drop (t .start) image)
 unfolding partOf
@@ -86,15 +86,16 @@ placed image from low high {t} e =
     let size : t .end - t .start ≡ numberAt image from * 8 = omega arith in
     let long : length (partOf image t) ≡ numberAt image from * 8 =
       rw (whole, size) (part-length image (t .start) (numberAt image from * 8) (omega arith)) in
+    let count : rowsOf (partOf image t) ≡ numberAt image from = rows-are (partOf image t) (numberAt image from) long in
     record {
       start = start-is;
-      end = end-is;
+      end = omega arith;
       within = omega arith;
-      least = low-is;
-      most = high-is;
       part = whole;
-      bytes = long;
-      rows = rows-are (partOf image t) (numberAt image from) long;
+      count = count;
+      least = omega arith;
+      most = omega arith;
+      bytes = omega arith;
     }
 
 pub found-within : (image : List ℕ) (from low high : ℕ) {t : Table} → tableFrom image from low high ≡ Found t → t .end ≤ length image
