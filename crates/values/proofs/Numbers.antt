@@ -1,5 +1,5 @@
 -- Laws of signed numbers and of tests for a range, which the proofs of the functions cite.
-use mathlib.Core.Path.{_≡_, refl, sym, ap, ap₂, _∙_}
+use mathlib.Core.Path.{_≡_, refl, sym, ap, _∙_}
 use mathlib.Core.Bool.{Bool, true, false, _&&_}
 use Prim.Native.Nat.{ℕ, zero, suc, _+_, _-_, _*_, _/_, _%_, _^_, _<_, _≤_}
 use native.Mathlib.Omega.{arith}
@@ -8,8 +8,8 @@ use borrow.Author.Tests.{ltb-true, ltb-false, lt-ltb, le-ltb, le-leb, lt-leb, eq
 use lib.Dec.{ltb, leb, eqb, T}
 use lib.IntN.{ℤ, pos, negsuc, negℤ, natAbs, subℕ, _+ℤ_, _-ℤ_, _*ℤ_}
 use lib.Signed.{mag, ltZ, nonNeg}
-use mir.Syntax.{Width, w32, w64}
-use mir.Val.{SFits, Fits, bits, toZ, ofZ}
+use mir.Syntax.{w32, w64}
+use mir.Val.{SFits, Fits, toZ, ofZ}
 use mir.ValLaws.{toZ-ofZ}
 use Rattle.prelude.specs.Choice.{choose}
 use Rattle.prelude.proofs.Choice.{clash}
@@ -187,7 +187,8 @@ module _ (a b : ℤ) (p : SFits w32 a) (q : SFits w32 b) where
   holds : (f : ℤ → ℤ → ℤ) → SFits w64 (f a b) → Holds f a b
   holds f h = record {
     fits = rw (wide a p, wide b q) h;
-    same = rw (wide a p, wide b q) (plain64 (f a b) h) }
+    same = rw (wide a p, wide b q) (plain64 (f a b) h);
+  }
 
   pub sum-holds : Holds _+ℤ_ a b
   sum-holds = holds _+ℤ_ (record { sfits = omega (arith, mag-add a b, p .sfits, q .sfits) })

@@ -1,7 +1,7 @@
 -- The type rules of the operators: which kinds they take, and the kind that they give.
 use Prim.Native.Nat.{ℕ}
 use mathlib.Core.Path.{_≡_}
-use mathlib.Core.Bool.{Bool, true, false, _&&_}
+use mathlib.Core.Bool.{_&&_}
 use lib.Dec.{leb, eqb}
 use Rattle.prelude.specs.Choice.{choose}
 use Rattle.values.specs.Values.{BOOLEAN, INTEGER, SET, kindOf, InRange}
@@ -32,8 +32,8 @@ booleansKind op =
     choose (leb 7 op && leb op 8) (Kind BOOLEAN)
     (choose (leb 13 op && leb op 14) (Kind BOOLEAN) Untyped)
 
--- "Operators 1 to 5 take INTEGER; 1, 2, 3, 6 also SET. 7, 8 take two of one scalar type; 9 to 12 INTEGER; 13, 14, ~ BOOLEAN.
--- IN takes INTEGER, SET; range takes INTEGER twice and yields SET."
+-- "Operators 1 to 5 take INTEGER; 1, 2, 3, 6 also SET (..). 7, 8 take two of one scalar type; 9 to 12 INTEGER;
+-- 13, 14, ~ BOOLEAN. IN takes INTEGER, SET; range takes INTEGER twice and yields SET."
 unfoldable pub dyadicKind : ℕ → ℕ → ℕ → KindAnswer
 dyadicKind op left right =
     choose (eqb left BOOLEAN) (choose (eqb right BOOLEAN) (booleansKind op) Untyped)

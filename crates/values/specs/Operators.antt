@@ -1,6 +1,6 @@
 -- What the operators give, by operator number and by the operands' kinds.
-use Prim.Native.Nat.{ℕ, suc, _+_, _-_, _*_, _/_, _%_, _^_}
-use mathlib.Core.Bool.{Bool, true, false, not, _||_, _&&_, Bool·beq}
+use Prim.Native.Nat.{ℕ, suc, _+_, _-_, _/_, _%_, _^_}
+use mathlib.Core.Bool.{Bool, false, not, _||_, _&&_, Bool·beq}
 use lib.Dec.{ltb, leb, eqb}
 use lib.IntN.{ℤ, pos, negsuc, natAbs, negℤ, _+ℤ_, _-ℤ_, _*ℤ_}
 use lib.Signed.{ltZ}
@@ -41,7 +41,7 @@ arithmeticOf op x y =
     (choose (eqb op 3) (integerOf (x *ℤ y))
     (choose (eqb op 4) (dividedBy y (divOf x y)) (dividedBy y (modOf x y)))))
 
--- 7 =, 8 #, 9 <, 10 <=, 11 >, 12 >= of two values of an ordered kind: whether the left is less, and whether they are equal
+-- 7 =, 8 #, 9 <, 10 <=, 11 >, 12 >=, from whether the left is less and whether the two are equal
 unfoldable pub compareOf : ℕ → Bool → Bool → Bool
 compareOf op less equal =
     choose (eqb op 7) equal
@@ -80,7 +80,8 @@ complementOf s = 4294967295 - s
 
 -- ---- by the operands' kinds
 
--- two INTEGERs: "Operators 1 to 5 take INTEGER", "7, 8 take two of one scalar type; 9 to 12 INTEGER", "range takes INTEGER twice"
+-- two INTEGERs: "Operators 1 to 5 take INTEGER", "7, 8 take two of one scalar type; 9 to 12 INTEGER",
+-- "range takes INTEGER twice"
 unfoldable pub integersOf : ℕ → ℤ → ℤ → Answer
 integersOf op x y =
     choose (leb 1 op && leb op 5) (arithmeticOf op x y)
@@ -127,6 +128,7 @@ decides op (Vs.Bool p) = choose (eqb op 13) (not p) (choose (eqb op 14) p false)
 decides op (Vs.Int x) = false
 decides op (Vs.Set s) = false
 
--- "Operands go left to right": a dyadic operator whose left operand is found, and whose right one gives an answer if it is asked
+-- "Operands go left to right": a dyadic operator whose left operand is found, and whose right one gives an answer
+-- if it is asked
 unfoldable pub appliedTo : ℕ → Value → Answer → Answer
 appliedTo op v right = choose (decides op v) (As.Val v) (bind right (λ w. dyadicOf op v w))

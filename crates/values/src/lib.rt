@@ -1,13 +1,15 @@
 // Values of the scalar kinds: how a cell and a constant hold them, and the operators on them.
 ghost use mathlib.Core.Bool.{true};
 ghost use mathlib.Core.Path.{_≡_};
-ghost use Prim.Native.Nat.{_≤_, _<_};
-ghost use lib.Bits.{bitAnd, bitOr, bitXor};
+ghost use Prim.Native.Nat.{_<_};
 ghost use lib.IntN.{pos, negsuc, _+ℤ_, _-ℤ_, _*ℤ_};
 ghost use lib.Signed.{ltZ, mag};
 ghost use Rattle.values.specs.Kinds.{integersKind, setsKind, booleansKind, dyadicKind, monadicKind};
-ghost use Rattle.values.specs.Operators.{integerOf, divOf, modOf, dividedBy, arithmeticOf, compareOf, memberOf, elementsOf, rangeOf, complementOf, integersOf, setsOf, booleansOf, dyadicOf, monadicOf, decides as decidesOf};
-ghost use Rattle.values.specs.Values.{trapNumber, numberOf, booleanCell, integerCell, setCell, cellOf, signedOf, constantOf, isInteger};
+ghost use Rattle.values.specs.Operators.{integerOf, divOf, modOf, dividedBy, arithmeticOf, compareOf};
+ghost use Rattle.values.specs.Operators.{memberOf, elementsOf, rangeOf, complementOf, integersOf, setsOf};
+ghost use Rattle.values.specs.Operators.{booleansOf, dyadicOf, monadicOf, decides as decidesOf};
+ghost use Rattle.values.specs.Values.{trapNumber, numberOf, booleanCell, integerCell, setCell, cellOf};
+ghost use Rattle.values.specs.Values.{isInteger, signedOf, constantOf};
 
 // A value of a scalar kind.
 pub enum Value {

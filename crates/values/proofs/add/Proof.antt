@@ -1,12 +1,10 @@
+-- `values::add` meets its contract: a sum of two INTEGERs fits 64 bits.
 use mathlib.Core.Path.{ap, _∙_}
 use Rattle.values.specs.Operators.{integerOf}
 use Rattle.values.proofs.Numbers.{cast-fits, sum-holds}
 use borrow.Author.Needs.{needs}
 use Rattle.values.proofs.add.Statement.{statement}
 use Rattle.values.proofs.add.Tie as tie
-use Rattle.values.proofs.add.Reads as reads
-use Rattle.values.proofs.add.Lts as lts
-use Rattle.values.proofs.integer.Reads as integer-reads
 
 cast-integer : tie.Need-cast-integer
 cast-integer c = cast-fits _ (c .fits .x)

@@ -1,4 +1,5 @@
-use mathlib.Core.Path.{ap, _∙_}
+-- `values::arithmetic` meets its contract: by the operator number.
+use mathlib.Core.Path.{_∙_}
 use borrow.Author.Tests.{ne-eqb}
 use Rattle.prelude.specs.Choice.{choose}
 use Rattle.values.specs.Operators.{arithmeticOf}
@@ -6,13 +7,6 @@ use Rattle.values.proofs.Numbers.{plain32}
 use borrow.Author.Needs.{needs}
 use Rattle.values.proofs.arithmetic.Statement.{statement}
 use Rattle.values.proofs.arithmetic.Tie as tie
-use Rattle.values.proofs.arithmetic.Reads as reads
-use Rattle.values.proofs.arithmetic.Lts as lts
-use Rattle.values.proofs.add.Reads as add-reads
-use Rattle.values.proofs.divide.Reads as divide-reads
-use Rattle.values.proofs.modulo.Reads as modulo-reads
-use Rattle.values.proofs.multiply.Reads as multiply-reads
-use Rattle.values.proofs.subtract.Reads as subtract-reads
 
 add-requires : tie.Need-add-requires
 add-requires c κs = search needs

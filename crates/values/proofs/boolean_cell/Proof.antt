@@ -1,3 +1,4 @@
+-- `values::boolean_cell` meets its contract: only the bits of 0 and 1 are those of a BOOLEAN.
 use mathlib.Core.Path.{sym}
 use native.Mathlib.Omega.{arith}
 use Rattle.prelude.specs.Choice.{choose}
@@ -5,8 +6,6 @@ use Rattle.values.specs.Values.{booleanCell}
 use Rattle.values.proofs.Numbers.{bits-are, no-boolean}
 use Rattle.values.proofs.boolean_cell.Statement.{statement}
 use Rattle.values.proofs.boolean_cell.Tie as tie
-use Rattle.values.proofs.boolean_cell.Reads as reads
-use Rattle.values.proofs.boolean_cell.Lts as lts
 
 returns : tie.Need-returns
 unfolding booleanCell choose

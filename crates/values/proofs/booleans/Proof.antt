@@ -1,4 +1,4 @@
-use native.Mathlib.Omega.{arith}
+-- `values::booleans` meets its contract: by the operator number and its ranges.
 use borrow.Author.Tests.{ne-eqb}
 use Rattle.prelude.specs.Choice.{choose}
 use Rattle.values.specs.Operators.{booleansOf}
@@ -6,9 +6,6 @@ use Rattle.values.proofs.Numbers.{inside, under, over}
 use borrow.Author.Needs.{needs}
 use Rattle.values.proofs.booleans.Statement.{statement}
 use Rattle.values.proofs.booleans.Tie as tie
-use Rattle.values.proofs.booleans.Reads as reads
-use Rattle.values.proofs.booleans.Lts as lts
-use Rattle.values.proofs.compare.Reads as compare-reads
 
 compare-requires : tie.Need-compare-requires
 compare-requires c κs = search needs

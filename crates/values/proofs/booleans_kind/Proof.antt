@@ -1,11 +1,10 @@
+-- `values::booleans_kind` meets its contract: by the operator number and its ranges.
 use native.Mathlib.Omega.{arith}
 use Rattle.prelude.specs.Choice.{choose}
 use Rattle.values.specs.Kinds.{booleansKind}
 use Rattle.values.proofs.Numbers.{inside, under, over}
 use Rattle.values.proofs.booleans_kind.Statement.{statement}
 use Rattle.values.proofs.booleans_kind.Tie as tie
-use Rattle.values.proofs.booleans_kind.Reads as reads
-use Rattle.values.proofs.booleans_kind.Lts as lts
 
 returns : tie.Need-returns
 unfolding booleansKind choose

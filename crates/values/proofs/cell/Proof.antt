@@ -1,4 +1,5 @@
-use mathlib.Core.Path.{ap, _∙_}
+-- `values::cell` meets its contract: by the kind.
+use mathlib.Core.Path.{_∙_}
 use borrow.Author.Tests.{ne-eqb}
 use Rattle.prelude.specs.Choice.{choose}
 use Rattle.values.specs.Values.{cellOf}
@@ -6,11 +7,6 @@ use Rattle.values.proofs.Numbers.{plain64}
 use borrow.Author.Needs.{needs}
 use Rattle.values.proofs.cell.Statement.{statement}
 use Rattle.values.proofs.cell.Tie as tie
-use Rattle.values.proofs.cell.Reads as reads
-use Rattle.values.proofs.cell.Lts as lts
-use Rattle.values.proofs.boolean_cell.Reads as boolean-cell-reads
-use Rattle.values.proofs.integer_cell.Reads as integer-cell-reads
-use Rattle.values.proofs.set_cell.Reads as set-cell-reads
 
 boolean-cell-requires : tie.Need-boolean-cell-requires
 boolean-cell-requires c κs = search needs

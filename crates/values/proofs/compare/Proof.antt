@@ -1,10 +1,9 @@
+-- `values::compare` meets its contract: by the operator number.
 use borrow.Author.Tests.{ne-eqb}
 use Rattle.prelude.specs.Choice.{choose}
 use Rattle.values.specs.Operators.{compareOf}
 use Rattle.values.proofs.compare.Statement.{statement}
 use Rattle.values.proofs.compare.Tie as tie
-use Rattle.values.proofs.compare.Reads as reads
-use Rattle.values.proofs.compare.Lts as lts
 
 returns : tie.Need-returns
 unfolding compareOf choose

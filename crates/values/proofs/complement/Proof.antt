@@ -1,9 +1,8 @@
+-- `values::complement` meets its contract: the bits turned over.
 use borrow.Author.Needs.{needs}
 use Rattle.values.specs.Operators.{complementOf}
 use Rattle.values.proofs.complement.Statement.{statement}
 use Rattle.values.proofs.complement.Tie as tie
-use Rattle.values.proofs.complement.Reads as reads
-use Rattle.values.proofs.complement.Lts as lts
 
 returns : tie.Need-returns
 unfolding complementOf

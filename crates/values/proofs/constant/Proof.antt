@@ -1,4 +1,5 @@
-use mathlib.Core.Path.{ap, _∙_}
+-- `values::constant` meets its contract: by the kind.
+use mathlib.Core.Path.{_∙_}
 use native.Mathlib.Omega.{arith}
 use Prim.Native.Nat.{_+_, _*_}
 use borrow.Author.Tests.{ne-eqb}
@@ -8,10 +9,6 @@ use Rattle.values.proofs.Numbers.{plain32, of-nat64}
 use borrow.Author.Needs.{needs}
 use Rattle.values.proofs.constant.Statement.{statement}
 use Rattle.values.proofs.constant.Tie as tie
-use Rattle.values.proofs.constant.Reads as reads
-use Rattle.values.proofs.constant.Lts as lts
-use Rattle.values.proofs.boolean_cell.Reads as boolean-cell-reads
-use Rattle.values.proofs.signed_of.Reads as signed-of-reads
 
 mul-bits : tie.Need-mul-bits
 mul-bits c = search needs

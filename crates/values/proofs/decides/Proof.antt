@@ -1,3 +1,4 @@
+-- `values::decides` meets its contract: by the kind of the operand and the operator number.
 use mathlib.Core.Path.{sym}
 use borrow.Author.Tests.{ne-eqb}
 use Rattle.prelude.specs.Choice.{choose}
@@ -6,8 +7,6 @@ use Rattle.values.proofs.Operands.{no-boolean-decides}
 use borrow.Author.Needs.{needs}
 use Rattle.values.proofs.decides.Statement.{statement}
 use Rattle.values.proofs.decides.Tie as tie
-use Rattle.values.proofs.decides.Reads as reads
-use Rattle.values.proofs.decides.Lts as lts
 
 enum-known-left : tie.Need-enum-known-left
 enum-known-left c = search needs

@@ -1,3 +1,4 @@
+-- `values::div_floor` meets its contract: by the sign of the dividend, through magnitudes.
 use mathlib.Core.Path.{_≡_, sym, ap, _∙_}
 use Prim.Native.Nat.{_<_, _/_}
 use native.Mathlib.Omega.{arith}
@@ -8,10 +9,6 @@ use Rattle.values.proofs.Numbers.{plain32, of-nat, to-unsigned, not-neg
 use borrow.Author.Needs.{needs}
 use Rattle.values.proofs.div_floor.Statement.{statement}
 use Rattle.values.proofs.div_floor.Tie as tie
-use Rattle.values.proofs.div_floor.Reads as reads
-use Rattle.values.proofs.div_floor.Lts as lts
-use Rattle.values.proofs.magnitude.Reads as magnitude-reads
-use Rattle.values.proofs.negative.Reads as negative-reads
 
 m-is : (c : tie.After-magnitude) → c .magnitude .result ≡ mag (c .before .args .x)
 m-is c = c .magnitude .ensures ∙ ap mag (plain32 _ (c .before .fits .x))

@@ -1,11 +1,9 @@
-use mathlib.Core.Path.{_≡_, sym, ap, _∙_}
+-- `values::divide` meets its contract: by the sign of the divisor.
+use mathlib.Core.Path.{sym}
 use Rattle.values.proofs.Numbers.{plain32, divided, not-divided}
 use borrow.Author.Needs.{needs}
 use Rattle.values.proofs.divide.Statement.{statement}
 use Rattle.values.proofs.divide.Tie as tie
-use Rattle.values.proofs.divide.Reads as reads
-use Rattle.values.proofs.divide.Lts as lts
-use Rattle.values.proofs.div_floor.Reads as div-floor-reads
 
 div-floor-requires : tie.Need-div-floor-requires
 div-floor-requires c κs = search needs

@@ -1,4 +1,5 @@
-use mathlib.Core.Path.{sym, ap, _∙_}
+-- `values::dyadic` meets its contract: by the kinds of the operands.
+use mathlib.Core.Path.{sym, _∙_}
 use borrow.Author.Tests.{ne-eqb}
 use Rattle.prelude.specs.Choice.{choose}
 use Rattle.values.specs.Operators.{dyadicOf}
@@ -7,12 +8,6 @@ use Rattle.values.proofs.Numbers.{plain32}
 use borrow.Author.Needs.{needs}
 use Rattle.values.proofs.dyadic.Statement.{statement}
 use Rattle.values.proofs.dyadic.Tie as tie
-use Rattle.values.proofs.dyadic.Reads as reads
-use Rattle.values.proofs.dyadic.Lts as lts
-use Rattle.values.proofs.booleans.Reads as booleans-reads
-use Rattle.values.proofs.integers.Reads as integers-reads
-use Rattle.values.proofs.member.Reads as member-reads
-use Rattle.values.proofs.sets.Reads as sets-reads
 
 enum-known-left : tie.Need-enum-known-left
 enum-known-left c = search needs

@@ -1,15 +1,11 @@
-use mathlib.Core.Path.{ap, _∙_}
+-- `values::dyadic_kind` meets its contract: by the kinds of the operands.
+use mathlib.Core.Path.{_∙_}
 use borrow.Author.Tests.{ne-eqb}
 use Rattle.prelude.specs.Choice.{choose}
 use Rattle.values.specs.Kinds.{dyadicKind}
 use borrow.Author.Needs.{needs}
 use Rattle.values.proofs.dyadic_kind.Statement.{statement}
 use Rattle.values.proofs.dyadic_kind.Tie as tie
-use Rattle.values.proofs.dyadic_kind.Reads as reads
-use Rattle.values.proofs.dyadic_kind.Lts as lts
-use Rattle.values.proofs.booleans_kind.Reads as booleans-kind-reads
-use Rattle.values.proofs.integers_kind.Reads as integers-kind-reads
-use Rattle.values.proofs.sets_kind.Reads as sets-kind-reads
 
 booleans-kind-requires : tie.Need-booleans-kind-requires
 booleans-kind-requires c κs = search needs

@@ -1,5 +1,6 @@
-use mathlib.Core.Path.{_≡_, ap, _∙_}
-use Prim.Native.Nat.{ℕ, _+_, _-_, _*_, _%_, _^_, _<_, _≤_}
+-- `values::elements` meets its contract: both powers fit 64 bits, and their difference 32.
+use mathlib.Core.Path.{_≡_}
+use Prim.Native.Nat.{ℕ, _*_, _%_, _^_, _≤_}
 use native.Mathlib.Omega.{arith}
 use native.Mathlib.Nat.{pow-suc, mod-eq-of-lt}
 use native.Mathlib.Numerals.{add-one}
@@ -10,8 +11,6 @@ use Rattle.values.specs.Operators.{elementsOf}
 use borrow.Author.Needs.{needs}
 use Rattle.values.proofs.elements.Statement.{statement}
 use Rattle.values.proofs.elements.Tie as tie
-use Rattle.values.proofs.elements.Reads as reads
-use Rattle.values.proofs.elements.Lts as lts
 
 -- the two powers, in order, as 64 bits hold them
 module _ (c : tie.Else1) where

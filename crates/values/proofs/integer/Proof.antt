@@ -1,7 +1,6 @@
+-- `values::integer` meets its contract: a number in the range fits 32 bits.
 use mathlib.Core.Path.{_≡_, sym, ap, _∙_}
 use mathlib.Core.Bool.{true}
-use mir.Syntax.{w32, w64}
-use mir.Val.{SFits}
 use Rattle.prelude.specs.Choice.{choose}
 use Rattle.values.specs.Values.{isInteger}
 use Rattle.values.specs.Operators.{integerOf}
@@ -11,9 +10,6 @@ use Rattle.values.proofs.Numbers.{plain32, plain64, integer-fits}
 use borrow.Author.Needs.{needs}
 use Rattle.values.proofs.integer.Statement.{statement}
 use Rattle.values.proofs.integer.Tie as tie
-use Rattle.values.proofs.integer.Reads as reads
-use Rattle.values.proofs.integer.Lts as lts
-use Rattle.values.proofs.is_integer.Reads as is-integer-reads
 
 taken : (c : tie.Then1) → isInteger (c .before .before .args .z) ≡ true
 taken c = rw (plain64 _ (c .before .before .fits .z)) at (sym (c .before .is-integer .ensures) ∙ c .if1 .taken)

@@ -1,4 +1,5 @@
-use mathlib.Core.Path.{_≡_, ap, _∙_}
+-- `values::integers` meets its contract: by the operator number and its ranges.
+use mathlib.Core.Path.{_∙_}
 use native.Mathlib.Omega.{arith}
 use borrow.Author.Tests.{ne-eqb}
 use Rattle.prelude.specs.Choice.{choose}
@@ -7,11 +8,6 @@ use Rattle.values.proofs.Numbers.{plain32, eq-bits, inside, under, over
 use borrow.Author.Needs.{needs}
 use Rattle.values.proofs.integers.Statement.{statement}
 use Rattle.values.proofs.integers.Tie as tie
-use Rattle.values.proofs.integers.Reads as reads
-use Rattle.values.proofs.integers.Lts as lts
-use Rattle.values.proofs.arithmetic.Reads as arithmetic-reads
-use Rattle.values.proofs.compare.Reads as compare-reads
-use Rattle.values.proofs.range.Reads as range-reads
 
 range-requires : tie.Need-range-requires
 range-requires c κs = search needs
@@ -32,14 +28,16 @@ returns-2 : tie.Need-returns-2
 unfolding integersOf choose
 returns-2 c =
     let s = c .before .before .before .before in
-    c .arithmetic .ensures ∙ rw (plain32 _ (s .fits .x), plain32 _ (s .fits .y), inside 1 5 _ (c .before .before .if1 .left) (c .before .if2 .taken))
+    c .arithmetic .ensures ∙ rw (plain32 _ (s .fits .x), plain32 _ (s .fits .y))
+    (rw (inside 1 5 _ (c .before .before .if1 .left) (c .before .if2 .taken)))
 
 returns-3 : tie.Need-returns-3
 unfolding integersOf choose
 returns-3 c =
     let s = c .before .before .before .before .before .before in
     rw (c .compare .ensures, eq-bits _ _ (s .fits .x) (s .fits .y), plain32 _ (s .fits .x), plain32 _ (s .fits .y))
-    (rw (over 1 5 _ (c .before .before .before .if2 .left), inside 7 12 _ (c .before .before .if3 .left) (c .before .if4 .taken)))
+    (rw (over 1 5 _ (c .before .before .before .if2 .left))
+    (rw (inside 7 12 _ (c .before .before .if3 .left) (c .before .if4 .taken))))
 
 returns-4 : tie.Need-returns-4
 unfolding integersOf choose
@@ -50,7 +48,8 @@ returns-4 c =
 returns-5 : tie.Need-returns-5
 unfolding integersOf choose
 returns-5 c =
-    rw (over 1 5 _ (c .before .if2 .left), under 7 12 _ (c .if3 .taken), ne-eqb _ 16 (c .before .before .before .match .rest .1))
+    rw (over 1 5 _ (c .before .if2 .left), under 7 12 _ (c .if3 .taken))
+    (rw (ne-eqb _ 16 (c .before .before .before .match .rest .1)))
 
 returns-6 : tie.Need-returns-6
 unfolding integersOf choose

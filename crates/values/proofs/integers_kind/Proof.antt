@@ -1,3 +1,4 @@
+-- `values::integers_kind` meets its contract: by the operator number and its ranges.
 use native.Mathlib.Omega.{arith}
 use borrow.Author.Tests.{ne-eqb}
 use Rattle.prelude.specs.Choice.{choose}
@@ -5,8 +6,6 @@ use Rattle.values.specs.Kinds.{integersKind}
 use Rattle.values.proofs.Numbers.{inside, under, over}
 use Rattle.values.proofs.integers_kind.Statement.{statement}
 use Rattle.values.proofs.integers_kind.Tie as tie
-use Rattle.values.proofs.integers_kind.Reads as reads
-use Rattle.values.proofs.integers_kind.Lts as lts
 
 returns : tie.Need-returns
 unfolding integersKind choose
@@ -29,7 +28,8 @@ returns-4 c =
 returns-5 : tie.Need-returns-5
 unfolding integersKind choose
 returns-5 c =
-    rw (over 1 5 _ (c .before .if2 .left), under 7 12 _ (c .if3 .taken), ne-eqb _ 16 (c .before .before .before .match .rest .1))
+    rw (over 1 5 _ (c .before .if2 .left), under 7 12 _ (c .if3 .taken))
+    (rw (ne-eqb _ 16 (c .before .before .before .match .rest .1)))
 
 returns-6 : tie.Need-returns-6
 unfolding integersKind choose

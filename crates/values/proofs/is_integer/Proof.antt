@@ -1,10 +1,9 @@
+-- `values::is_integer` meets its contract: the tests are those of the definition.
 use Rattle.prelude.specs.Choice.{choose}
 use Rattle.values.specs.Values.{isInteger}
 use Rattle.values.proofs.Numbers.{plain64}
 use Rattle.values.proofs.is_integer.Statement.{statement}
 use Rattle.values.proofs.is_integer.Tie as tie
-use Rattle.values.proofs.is_integer.Reads as reads
-use Rattle.values.proofs.is_integer.Lts as lts
 
 returns : tie.Need-returns
 unfolding isInteger choose

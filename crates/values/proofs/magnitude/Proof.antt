@@ -1,9 +1,8 @@
+-- `values::magnitude` meets its contract: by the sign.
 use native.Mathlib.Omega.{arith}
 use Rattle.values.proofs.Numbers.{plain32, of-nat, above-zero, to-unsigned, mag-is}
 use Rattle.values.proofs.magnitude.Statement.{statement}
 use Rattle.values.proofs.magnitude.Tie as tie
-use Rattle.values.proofs.magnitude.Reads as reads
-use Rattle.values.proofs.magnitude.Lts as lts
 
 sub-result : tie.Need-sub-result
 sub-result c =

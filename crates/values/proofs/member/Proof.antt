@@ -1,4 +1,4 @@
-use mathlib.Core.Path.{_≡_, ap, _∙_}
+-- `values::member` meets its contract: a shift brings the bit down.
 use borrow.Author.Tests.{lt-ltb, le-ltb}
 use Rattle.prelude.specs.Choice.{choose}
 use Rattle.values.specs.Operators.{memberOf}
@@ -6,8 +6,6 @@ use Rattle.values.proofs.Numbers.{plain32, to-unsigned, neg-is, pos-is}
 use borrow.Author.Needs.{needs}
 use Rattle.values.proofs.member.Statement.{statement}
 use Rattle.values.proofs.member.Tie as tie
-use Rattle.values.proofs.member.Reads as reads
-use Rattle.values.proofs.member.Lts as lts
 
 returns : tie.Need-returns
 unfolding memberOf

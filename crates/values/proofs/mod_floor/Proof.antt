@@ -1,3 +1,4 @@
+-- `values::mod_floor` meets its contract: by the sign of the dividend, through magnitudes.
 use mathlib.Core.Path.{_≡_, sym, ap, _∙_}
 use Prim.Native.Nat.{_<_, _-_, _%_}
 use native.Mathlib.Omega.{arith}
@@ -8,9 +9,6 @@ use Rattle.values.proofs.Numbers.{plain32, of-nat, to-unsigned, not-neg
 use borrow.Author.Needs.{needs}
 use Rattle.values.proofs.mod_floor.Statement.{statement}
 use Rattle.values.proofs.mod_floor.Tie as tie
-use Rattle.values.proofs.mod_floor.Reads as reads
-use Rattle.values.proofs.mod_floor.Lts as lts
-use Rattle.values.proofs.magnitude.Reads as magnitude-reads
 
 m-is : (c : tie.After-magnitude) → c .magnitude .result ≡ mag (c .before .args .x)
 m-is c = c .magnitude .ensures ∙ ap mag (plain32 _ (c .before .fits .x))
@@ -61,7 +59,8 @@ returns-2 : tie.Need-returns-2
 returns-2 c =
     let m = c .before in
     let s = m .before in
-    rw (plain32 _ (s .fits .y), of-nat (m .magnitude .result % natAbs (s .args .y)) (omega (arith, y-small s, below m)), m-is m)
+    let y = natAbs (s .args .y) in
+    rw (plain32 _ (s .fits .y), of-nat (m .magnitude .result % y) (omega (arith, y-small s, below m)), m-is m)
     (sym (mod-pos (s .args .x) (s .args .y) (rw (plain32 _ (s .fits .x)) at (c .if1 .left))))
 
 pub mod-floor-spec : {M : Type 1} → statement M

@@ -1,11 +1,9 @@
-use mathlib.Core.Path.{_≡_, sym, ap, _∙_}
+-- `values::modulo` meets its contract: by the sign of the divisor.
+use mathlib.Core.Path.{sym}
 use Rattle.values.proofs.Numbers.{plain32, divided, not-divided}
 use borrow.Author.Needs.{needs}
 use Rattle.values.proofs.modulo.Statement.{statement}
 use Rattle.values.proofs.modulo.Tie as tie
-use Rattle.values.proofs.modulo.Reads as reads
-use Rattle.values.proofs.modulo.Lts as lts
-use Rattle.values.proofs.mod_floor.Reads as mod-floor-reads
 
 mod-floor-requires : tie.Need-mod-floor-requires
 mod-floor-requires c κs = search needs

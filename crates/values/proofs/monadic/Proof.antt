@@ -1,3 +1,4 @@
+-- `values::monadic` meets its contract: by the kind of the operand and the operator number.
 use mathlib.Core.Path.{ap, _∙_}
 use borrow.Author.Tests.{ne-eqb}
 use lib.IntN.{negℤ, +ℤ-idl}
@@ -7,10 +8,6 @@ use Rattle.values.proofs.Numbers.{plain32}
 use borrow.Author.Needs.{needs}
 use Rattle.values.proofs.monadic.Statement.{statement}
 use Rattle.values.proofs.monadic.Tie as tie
-use Rattle.values.proofs.monadic.Reads as reads
-use Rattle.values.proofs.monadic.Lts as lts
-use Rattle.values.proofs.complement.Reads as complement-reads
-use Rattle.values.proofs.subtract.Reads as subtract-reads
 
 enum-known-operand : tie.Need-enum-known-operand
 enum-known-operand c = search needs

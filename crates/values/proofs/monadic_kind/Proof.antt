@@ -1,12 +1,10 @@
-use native.Mathlib.Omega.{arith}
+-- `values::monadic_kind` meets its contract: by the operator number and the kind of the operand.
 use borrow.Author.Tests.{ne-eqb}
 use Rattle.prelude.specs.Choice.{choose}
 use Rattle.values.specs.Kinds.{monadicKind}
 use Rattle.values.proofs.Numbers.{inside, under, over}
 use Rattle.values.proofs.monadic_kind.Statement.{statement}
 use Rattle.values.proofs.monadic_kind.Tie as tie
-use Rattle.values.proofs.monadic_kind.Reads as reads
-use Rattle.values.proofs.monadic_kind.Lts as lts
 
 returns : tie.Need-returns
 unfolding monadicKind choose

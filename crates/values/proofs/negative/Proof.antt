@@ -1,10 +1,9 @@
+-- `values::negative` meets its contract: -1 - m fits.
 use lib.IntN.{negsuc}
 use Rattle.values.proofs.Numbers.{plain32, of-nat, below-zero}
 use borrow.Author.Needs.{needs}
 use Rattle.values.proofs.negative.Statement.{statement}
 use Rattle.values.proofs.negative.Tie as tie
-use Rattle.values.proofs.negative.Reads as reads
-use Rattle.values.proofs.negative.Lts as lts
 
 cast-result : tie.Need-cast-result
 cast-result c = search needs

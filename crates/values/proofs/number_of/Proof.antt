@@ -1,12 +1,11 @@
+-- `values::number_of` meets its contract: by the kind of the value.
 use Rattle.prelude.specs.Choice.{choose}
 use Rattle.values.specs.Values.{numberOf}
-use Rattle.values.proofs.Numbers.{plain32, cast-fits, wide, of-nat64}
+use Rattle.values.proofs.Numbers.{cast-fits, wide, of-nat64}
 use native.Mathlib.Omega.{arith}
 use borrow.Author.Needs.{needs}
 use Rattle.values.proofs.number_of.Statement.{statement}
 use Rattle.values.proofs.number_of.Tie as tie
-use Rattle.values.proofs.number_of.Reads as reads
-use Rattle.values.proofs.number_of.Lts as lts
 
 enum-known-v : tie.Need-enum-known-v
 enum-known-v c = search needs

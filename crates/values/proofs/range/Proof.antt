@@ -1,4 +1,5 @@
-use mathlib.Core.Path.{_≡_, sym, ap, _∙_}
+-- `values::range` meets its contract: by the tests of the bounds.
+use mathlib.Core.Path.{sym}
 use borrow.Author.Tests.{lt-ltb, le-ltb}
 use Rattle.prelude.specs.Choice.{choose}
 use Rattle.values.specs.Operators.{rangeOf}
@@ -6,9 +7,6 @@ use Rattle.values.proofs.Numbers.{plain32, to-unsigned, neg-is, pos-is,
 use borrow.Author.Needs.{needs}
 use Rattle.values.proofs.range.Statement.{statement}
 use Rattle.values.proofs.range.Tie as tie
-use Rattle.values.proofs.range.Reads as reads
-use Rattle.values.proofs.range.Lts as lts
-use Rattle.values.proofs.elements.Reads as elements-reads
 
 returns : tie.Need-returns
 unfolding rangeOf
@@ -45,8 +43,9 @@ returns-4 c =
     let s = c .before .before .before .before in
     let e = plain32 _ (s .fits .x) in
     let f = plain32 _ (s .fits .y) in
-    rw (pos-is (s .args .x) (rw e at (c .before .before .before .if1 .left)), pos-is (s .args .y) (rw f at (c .before .if3 .left)))
-    (rw (lt-ltb _ 32 (rw e at (c .before .before .if2 .left)), le-ltb _ 32 (rw f at (c .if4 .taken))))
+    rw (pos-is (s .args .x) (rw e at (c .before .before .before .if1 .left)))
+    (rw (pos-is (s .args .y) (rw f at (c .before .if3 .left)))
+    (rw (lt-ltb _ 32 (rw e at (c .before .before .if2 .left)), le-ltb _ 32 (rw f at (c .if4 .taken)))))
 
 elements-requires : tie.Need-elements-requires
 elements-requires c κs = search needs
@@ -58,8 +57,9 @@ returns-5 c =
     let e = plain32 _ (s .fits .x) in
     let f = plain32 _ (s .fits .y) in
     rw (c .elements .ensures, e, f)
-    (rw (pos-is (s .args .x) (rw e at (c .before .before .before .before .if1 .left)), pos-is (s .args .y) (rw f at (c .before .before .if3 .left)))
-    (rw (lt-ltb _ 32 (rw e at (c .before .before .before .if2 .left)), lt-ltb _ 32 (rw f at (c .before .if4 .left)))))
+    (rw (pos-is (s .args .x) (rw e at (c .before .before .before .before .if1 .left)))
+    (rw (pos-is (s .args .y) (rw f at (c .before .before .if3 .left)))
+    (rw (lt-ltb _ 32 (rw e at (c .before .before .before .if2 .left)), lt-ltb _ 32 (rw f at (c .before .if4 .left))))))
 
 pub range-spec : {M : Type 1} → statement M
 range-spec =

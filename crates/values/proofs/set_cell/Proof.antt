@@ -1,10 +1,8 @@
-use mathlib.Core.Path.{sym, ap, _∙_}
-use native.Mathlib.Omega.{arith}
+-- `values::set_cell` meets its contract: the tests leave the numbers of 32 bits.
+use mathlib.Core.Path.{sym}
 use Rattle.values.proofs.Numbers.{plain64, set-neg, set-large, set-fits, set-is}
 use Rattle.values.proofs.set_cell.Statement.{statement}
 use Rattle.values.proofs.set_cell.Tie as tie
-use Rattle.values.proofs.set_cell.Reads as reads
-use Rattle.values.proofs.set_cell.Lts as lts
 
 returns : tie.Need-returns
 returns c = sym (set-neg (c .before .args .z) (rw (plain64 _ (c .before .fits .z)) at (c .if1 .taken)))

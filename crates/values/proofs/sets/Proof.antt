@@ -1,4 +1,5 @@
-use mathlib.Core.Path.{_≡_, ap, _∙_}
+-- `values::sets` meets its contract: by the operator number and its ranges.
+use mathlib.Core.Path.{_≡_}
 use native.Mathlib.Omega.{arith}
 use borrow.Author.Tests.{ne-eqb}
 use Rattle.prelude.specs.Choice.{choose}
@@ -11,10 +12,6 @@ use Rattle.values.specs.declared.Answer.the-variants as As
 use borrow.Author.Needs.{needs}
 use Rattle.values.proofs.sets.Statement.{statement}
 use Rattle.values.proofs.sets.Tie as tie
-use Rattle.values.proofs.sets.Reads as reads
-use Rattle.values.proofs.sets.Lts as lts
-use Rattle.values.proofs.compare.Reads as compare-reads
-use Rattle.values.proofs.complement.Reads as complement-reads
 
 -- another operator than 1, 2, 3 and 6
 others : (c : tie.At-match-rest) → let a = c .before .args in

@@ -1,3 +1,4 @@
+-- `values::sets_kind` meets its contract: by the operator number and its ranges.
 use native.Mathlib.Omega.{arith}
 use borrow.Author.Tests.{ne-eqb}
 use Rattle.prelude.specs.Choice.{choose}
@@ -5,8 +6,6 @@ use Rattle.values.specs.Kinds.{setsKind}
 use Rattle.values.proofs.Numbers.{inside, under, over}
 use Rattle.values.proofs.sets_kind.Statement.{statement}
 use Rattle.values.proofs.sets_kind.Tie as tie
-use Rattle.values.proofs.sets_kind.Reads as reads
-use Rattle.values.proofs.sets_kind.Lts as lts
 
 returns : tie.Need-returns
 unfolding setsKind choose
@@ -20,7 +19,8 @@ returns-3 : tie.Need-returns-3
 unfolding setsKind choose
 returns-3 c =
     let op = c .before .before .before .before .before .args .op in
-    rw (over 1 3 op (c .before .before .if2 .left), ne-eqb op 6 (omega arith), inside 7 8 op (omega arith) (c .if4 .taken))
+    rw (over 1 3 op (c .before .before .if2 .left), ne-eqb op 6 (omega arith))
+    (rw (inside 7 8 op (omega arith) (c .if4 .taken)))
 
 returns-4 : tie.Need-returns-4
 unfolding setsKind choose
@@ -32,7 +32,8 @@ returns-5 : tie.Need-returns-5
 unfolding setsKind choose
 returns-5 c =
     let op = c .before .before .before .before .args .op in
-    rw (over 1 3 op (c .before .if2 .left), ne-eqb op 6 (c .before .before .before .match .rest .1), under 7 8 op (omega arith))
+    rw (over 1 3 op (c .before .if2 .left), ne-eqb op 6 (c .before .before .before .match .rest .1))
+    (rw (under 7 8 op (omega arith)))
 
 returns-6 : tie.Need-returns-6
 unfolding setsKind choose

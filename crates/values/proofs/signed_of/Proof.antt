@@ -1,18 +1,16 @@
-use mathlib.Core.Path.{_≡_, ap, _∙_}
+-- `values::signed_of` meets its contract: by the upper bit.
+use mathlib.Core.Path.{_≡_}
 use native.Mathlib.Omega.{arith}
-use Prim.Native.Nat.{_<_}
 use borrow.Author.Tests.{lt-ltb, le-ltb}
 use lib.IntN.{pos, _-ℤ_}
 use mir.Syntax.{w32, w64}
-use mir.Val.{SFits, toZ, ofZ}
+use mir.Val.{SFits, toZ}
 use Rattle.prelude.specs.Choice.{choose}
 use Rattle.values.specs.Values.{signedOf}
 use Rattle.values.proofs.Numbers.{plain32, plain64, of-nat, of-nat64, minus-top}
 use borrow.Author.Needs.{needs}
 use Rattle.values.proofs.signed_of.Statement.{statement}
 use Rattle.values.proofs.signed_of.Tie as tie
-use Rattle.values.proofs.signed_of.Reads as reads
-use Rattle.values.proofs.signed_of.Lts as lts
 
 low : (c : tie.Else1) → SFits w32 (pos (c .before .args .n) -ℤ pos 4294967296)
 low c = record { sfits = minus-top (c .before .args .n) (c .if1 .left) (omega arith) }

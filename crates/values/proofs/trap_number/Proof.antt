@@ -1,9 +1,8 @@
+-- `values::trap_number` meets its contract: each variant has its own number.
 use Rattle.values.specs.Values.{trapNumber}
 use borrow.Author.Needs.{needs}
 use Rattle.values.proofs.trap_number.Statement.{statement}
 use Rattle.values.proofs.trap_number.Tie as tie
-use Rattle.values.proofs.trap_number.Reads as reads
-use Rattle.values.proofs.trap_number.Lts as lts
 
 enum-told : tie.Need-enum-told
 enum-told c = search needs
