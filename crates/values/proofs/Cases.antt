@@ -6,22 +6,9 @@ use Prim.Native.Nat.{ℕ}
 use lib.IntN.{pos, negℤ}
 use Rattle.prelude.specs.Choice.{choose}
 use Rattle.values.specs.Values.{isInteger, trapNumber, bind}
-use Rattle.values.specs.Operators.{
-  integerOf,
-  divOf,
-  modOf,
-  dividedBy,
-  arithmeticOf,
-  memberOf,
-  elementsOf,
-  rangeOf,
-  complementOf,
-  integersOf,
-  dyadicOf,
-  monadicOf,
-  decides,
-  appliedTo,
-}
+use Rattle.values.specs.Operators.{integerOf, divOf, modOf, dividedBy, arithmeticOf, memberOf, elementsOf}
+use Rattle.values.specs.Operators.{rangeOf, complementOf, integersOf, dyadicOf, monadicOf, decides}
+use Rattle.values.specs.Operators.{appliedTo}
 use Rattle.values.specs.declared.Value.{Value}
 use Rattle.values.specs.declared.Value.the-variants as Vs
 use Rattle.values.specs.declared.Trap.the-variants as Ts

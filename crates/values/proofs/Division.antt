@@ -17,7 +17,7 @@ pub record Divided (x y : ℤ) : Type 0 where
   pub high : ltZ (modOf x y) y ≡ true
 
 -- a negative number, and a natural one that does not reach 0 from there
-up-from : (m k a : ℕ) → k + suc a ≡ m → negℤ (pos m) +ℤ pos k ≡ negsuc a
+pub up-from : (m k a : ℕ) → k + suc a ≡ m → negℤ (pos m) +ℤ pos k ≡ negsuc a
 up-from zero k a e = absurd (omega arith)
 up-from (suc m) k a e = rw (lt-ltb k (suc m) (omega arith)) (ap negsuc (omega arith))
 
@@ -27,15 +27,15 @@ negative-whole a n h =
     let r = mod-lt a h in
     sym (up-from (suc (a / n) * n) (n - suc (a % n)) a (omega (arith, suc-mul (a / n) n, div-add-mod' a n)))
 
-pub divided-whole : (x y : ℤ) → ltZ (pos 0) y ≡ true → Divided x y
+pub div-mod : (x y : ℤ) → ltZ (pos 0) y ≡ true → Divided x y
 unfolding divOf modOf
-divided-whole x (negsuc n) h = clash (sym h)
-divided-whole (pos a) (pos n) h = record {
+div-mod x (negsuc n) h = clash (sym h)
+div-mod (pos a) (pos n) h = record {
   whole = ap pos (sym (div-add-mod' a n));
   low = le-leb 0 (a % n) (omega arith);
   high = lt-ltb (a % n) n (mod-lt a (ltb-true 0 n h));
 }
-divided-whole (negsuc a) (pos n) h = record {
+div-mod (negsuc a) (pos n) h = record {
   whole = negative-whole a n (ltb-true 0 n h);
   low = le-leb 0 (n - suc (a % n)) (omega arith);
   high = lt-ltb (n - suc (a % n)) n (let r = mod-lt a (ltb-true 0 n h) in omega arith);

@@ -3,19 +3,8 @@ use mathlib.Core.Path.{_≡_, refl, sym, ap, _∙_}
 use mathlib.Core.Bool.{Bool, true, false, not, _&&_, _||_, Bool·beq}
 use Prim.Native.Nat.{ℕ, zero, suc, _+_, _-_, _*_, _/_, _%_, _^_, _<_, _≤_}
 use native.Mathlib.Omega.{arith}
-use native.Mathlib.Nat.{
-  mod-lt,
-  mod-eq-of-lt,
-  zero-div,
-  div-eq-of-lt,
-  div-eq-of-lt-le,
-  div-eq-of-eq-mul-left,
-  mul-add-mod-self-left,
-  mul-mod-right,
-  pow-succ',
-  add-mul,
-  suc-mul,
-}
+use native.Mathlib.Nat.{mod-lt, mod-eq-of-lt, zero-div, div-eq-of-lt, div-eq-of-lt-le, div-eq-of-eq-mul-left}
+use native.Mathlib.Nat.{mul-add-mod-self-left, mul-mod-right, pow-succ', add-mul, suc-mul}
 use native.Mathlib.Numerals.{add-one}
 use borrow.Author.Tests.{ltb-true, ltb-false, lt-ltb}
 use lib.Pow.{pow-pos, pow-mono, pow-add}

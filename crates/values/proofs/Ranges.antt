@@ -2,16 +2,17 @@
 use mathlib.Core.Path.{_≡_, refl, sym}
 use mathlib.Core.Bool.{Bool, true, false}
 use mathlib.Core.Logic.{inl, inr}
-use Prim.Native.Nat.{ℕ, _+_, _*_, _<_}
+use Prim.Native.Nat.{ℕ, zero, suc, _+_, _*_, _<_}
 use native.Mathlib.Omega.{arith}
-use borrow.Author.Tests.{eqb-true, ltb-true, ltb-false}
+use borrow.Author.Tests.{eqb-true, eqb-false, ltb-true, ltb-false}
 use lib.Dec.{eqb, ltb}
 use lib.IntN.{ℤ, pos, _-ℤ_}
 use mir.Syntax.{w32}
 use mir.Val.{SFits}
 use Rattle.prelude.specs.Choice.{choose}
 use Rattle.prelude.proofs.Choice.{choose-cases}
-use Rattle.values.specs.Values.{BOOLEAN, INTEGER, SET, kindOf, InRange, cellOf, signedOf, constantOf}
+use Rattle.values.specs.Values.{BOOLEAN, INTEGER, SET, kindOf, InRange}
+use Rattle.values.specs.Values.{cellOf, booleanCell, signedOf, constantOf}
 use Rattle.values.specs.Operators.{dyadicOf, monadicOf}
 use Rattle.values.specs.Kinds.{Gives}
 use Rattle.values.specs.Kinds.Gives.{value}
@@ -21,7 +22,7 @@ use Rattle.values.specs.declared.Answer.the-variants as As
 use Rattle.values.specs.declared.KindAnswer.{KindAnswer}
 use Rattle.values.proofs.Numbers.{minus-top}
 use Rattle.values.proofs.Cells.{no-value, cell-held, held-boolean}
-use Rattle.values.proofs.Results.{gives-integer, gives-set, gives-kind, gives-range}
+use Rattle.values.proofs.Results.{gives-boolean, gives-integer, gives-set, gives-one, gives-kind, gives-range}
 use Rattle.values.proofs.Typed.{Agree, dyadic-agree, monadic-agree}
 use Rattle.values.proofs.Typed.Agree.{typed, untyped}
 
@@ -77,3 +78,17 @@ module _ (kind b c : ℕ) (p : b < 65536) (q : c < 65536) {r : Value} (e : const
 
   pub constant-range : InRange r
   constant-range = gives-range (constant-gives kind b c p q e)
+
+-- a BOOLEAN of 0 or 1, an INTEGER and a SET are never stuck
+pub constant-typed : (kind b c : ℕ) → kind < 3 → (kind ≡ BOOLEAN → b * 65536 + c < 2) → b < 65536 → c < 65536
+    → Gives kind (constantOf kind b c)
+unfolding constantOf booleanCell choose
+constant-typed zero b c h t p q =
+    let n = b * 65536 + c in
+    let l = t refl in
+    gives-one (eqb n 0) (λ e. gives-boolean false)
+    (λ e. gives-one (eqb n 1) (λ f. gives-boolean true)
+    (λ f. absurd (omega (arith, eqb-false n 0 e, eqb-false n 1 f))))
+constant-typed (suc zero) b c h t p q = gives-integer _ (signed-fits (b * 65536 + c) (omega arith))
+constant-typed (suc (suc zero)) b c h t p q = gives-set (b * 65536 + c) (omega arith)
+constant-typed (suc (suc (suc k))) b c h t p q = absurd (omega arith)
