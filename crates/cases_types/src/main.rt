@@ -1,5 +1,6 @@
 // Runs questions 1 to 4 on the images of a pack and prints what they answer.
-use image::{HeaderAnswer, Verdict};
+use image::HeaderAnswer;
+use image::Verdict;
 ghost use mathlib.Core.Path.{_≡_};
 ghost use Rattle.cases_types.specs.Answer.{answerOf};
 

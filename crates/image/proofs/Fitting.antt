@@ -85,7 +85,7 @@ placed image from low high {t} e =
     let whole = part-is image t (omega arith) (omega arith) in
     let size : t .end - t .start ≡ numberAt image from * 8 = omega arith in
     let long : length (partOf image t) ≡ numberAt image from * 8 =
-      rw (whole, size) (part-length image (t .start) (numberAt image from * 8) (omega arith)) in
+    rw (whole, size) (part-length image (t .start) (numberAt image from * 8) (omega arith)) in
     let count : rowsOf (partOf image t) ≡ numberAt image from = rows-are (partOf image t) (numberAt image from) long in
     record {
       start = start-is;

@@ -56,7 +56,8 @@ module _ {X : Type 0} where
   part-part {l} {xs} {ys} {a} {b} p q = record {
     rest = q .rest ++ p .rest;
     seen = sym (drop-drop b a l) ∙ ap (drop b) (p .seen) ∙ drop-append-le b xs (p .rest) (q .within) ∙ ap (λ (m : List X). m ++ p .rest) (q .seen) ∙ append-assoc ys (q .rest) (p .rest);
-    within = let w = q .within in omega (arith, part-length p) }
+    within = let w = q .within in omega (arith, part-length p);
+  }
 
   pub part-front : {l : List X} (xs ys : List X) {a : ℕ} → Part l a (xs ++ ys) → Part l a xs
   part-front xs ys p = record { rest = ys ++ p .rest; seen = p .seen ∙ append-assoc xs ys (p .rest); within = p .within }
@@ -65,7 +66,8 @@ module _ {X : Type 0} where
   part-more {l} {xs} {a} m p = record {
     rest = p .rest ++ m;
     seen = drop-append-le a l m (p .within) ∙ ap (λ (r : List X). r ++ m) (p .seen) ∙ append-assoc xs (p .rest) m;
-    within = let w = p .within in omega (arith, length-append l m) }
+    within = let w = p .within in omega (arith, length-append l m);
+  }
 
   pub part-back : (l m : List X) → Part (l ++ m) (length l) m
   part-back l m = record { rest = []; seen = drop-append-seam l m ∙ sym (append-nil m); within = omega (arith, length-append l m) }
@@ -105,7 +107,8 @@ pub part-map : {X Y : Type 0} (f : X → Y) {l xs : List X} {at : ℕ} → Part 
 part-map f {l} {xs} {at} p = record {
   rest = map f (p .rest);
   seen = drop-map f at l ∙ ap (map f) (p .seen) ∙ map-append f xs (p .rest);
-  within = let w = p .within in omega (arith, length-map l f) }
+  within = let w = p .within in omega (arith, length-map l f);
+}
 
 -- the first element of a part stands at its place
 pub part-nth : {X : Type 0} {l xs : List X} {at : ℕ} {x : X} → Part l at (x ∷ xs) → Nth l at x

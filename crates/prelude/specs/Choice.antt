@@ -7,7 +7,6 @@ choose true x y = x
 choose false x y = y
 
 infixr 30 _also_
-
 -- both tests hold, the second asked only where the first does
 unfoldable pub _also_ : Bool → Bool → Bool
 true also b = b

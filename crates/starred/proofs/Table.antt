@@ -1,6 +1,6 @@
 -- Document 01's starred cases as one table: the paper's words, and what the definitions give.
 use mathlib.Core.Path.{_≡_, refl}
-use mathlib.Core.Bool.{Bool, true, false}
+use mathlib.Core.Bool.{true, false}
 use mathlib.Core.List.{List, [], _∷_}
 use Prim.Native.Nat.{ℕ}
 use Rattle.prelude.specs.Choice.{choose, _also_}
@@ -8,18 +8,101 @@ use Rattle.prelude.specs.Parts.{joined, sum}
 use Rattle.prelude.specs.Rec.{below, turns, rec}
 use Rattle.image.specs.Rows.{numberAt, rowsOf, rowAt}
 use Rattle.image.specs.Faults.{firstFrom, lowestFault, allFrom}
-use Rattle.image.specs.declared.Verdict.the-variants.{Kept, Fault}
+use Rattle.image.specs.declared.Verdict.the-variants.{Kept}
+use lib.IntN.{pos, negℤ}
+use Rattle.values.specs.Values.{isInteger, trapNumber, bind}
+use Rattle.values.specs.Operators.{integerOf, divOf, modOf, dividedBy, arithmeticOf, memberOf, elementsOf}
+use Rattle.values.specs.Operators.{rangeOf, complementOf, integersOf, dyadicOf, monadicOf, decides, appliedTo}
+use Rattle.values.specs.declared.Value.{Value}
+use Rattle.values.specs.declared.Value.the-variants as Vs
+use Rattle.values.specs.declared.Trap.the-variants as Ts
+use Rattle.values.specs.declared.Answer.the-variants as As
 use Rattle.types.specs.Forms.{formOf, form, baseOf, countOf, ofBase, ownTypes}
-use Rattle.types.specs.Sizes.{sizeBy, sizeOf, layoutBy, layoutOf, fieldsBy, fieldsOf, offsetOf}
+use Rattle.types.specs.Sizes.{sizeBy, sizeOf, layoutBy, layoutOf, fieldsBy, fieldsOf}
 use Rattle.types.specs.Extends.{extendsTo, extends}
-use Rattle.types.specs.Question.{usedBelow, scalarKept, arrayKept, fieldKept, baseKept, recordKept, laterKept, shapeKept, typeKept, typeRule, question4}
+use Rattle.types.specs.Question.{usedBelow, scalarKept, arrayKept, fieldKept, baseKept, recordKept, laterKept}
+use Rattle.types.specs.Question.{shapeKept, typeKept, typeRule, question4}
 
--- every definition that the cases open
-unfoldable pub computing : Unit {0}
-unfolding choose _also_ joined sum below turns rec numberAt rowsOf rowAt firstFrom lowestFault allFrom formOf form baseOf countOf ofBase ownTypes sizeBy sizeOf layoutBy layoutOf fieldsBy fieldsOf offsetOf extendsTo usedBelow scalarKept arrayKept fieldKept baseKept recordKept laterKept shapeKept typeKept typeRule question4
-computing = tt
+-- what the cases open: rows and rules, types, values
+unfoldable pub rows : Unit {0}
+unfolding choose _also_ joined sum below turns rec numberAt rowsOf rowAt firstFrom lowestFault allFrom
+rows = tt
 
--- ---- 7
+unfoldable pub shapes : Unit {0}
+unfolding usedBelow scalarKept arrayKept fieldKept baseKept recordKept laterKept shapeKept typeKept typeRule question4
+shapes = tt
+
+unfoldable pub sizes : Unit {0}
+unfolding formOf form baseOf countOf ofBase ownTypes sizeBy sizeOf layoutBy layoutOf fieldsBy fieldsOf extendsTo
+sizes = tt
+
+unfoldable pub integers : Unit {0}
+unfolding isInteger trapNumber integerOf divOf modOf dividedBy arithmeticOf integersOf rangeOf
+integers = tt
+
+unfoldable pub operators : Unit {0}
+unfolding bind memberOf elementsOf complementOf dyadicOf monadicOf decides appliedTo
+operators = tt
+
+-- ---- values: dyadic 4 DIV, 5 MOD, 7 =, 13 &, 15 IN, 16 range; monadic 1 -
+
+-- an INTEGER from 0 on, and one below
+abbrev pub int : ℕ → Value
+int n = Vs.Int (pos n)
+
+abbrev pub minus : ℕ → Value
+minus n = Vs.Int (negℤ (pos n))
+
+-- 1. "-5 DIV 3 = -2, MOD 1; 5 by 3: 1, 2."
+pub case-1 :
+    (dyadicOf 4 (minus 5) (int 3) ≡ As.Val (minus 2))
+    × (dyadicOf 5 (minus 5) (int 3) ≡ As.Val (int 1))
+    × (dyadicOf 4 (int 5) (int 3) ≡ As.Val (int 1))
+    × (dyadicOf 5 (int 5) (int 3) ≡ As.Val (int 2))
+unfolding rows integers operators
+case-1 = (refl, refl, refl, refl)
+
+-- 2. "-(-2147483648): trap 4; that DIV 1: itself."
+pub case-2 :
+    (monadicOf 1 (minus 2147483648) ≡ As.Trap Ts.Overflow)
+    × (trapNumber Ts.Overflow ≡ 4)
+    × (dyadicOf 4 (minus 2147483648) (int 1) ≡ As.Val (minus 2147483648))
+unfolding rows integers operators
+case-2 = (refl, refl, refl)
+
+-- 3. "7 DIV 0, 7 DIV -1: trap 5."
+pub case-3 :
+    (dyadicOf 4 (int 7) (int 0) ≡ As.Trap Ts.Divisor)
+    × (dyadicOf 4 (int 7) (minus 1) ≡ As.Trap Ts.Divisor)
+    × (trapNumber Ts.Divisor ≡ 5)
+unfolding rows integers operators
+case-3 = (refl, refl, refl)
+
+-- 4. "0..3 is 15, 3..0 is 0, 31..31 is 2147483648, 0..32 trap 6."
+pub case-4 :
+    (dyadicOf 16 (int 0) (int 3) ≡ As.Val (Vs.Set 15))
+    × (dyadicOf 16 (int 3) (int 0) ≡ As.Val (Vs.Set 0))
+    × (dyadicOf 16 (int 31) (int 31) ≡ As.Val (Vs.Set 2147483648))
+    × (dyadicOf 16 (int 0) (int 32) ≡ As.Trap Ts.Bound)
+    × (trapNumber Ts.Bound ≡ 6)
+unfolding rows integers operators
+case-4 = (refl, refl, refl, refl, refl)
+
+-- 5. "-{} is 4294967295; 32 IN it FALSE."
+pub case-5 :
+    (monadicOf 1 (Vs.Set 0) ≡ As.Val (Vs.Set 4294967295))
+    × (dyadicOf 15 (int 32) (Vs.Set 4294967295) ≡ As.Val (Vs.Bool false))
+unfolding rows integers operators
+case-5 = (refl, refl)
+
+-- 6. "FALSE & (7 DIV 0 = 1): FALSE." The right operand by itself traps.
+pub case-6 :
+    let right = bind (dyadicOf 4 (int 7) (int 0)) (λ q. dyadicOf 7 q (int 1)) in
+    (appliedTo 13 (Vs.Bool false) right ≡ As.Val (Vs.Bool false)) × (right ≡ As.Trap Ts.Divisor)
+unfolding rows integers operators
+case-6 = (refl, refl)
+
+-- ---- types
 
 -- BOOLEAN, INTEGER, SET, a record of an INTEGER, and one that extends it by a SET
 abbrev pub types : List ℕ
@@ -43,5 +126,5 @@ pub case-7 :
     × (layoutOf types fields 4 ≡ 1 ∷ 2 ∷ [])
     × (extends types 4 3 ≡ true)
     × (extends types 3 4 ≡ false)
-unfolding computing
+unfolding rows shapes sizes
 case-7 = (refl, refl, refl, refl, refl, refl)

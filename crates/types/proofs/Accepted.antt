@@ -229,3 +229,7 @@ types-kept t f e =
       row = λ r h. row-kept t f r (sym (rule-low t f r h) ∙ kept r (omega arith));
       claimed = eqb-true _ _ (sym (rule-top t f) ∙ kept (rowsOf t) (omega arith));
     }
+
+-- every size is at most 4,096
+pub size-small : (t f : List ℕ) → TypesKept t f → (r : ℕ) → r < rowsOf t → sizeOf t f r ≤ 4096
+size-small t f kept r h = kept .row r h .small

@@ -50,7 +50,7 @@ module _ (size : ℕ → ℕ) (l m : List ℕ) where
   field-back j h =
       let whole : length l + j < length (l ++ m) = omega (arith, length-append l m) in
       let place : sum (map size (take (length l + j) (l ++ m))) ≡ sum (map size l) + sum (map size (take j m)) =
-        rw (take-append-add l m j, map-append size l (take j m)) (sum-append (map size l) (map size (take j m))) in
+      rw (take-append-add l m j, map-append size l (take j m)) (sum-append (map size l) (map size (take j m))) in
       choose-yes _ _ _ (lt-ltb (length l + j) (length (l ++ m)) whole) ∙ rw (place, getD-append-add l m j 0)
 
   field-past : (j : ℕ) → length m ≤ j → fieldIn size (l ++ m) (length l + j) ≡ Missing

@@ -120,9 +120,11 @@ module _ (t f : List ℕ) (kept : TypesKept t f) where
     where
       go : (rowAt t r .kind ≡ 4) ⊎ (rowAt t r .kind ≡ 4 → ⊥) → Part (layoutOf t f r) (sum (map (sizeOf t f) (take n (fieldsOf t f r)))) (layoutOf t f u)
       go (inl kind) =
-          rw (record-layout (suc r) r (omega arith) low kind,
+          rw (
+            record-layout (suc r) r (omega arith) low kind,
             ← length-joined (sizeOf t f) (layoutOf t f) (layout-length t f) (take n (fieldsOf t f r)),
-            ← take-map (layoutOf t f) n (fieldsOf t f r))
+            ← take-map (layoutOf t f) n (fieldsOf t f r),
+          )
           (part-joined (nth-map (layoutOf t f) h))
       go (inr other) = absurd (not-field r n u low other h)
 
@@ -132,5 +134,5 @@ module _ (t f : List ℕ) (kept : TypesKept t f) where
   element-layout r element n i low e h =
       let whole : layoutOf t f r ≡ joined (replicate n (layoutOf t f element)) = layout-is t f r (kept .row r low .shape) ∙ array-whole f (layoutOf t f) e in
       let place : length (joined (take i (replicate n (layoutOf t f element)))) ≡ i * sizeOf t f element =
-        joined-replicate i n (layoutOf t f element) (omega arith) ∙ ap (λ k. i * k) (layout-length t f element) in
+      joined-replicate i n (layoutOf t f element) (omega arith) ∙ ap (λ k. i * k) (layout-length t f element) in
       rw (whole, ← place) (part-joined (nth-replicate n i (layoutOf t f element) h))

@@ -1,5 +1,6 @@
 // The types table: question 4, the plan that it fills, fields and extension.
-use image::{Row, Verdict};
+use image::Row;
+use image::Verdict;
 ghost use mathlib.Core.Bool.{true};
 ghost use mathlib.Core.List.{map};
 ghost use mathlib.Core.Path.{_≡_};

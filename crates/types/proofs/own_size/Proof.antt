@@ -59,7 +59,7 @@ loop-again c = let s = c .before .before .before .before .before .before .before
     let l = c .before .before .before .before .loop in
     let size = c .cell .ensures ∙ ap (λ (x : Row). getD (now (s .args .plan)) (x .a) 0) (c .before .before .row-at .ensures) in
     let step = sum-step (now (s .args .f)) (l .i) (s .args .k + s .args .n) (λ r. getD (now (s .args .plan)) r 0)
-      (c .before .before .before .loop-test .taken) in
+    (c .before .before .before .loop-test .taken) in
     (omega arith, omega arith, omega arith, omega (arith, step, size, l .inv .3))
 
 returns : tie.Need-returns Inv-loop μ-loop

@@ -24,7 +24,7 @@ base-of-requires c κs = search needs
 inherited-requires : tie.Need-inherited-requires
 inherited-requires c κs = let s = c .before .before .before .before .before in
     let few : ofBase 0 (λ b. getD (now (s .args .plan)) (64 + b) 0) (c .before .base-of .result) ≤ 65535 =
-      rw (c .before .base-of .ensures) (few-inherited _ _ _ _ _ _ _ (s .pre)) in
+    rw (c .before .base-of .ensures) (few-inherited _ _ _ _ _ _ _ (s .pre)) in
     few
 
 base-size-requires : tie.Need-base-size-requires
@@ -37,7 +37,7 @@ plan-offsets-requires : tie.Need-plan-offsets-requires
 plan-offsets-requires c κs = let s = c .before .before .before .before .before .before .before .before .before .before in
     let base = c .before .before .base-size .ensures ∙ ap (λ a. ofBase 0 (λ r. getD (now (s .args .plan)) r 0) a) (c .before .before .before .before .before .before .base-of .ensures) in
     let fit : OffsetsFit (now (s .args .f)) (now (s .args .plan)) (s .args .used) (c .before .claimed .result) (c .before .before .base-size .result) =
-      rw (c .before .claimed .ensures, base) (offsets-fit _ _ _ _ _ _ _ (s .pre)) in
+    rw (c .before .claimed .ensures, base) (offsets-fit _ _ _ _ _ _ _ (s .pre)) in
     fit
 
 add-plan : tie.Need-add-plan
@@ -65,8 +65,8 @@ returns c = let s = c .before .before .before .before .before .before .before .b
     let base = c .before .before .before .before .before .base-size .ensures ∙ ap (λ a. ofBase 0 (λ r. getD (now (s .args .plan)) r 0) a) (c .before .before .before .before .before .before .before .before .before .base-of .ensures) in
     let places = rw (c .before .before .before .before .claimed .ensures, base) at (c .before .before .plan-offsets .ensures) in
     let count = c .before .before .before .before .before .before .before .inherited .ensures
-      ∙ ap (λ a. ofBase 0 (λ b. getD (now (s .args .plan)) (64 + b) 0 + rowAt (now (s .args .t)) b .c) a) (c .before .before .before .before .before .before .before .before .before .base-of .ensures)
-      ∙ inherited-is _ _ _ _ _ _ _ (s .pre) in
+    ∙ ap (λ a. ofBase 0 (λ b. getD (now (s .args .plan)) (64 + b) 0 + rowAt (now (s .args .t)) b .c) a) (c .before .before .before .before .before .before .before .before .before .base-of .ensures)
+    ∙ inherited-is _ _ _ _ _ _ _ (s .pre) in
     (plan-next _ _ _ _ _ _ _ (s .pre) _ _ places count, rest-next _ _ _ _ _ _ _ (s .pre) _ _ places count)
 
 pub plan-row-spec : {M : Type 1} → statement M

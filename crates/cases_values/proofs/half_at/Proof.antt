@@ -1,0 +1,29 @@
+-- `cases_values::half_at` meets its contract: two bytes make 16 bits.
+use Rattle.cases_values.specs.Cases.{halfAt}
+use borrow.Author.Needs.{needs}
+use Rattle.cases_values.proofs.half_at.Statement.{statement}
+use Rattle.cases_values.proofs.half_at.Tie as tie
+
+byte-at-requires : tie.Need-byte-at-requires
+byte-at-requires c κs = search needs
+
+mul-result : tie.Need-mul-result
+mul-result c = search needs
+
+add-byte-at : tie.Need-add-byte-at
+add-byte-at c = search needs
+
+byte-at-requires-2 : tie.Need-byte-at-requires-2
+byte-at-requires-2 c κs = search needs
+
+add-result : tie.Need-add-result
+add-result c = search needs
+
+returns : tie.Need-returns
+unfolding halfAt
+returns c = cc
+
+pub half-at-spec : {M : Type 1} → statement M
+half-at-spec =
+    tie.close
+    (tie.spec byte-at-requires mul-result add-byte-at byte-at-requires-2 add-result returns)

@@ -1,0 +1,9 @@
+pub mod Numbers
+pub mod Operands
+pub mod Division
+pub mod Cells
+pub mod Results
+pub mod Typed
+pub mod Ranges
+pub mod Skipping
+pub mod Members

@@ -1,0 +1,26 @@
+-- `values::multiply` meets its contract: a product of two INTEGERs fits 64 bits.
+use mathlib.Core.Path.{ap, _∙_}
+use Rattle.values.specs.Operators.{integerOf}
+use Rattle.values.proofs.Numbers.{cast-fits, product-holds}
+use borrow.Author.Needs.{needs}
+use Rattle.values.proofs.multiply.Statement.{statement}
+use Rattle.values.proofs.multiply.Tie as tie
+
+cast-integer : tie.Need-cast-integer
+cast-integer c = cast-fits _ (c .fits .x)
+
+cast-integer-2 : tie.Need-cast-integer-2
+cast-integer-2 c = cast-fits _ (c .fits .y)
+
+mul-integer : tie.Need-mul-integer
+mul-integer c = product-holds _ _ (c .fits .x) (c .fits .y) .fits
+
+integer-requires : tie.Need-integer-requires
+integer-requires c κs = search needs
+
+returns : tie.Need-returns
+returns c = c .integer .ensures ∙ ap integerOf (product-holds _ _ (c .before .fits .x) (c .before .fits .y) .same)
+
+pub multiply-spec : {M : Type 1} → statement M
+multiply-spec =
+    tie.close (tie.spec cast-integer cast-integer-2 mul-integer integer-requires returns)
