@@ -93,6 +93,15 @@ module _ (keeps : ℕ → Bool) where
       let w = h .within in
       fault-from n 0 r (omega arith) (omega arith) (h .fault) (record { each = λ j low high. h .lower j high })
 
+-- a loop over the rows that stops at the first fault
+module _ (keeps : ℕ → Bool) (n r : ℕ) (kept : KeptIn keeps 0 r) where
+  pub scan-bad : r < n → keeps r ≡ false → Fault r ≡ lowestFault keeps n
+  scan-bad h bad =
+      sym (fault-verdict keeps n r (record { within = h; fault = bad; lower = λ j low. kept .each j (omega arith) low }))
+
+  pub scan-end : n ≤ r → Kept ≡ lowestFault keeps n
+  scan-end h = sym (kept-verdict keeps n (λ j low. kept .each j (omega arith) (omega arith)))
+
 from-same : (f g : ℕ → Bool) (n k : ℕ) → ((j : ℕ) → k ≤ j → j < k + n → f j ≡ g j) → firstFrom f k n ≡ firstFrom g k n
 unfolding firstFrom
 from-same f g zero k h = refl

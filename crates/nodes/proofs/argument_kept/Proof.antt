@@ -1,0 +1,30 @@
+use Rattle.nodes.specs.Nodes.{argumentKept}
+use mathlib.Core.Path.{_≡_, refl, sym, _∙_, ap}
+use borrow.Author.Tests.{eq-eqb, ne-eqb, lt-ltb, le-ltb, le-leb, lt-leb, not-true, not-false}
+use Rattle.prelude.proofs.Choice.{also-left, also-right, also-pass}
+use borrow.Author.Needs.{needs}
+use Rattle.nodes.proofs.argument_kept.Statement.{statement}
+use Rattle.nodes.proofs.argument_kept.Tie as tie
+use Rattle.nodes.proofs.argument_kept.Reads as reads
+use Rattle.nodes.proofs.argument_kept.Lts as lts
+use Rattle.nodes.proofs.child_kept.Reads as child-kept-reads
+
+child-kept-requires : tie.Need-child-kept-requires
+child-kept-requires c κs = search needs
+
+returns : tie.Need-returns
+unfolding argumentKept
+returns c = sym (also-left _ (sym (c .before .child-kept .ensures) ∙ not-true _ (c .if1 .taken)))
+
+returns-2 : tie.Need-returns-2
+unfolding argumentKept
+returns-2 c = sym (also-right _ (also-left _ (ne-eqb _ _ (c .if2 .taken))))
+
+returns-3 : tie.Need-returns-3
+unfolding argumentKept
+returns-3 c = sym
+    (also-pass _ (sym (c .before .before .child-kept .ensures) ∙ not-false _ (c .before .if1 .left))
+    ∙ also-pass _ (eq-eqb _ _ (c .if2 .left)))
+
+pub argument-kept-spec : {M : Type 1} → statement M
+argument-kept-spec = tie.close (tie.spec child-kept-requires returns returns-2 returns-3)

@@ -1,0 +1,29 @@
+use Rattle.nodes.specs.Nodes.{variableKept}
+use mathlib.Core.Path.{_≡_, refl, sym, _∙_, ap}
+use borrow.Author.Tests.{eq-eqb, ne-eqb, lt-ltb, le-ltb, le-leb, lt-leb, not-true, not-false}
+use Rattle.prelude.proofs.Choice.{also-left, also-right, also-pass}
+use borrow.Author.Needs.{needs}
+use Rattle.nodes.proofs.variable_kept.Statement.{statement}
+use Rattle.nodes.proofs.variable_kept.Tie as tie
+use Rattle.nodes.proofs.variable_kept.Reads as reads
+use Rattle.nodes.proofs.variable_kept.Lts as lts
+
+cast-if1 : tie.Need-cast-if1
+cast-if1 c = search needs
+
+returns : tie.Need-returns
+unfolding variableKept
+returns c = sym (also-left _ (le-ltb _ _ (c .if1 .taken)))
+
+returns-2 : tie.Need-returns-2
+unfolding variableKept
+returns-2 c = sym (also-right _ (also-left _ (ne-eqb _ _ (c .if2 .taken))))
+
+returns-3 : tie.Need-returns-3
+unfolding variableKept
+returns-3 c = sym
+    (also-pass _ (lt-ltb _ _ (c .before .if1 .left))
+    ∙ also-pass _ (eq-eqb _ _ (c .if2 .left)))
+
+pub variable-kept-spec : {M : Type 1} → statement M
+variable-kept-spec = tie.close (tie.spec cast-if1 returns returns-2 returns-3)
