@@ -24,7 +24,7 @@ module _ (c : tie.Else1) where
   top = pow-mono {i = b} {j = 31} (omega arith)
 
   low : 2 ^ a ≤ 2 ^ b
-  low = pow-mono (c .if1 .left)
+  low = pow-mono {i = a} {j = b} (omega arith)
 
   above-is : (2 * 2 ^ b) % 18446744073709551616 ≡ 2 * 2 ^ b
   above-is = mod-eq-of-lt (omega (arith, top))

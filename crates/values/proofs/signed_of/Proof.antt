@@ -13,7 +13,7 @@ use Rattle.values.proofs.signed_of.Statement.{statement}
 use Rattle.values.proofs.signed_of.Tie as tie
 
 low : (c : tie.Else1) → SFits w32 (pos (c .before .args .n) -ℤ pos 4294967296)
-low c = record { sfits = minus-top (c .before .args .n) (c .if1 .left) (omega arith) }
+low c = record { sfits = minus-top (c .before .args .n) (omega arith) (omega arith) }
 
 is : (c : tie.Else1) → toZ w64 (c .before .args .n) ≡ pos (c .before .args .n)
 is c = of-nat64 (c .before .args .n) (omega arith)
