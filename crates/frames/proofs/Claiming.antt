@@ -47,11 +47,11 @@ claimed-none v p s first e = record {
   few = rw e (globals-within v);
 }
 
-rule-low : (v p s : List ℕ) (r : ℕ) → r < rowsOf p → procedureRule v p s r ≡ procedureKept v p s r
+pub rule-low : (v p s : List ℕ) (r : ℕ) → r < rowsOf p → procedureRule v p s r ≡ procedureKept v p s r
 unfolding procedureRule
 rule-low v p s r h = choose-yes _ _ _ (lt-ltb r (rowsOf p) h)
 
-rule-top : (v p s : List ℕ) → procedureRule v p s (rowsOf p) ≡ eqb (firstVariable v p (rowsOf p)) (rowsOf v)
+pub rule-top : (v p s : List ℕ) → procedureRule v p s (rowsOf p) ≡ eqb (firstVariable v p (rowsOf p)) (rowsOf v)
 unfolding procedureRule
 rule-top v p s = choose-no _ _ _ (le-ltb (rowsOf p) (rowsOf p) (omega arith))
 
