@@ -1,5 +1,6 @@
 // Variables and procedures: questions 5 and 6.
-use image::{Row, Verdict};
+use image::Row;
+use image::Verdict;
 ghost use mathlib.Core.Bool.{true, false};
 ghost use mathlib.Core.Path.{_≡_};
 ghost use Prim.Native.Nat.{ℕ, _+_, _≤_, _<_};

@@ -1,5 +1,6 @@
 // Nodes and statements: questions 7 and 8.
-use image::{Row, Verdict};
+use image::Row;
+use image::Verdict;
 ghost use mathlib.Core.Path.{_≡_};
 ghost use Prim.Native.Nat.{ℕ, _+_, _≤_, _<_};
 ghost use lib.ListN.{length};

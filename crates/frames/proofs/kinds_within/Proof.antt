@@ -48,9 +48,12 @@ loop-less c = omega arith
 
 loop-again : tie.Need-loop-again Inv-loop μ-loop
 unfolding kindWithin
-loop-again c = let l = c .before .before .before .before .loop in
-    (omega arith, omega arith, kept-next (kindWithin _ _ _) _ _ (l .inv .2)
-    (rw (← c .before .before .row-at .ensures) (also-yes (le-leb _ _ (c .before .if1 .left)) (le-leb _ _ (c .if2 .left)))))
+loop-again c = let l = c .before .before .before .before .loop in (
+  omega arith,
+  omega arith,
+  kept-next (kindWithin _ _ _) _ _ (l .inv .2)
+      (rw (← c .before .before .row-at .ensures) (also-yes (le-leb _ _ (c .before .if1 .left)) (le-leb _ _ (c .if2 .left)))),
+)
 
 returns-3 : tie.Need-returns-3 Inv-loop μ-loop
 returns-3 c = let l = c .before .loop in
