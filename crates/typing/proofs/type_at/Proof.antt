@@ -1,0 +1,26 @@
+use Rattle.typing.specs.Typing.{typeIn}
+use Rattle.prelude.proofs.Choice.{choose-yes, choose-no}
+use borrow.Author.Tests.{lt-ltb, le-ltb}
+use mathlib.Core.Path.{_≡_, refl, sym, _∙_, ap}
+use borrow.Author.Needs.{needs}
+use Rattle.typing.proofs.type_at.Statement.{statement}
+use Rattle.typing.proofs.type_at.Tie as tie
+use Rattle.typing.proofs.type_at.Reads as reads
+use Rattle.typing.proofs.type_at.Lts as lts
+
+mul-t6 : tie.Need-mul-t6
+mul-t6 c = search needs
+
+shared-slice-read-t8 : tie.Need-shared-slice-read-t8
+shared-slice-read-t8 c = search needs
+
+returns : tie.Need-returns
+unfolding typeIn
+returns c = sym (choose-yes _ _ _ (lt-ltb _ _ (c .before .if1 .taken)))
+
+returns-2 : tie.Need-returns-2
+unfolding typeIn
+returns-2 c = sym (choose-no _ _ _ (le-ltb _ _ (c .if1 .left)))
+
+pub type-at-spec : {M : Type 1} → statement M
+type-at-spec = tie.close (tie.spec mul-t6 shared-slice-read-t8 returns returns-2)
