@@ -21,13 +21,22 @@ fn variable_span(v: &[u8], a: u16) -> Span
     let row = image::row_at(v, a as usize);
     let kind = row.kind;
     if kind == 0 {
-        return Span { least: 65535, past: 0 };
+        return Span {
+            least: 65535,
+            past: 0,
+        };
     }
     if a as usize >= image::rows_of(v) {
-        return Span { least: 0, past: 65535 };
+        return Span {
+            least: 0,
+            past: 65535,
+        };
     }
     let past = a + 1;
-    Span { least: a, past: past }
+    Span {
+        least: a,
+        past: past,
+    }
 }
 
 fn lesser(x: u16, y: u16) -> u16
@@ -47,30 +56,41 @@ fn join_span(x: Span, y: Span) -> Span
 {
     let least = lesser(x.least, y.least);
     let past = greater(x.past, y.past);
-    Span { least: least, past: past }
+    Span {
+        least: least,
+        past: past,
+    }
 }
 
 // The span of node k in tables of the lower rows' spans.
-fn span_at(least: &[u16], past: &[u16], k: u16) -> Span
+fn span_at(least: &[u16], past: &[u16], k: usize) -> Span
     ensures { λ x. ⌜ x ≡ spanIn (now (least .entry)) (now (past .entry)) k ⌝ }
 {
-    let node = k as usize;
-    if least.len() <= node {
-        return Span { least: 65535, past: 0 };
+    if least.len() <= k {
+        return Span {
+            least: 65535,
+            past: 0,
+        };
     }
-    if past.len() <= node {
-        return Span { least: 65535, past: 0 };
+    if past.len() <= k {
+        return Span {
+            least: 65535,
+            past: 0,
+        };
     }
-    let low = least[node];
-    let high = past[node];
-    Span { least: low, past: high }
+    let low = least[k];
+    let high = past[k];
+    Span {
+        least: low,
+        past: high,
+    }
 }
 
 fn both_spans(least: &[u16], past: &[u16], a: u16, b: u16) -> Span
     ensures { λ x. ⌜ x ≡ joinSpan (spanIn (now (least .entry)) (now (past .entry)) a) (spanIn (now (least .entry)) (now (past .entry)) b) ⌝ }
 {
-    let left = span_at(least, past, a);
-    let right = span_at(least, past, b);
+    let left = span_at(least, past, a as usize);
+    let right = span_at(least, past, b as usize);
     join_span(left, right)
 }
 
@@ -82,14 +102,17 @@ fn node_span(v: &[u8], least: &[u16], past: &[u16], row: Row) -> Span
     let kind = row.kind;
     match kind {
         1 => variable_span(v, row.a),
-        2 => span_at(least, past, row.a),
+        2 => span_at(least, past, row.a as usize),
         3 => both_spans(least, past, row.a, row.b),
         4 => variable_span(v, row.a),
         5 => both_spans(least, past, row.a, row.b),
-        6 => span_at(least, past, row.a),
+        6 => span_at(least, past, row.a as usize),
         7 => variable_span(v, row.a),
-        8 => span_at(least, past, row.a),
-        _ => Span { least: 65535, past: 0 },
+        8 => span_at(least, past, row.a as usize),
+        _ => Span {
+            least: 65535,
+            past: 0,
+        },
     }
 }
 
@@ -112,7 +135,7 @@ pub fn fill_spans(v: &[u8], n: &[u8], least: &mut [u16], past: &mut [u16])
 }
 
 // Whether the span of node k lies among the variables from `first` on and below `next`.
-pub fn is_within(least: &[u16], past: &[u16], first: u32, next: u32, k: u16) -> bool
+pub fn is_within(least: &[u16], past: &[u16], first: u32, next: u32, k: usize) -> bool
     ensures { λ x. ⌜ x ≡ liesWithin first next (spanIn (now (least .entry)) (now (past .entry)) k) ⌝ }
 {
     let span = span_at(least, past, k);

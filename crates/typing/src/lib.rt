@@ -14,12 +14,11 @@ ghost use Rattle.typing.specs.Typing.{typeIn, variableNode, fieldNode, e
 ghost use Rattle.typing.specs.Typing.{dyadicNode, monadicNode, typeBy, typeOf, passed, Typed, question10};
 
 // The type of node k in a table of the lower rows' types.
-pub fn type_at(types: &[u16], k: u16) -> KindAnswer
+pub fn type_at(types: &[u16], k: usize) -> KindAnswer
     ensures { λ x. ⌜ x ≡ typeIn (now (types .entry)) k ⌝ }
 {
-    let node = k as usize;
-    if node < types.len() {
-        return KindAnswer::Kind(types[node]);
+    if k < types.len() {
+        return KindAnswer::Kind(types[k]);
     }
     KindAnswer::Untyped
 }
@@ -30,7 +29,7 @@ fn field_node(t: &[u8], f: &[u8], plan: &[u32], types: &[u16], row: Row) -> Kind
 {
     let a = row.a;
     let b = row.b;
-    let KindAnswer::Kind(whole) = type_at(types, a) else {
+    let KindAnswer::Kind(whole) = type_at(types, a as usize) else {
         return KindAnswer::Untyped;
     };
     match types::field(t, f, plan, whole, b) {
@@ -44,10 +43,10 @@ fn element_node(t: &[u8], types: &[u16], row: Row) -> KindAnswer
 {
     let a = row.a;
     let b = row.b;
-    let KindAnswer::Kind(whole) = type_at(types, a) else {
+    let KindAnswer::Kind(whole) = type_at(types, a as usize) else {
         return KindAnswer::Untyped;
     };
-    let KindAnswer::Kind(index) = type_at(types, b) else {
+    let KindAnswer::Kind(index) = type_at(types, b as usize) else {
         return KindAnswer::Untyped;
     };
     let array = image::row_at(t, whole as usize);
@@ -97,10 +96,10 @@ fn dyadic_node(types: &[u16], row: Row) -> KindAnswer
     let a = row.a;
     let b = row.b;
     let c = row.c;
-    let KindAnswer::Kind(left) = type_at(types, a) else {
+    let KindAnswer::Kind(left) = type_at(types, a as usize) else {
         return KindAnswer::Untyped;
     };
-    let KindAnswer::Kind(right) = type_at(types, b) else {
+    let KindAnswer::Kind(right) = type_at(types, b as usize) else {
         return KindAnswer::Untyped;
     };
     values::dyadic_kind(c, left, right)
@@ -111,7 +110,7 @@ fn monadic_node(types: &[u16], row: Row) -> KindAnswer
 {
     let a = row.a;
     let c = row.c;
-    let KindAnswer::Kind(operand) = type_at(types, a) else {
+    let KindAnswer::Kind(operand) = type_at(types, a as usize) else {
         return KindAnswer::Untyped;
     };
     values::monadic_kind(c, operand)
@@ -140,7 +139,7 @@ fn node_type(t: &[u8], f: &[u8], plan: &[u32], v: &[u8], types: &[u16], row: Row
         5 => dyadic_node(types, row),
         6 => monadic_node(types, row),
         7 => narrow_node(t, v, row, 0),
-        8 => type_at(types, row.a),
+        8 => type_at(types, row.a as usize),
         _ => KindAnswer::Untyped,
     }
 }

@@ -16,6 +16,9 @@ use Rattle.owners.proofs.variable_span.Reads as variable-span-reads
 variable-span-requires : tie.Need-variable-span-requires
 variable-span-requires c κs = search needs
 
+cast-span-at : tie.Need-cast-span-at
+cast-span-at c = search needs
+
 span-at-requires : tie.Need-span-at-requires
 span-at-requires c κs = search needs
 
@@ -28,11 +31,17 @@ variable-span-requires-2 c κs = search needs
 both-spans-requires-2 : tie.Need-both-spans-requires-2
 both-spans-requires-2 c κs = search needs
 
+cast-span-at-2 : tie.Need-cast-span-at-2
+cast-span-at-2 c = search needs
+
 span-at-requires-2 : tie.Need-span-at-requires-2
 span-at-requires-2 c κs = search needs
 
 variable-span-requires-3 : tie.Need-variable-span-requires-3
 variable-span-requires-3 c κs = search needs
+
+cast-span-at-3 : tie.Need-cast-span-at-3
+cast-span-at-3 c = search needs
 
 span-at-requires-3 : tie.Need-span-at-requires-3
 span-at-requires-3 c κs = search needs
@@ -44,8 +53,8 @@ returns c = let s = c .before .before .before .before .before .args in
 
 returns-2 : tie.Need-returns-2
 unfolding gather choose
-returns-2 c = let s = c .before .before .before .before .before .args in
-    c .span-at .ensures ∙ sym (ap (λ (j : ℕ). gather noSpan (variableSpan (now (s .v))) joinSpan (spanIn (now (s .least)) (now (s .past))) j (s .row)) (c .before .match .keys2))
+returns-2 c = let s = c .before .before .before .before .before .before .args in
+    c .span-at .ensures ∙ sym (ap (λ (j : ℕ). gather noSpan (variableSpan (now (s .v))) joinSpan (spanIn (now (s .least)) (now (s .past))) j (s .row)) (c .before .before .match .keys2))
 
 returns-3 : tie.Need-returns-3
 unfolding gather choose
@@ -64,8 +73,8 @@ returns-5 c = let s = c .before .before .before .before .before .args in
 
 returns-6 : tie.Need-returns-6
 unfolding gather choose
-returns-6 c = let s = c .before .before .before .before .before .args in
-    c .span-at2 .ensures ∙ sym (ap (λ (j : ℕ). gather noSpan (variableSpan (now (s .v))) joinSpan (spanIn (now (s .least)) (now (s .past))) j (s .row)) (c .before .match .keys6))
+returns-6 c = let s = c .before .before .before .before .before .before .args in
+    c .span-at2 .ensures ∙ sym (ap (λ (j : ℕ). gather noSpan (variableSpan (now (s .v))) joinSpan (spanIn (now (s .least)) (now (s .past))) j (s .row)) (c .before .before .match .keys6))
 
 returns-7 : tie.Need-returns-7
 unfolding gather choose
@@ -74,8 +83,8 @@ returns-7 c = let s = c .before .before .before .before .before .args in
 
 returns-8 : tie.Need-returns-8
 unfolding gather choose
-returns-8 c = let s = c .before .before .before .before .before .args in
-    c .span-at3 .ensures ∙ sym (ap (λ (j : ℕ). gather noSpan (variableSpan (now (s .v))) joinSpan (spanIn (now (s .least)) (now (s .past))) j (s .row)) (c .before .match .keys8))
+returns-8 c = let s = c .before .before .before .before .before .before .args in
+    c .span-at3 .ensures ∙ sym (ap (λ (j : ℕ). gather noSpan (variableSpan (now (s .v))) joinSpan (spanIn (now (s .least)) (now (s .past))) j (s .row)) (c .before .before .match .keys8))
 
 returns-9 : tie.Need-returns-9
 unfolding gather choose
@@ -86,12 +95,15 @@ node-span-spec =
     tie.close
     (tie.spec
     variable-span-requires
+    cast-span-at
     span-at-requires
     both-spans-requires
     variable-span-requires-2
     both-spans-requires-2
+    cast-span-at-2
     span-at-requires-2
     variable-span-requires-3
+    cast-span-at-3
     span-at-requires-3
     returns
     returns-2

@@ -9,6 +9,9 @@ use Rattle.typing.proofs.element_node.Lts as lts
 use Rattle.image.proofs.row_at.Reads as row-at-reads
 use Rattle.typing.proofs.type_at.Reads as type-at-reads
 
+cast-type-at : tie.Need-cast-type-at
+cast-type-at c = search needs
+
 type-at-requires : tie.Need-type-at-requires
 type-at-requires c κs = search needs
 
@@ -21,6 +24,9 @@ enum-told c = search needs
 returns : tie.Need-returns
 unfolding elementNode
 returns c = sym (typed-none _ _ (sym (c .before .before .type-at .ensures) ∙ c .enum-told .given .1))
+
+cast-type-at-2 : tie.Need-cast-type-at-2
+cast-type-at-2 c = search needs
 
 type-at-requires-2 : tie.Need-type-at-requires-2
 type-at-requires-2 c κs = search needs
@@ -66,10 +72,12 @@ pub element-node-spec : {M : Type 1} → statement M
 element-node-spec =
     tie.close
     (tie.spec
+    cast-type-at
     type-at-requires
     enum-known-whole
     enum-told
     returns
+    cast-type-at-2
     type-at-requires-2
     enum-known-index
     enum-told-2

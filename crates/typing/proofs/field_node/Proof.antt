@@ -9,6 +9,9 @@ use Rattle.typing.proofs.field_node.Lts as lts
 use Rattle.types.proofs.field.Reads as field-reads
 use Rattle.typing.proofs.type_at.Reads as type-at-reads
 
+cast-type-at : tie.Need-cast-type-at
+cast-type-at c = search needs
+
 type-at-requires : tie.Need-type-at-requires
 type-at-requires c κs = search needs
 
@@ -49,6 +52,7 @@ pub field-node-spec : {M : Type 1} → statement M
 field-node-spec =
     tie.close
     (tie.spec
+    cast-type-at
     type-at-requires
     enum-known-whole
     enum-told

@@ -9,6 +9,9 @@ use Rattle.typing.proofs.monadic_node.Lts as lts
 use Rattle.typing.proofs.type_at.Reads as type-at-reads
 use Rattle.values.proofs.monadic_kind.Reads as monadic-kind-reads
 
+cast-type-at : tie.Need-cast-type-at
+cast-type-at c = search needs
+
 type-at-requires : tie.Need-type-at-requires
 type-at-requires c κs = search needs
 
@@ -33,6 +36,7 @@ pub monadic-node-spec : {M : Type 1} → statement M
 monadic-node-spec =
     tie.close
     (tie.spec
+    cast-type-at
     type-at-requires
     enum-known-operand
     enum-told

@@ -38,6 +38,9 @@ monadic-node-requires c κs = search needs
 narrow-node-requires-2 : tie.Need-narrow-node-requires-2
 narrow-node-requires-2 c κs = search needs
 
+cast-type-at : tie.Need-cast-type-at
+cast-type-at c = search needs
+
 type-at-requires : tie.Need-type-at-requires
 type-at-requires c κs = search needs
 
@@ -83,8 +86,8 @@ returns-8 c = let s = c .before .before .before .before .before .before .before 
 
 returns-9 : tie.Need-returns-9
 unfolding typeBy choose
-returns-9 c = let s = c .before .before .before .before .before .before .before .args in
-    c .type-at .ensures ∙ sym (ap (λ (j : ℕ). typeBy (now (s .t)) (now (s .f)) (now (s .v)) (typeIn (now (s .types))) j (s .row)) (c .before .match .keys9))
+returns-9 c = let s = c .before .before .before .before .before .before .before .before .args in
+    c .type-at .ensures ∙ sym (ap (λ (j : ℕ). typeBy (now (s .t)) (now (s .f)) (now (s .v)) (typeIn (now (s .types))) j (s .row)) (c .before .before .match .keys9))
 
 returns-10 : tie.Need-returns-10
 unfolding typeBy choose
@@ -101,6 +104,7 @@ node-type-spec =
     dyadic-node-requires
     monadic-node-requires
     narrow-node-requires-2
+    cast-type-at
     type-at-requires
     returns
     returns-2

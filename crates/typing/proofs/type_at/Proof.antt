@@ -8,11 +8,11 @@ use Rattle.typing.proofs.type_at.Tie as tie
 use Rattle.typing.proofs.type_at.Reads as reads
 use Rattle.typing.proofs.type_at.Lts as lts
 
-mul-t6 : tie.Need-mul-t6
-mul-t6 c = search needs
+mul-t5 : tie.Need-mul-t5
+mul-t5 c = search needs
 
-shared-slice-read-t8 : tie.Need-shared-slice-read-t8
-shared-slice-read-t8 c = search needs
+shared-slice-read-t7 : tie.Need-shared-slice-read-t7
+shared-slice-read-t7 c = search needs
 
 returns : tie.Need-returns
 unfolding typeIn
@@ -23,4 +23,4 @@ unfolding typeIn
 returns-2 c = sym (choose-no _ _ _ (le-ltb _ _ (c .if1 .left)))
 
 pub type-at-spec : {M : Type 1} → statement M
-type-at-spec = tie.close (tie.spec mul-t6 shared-slice-read-t8 returns returns-2)
+type-at-spec = tie.close (tie.spec mul-t5 shared-slice-read-t7 returns returns-2)
