@@ -12,7 +12,7 @@ use lib.ListN.{length, getD, set, take, replicate, length-set, length-append, le
 use lib.Seq.{getD-set-same, getD-set-other, set-out}
 use Rattle.prelude.specs.Choice.{choose}
 use Rattle.prelude.specs.Parts.{sum}
-use Rattle.names.specs.Spans.{beginsIn, nodePasts, statementPasts, counted, countAll, Within, inOne}
+use Rattle.names.specs.Spans.{allBegins, allNodePasts, allStatementPasts, counted, countAll, Within, inOne}
 use Rattle.image.specs.Rows.{rowsOf}
 use Rattle.image.specs.Faults.{lowestFault}
 use Rattle.image.proofs.Faults.{verdict-same}
@@ -159,10 +159,10 @@ module _ (size : ℕ) (names xs ys : List ℕ) (balanced : Balanced names xs ys)
 
 -- one span for each row, where both tables have counted all nodes and then all statements, is question 9's answer
 pub spans-verdict : (size : ℕ) (n p s : List ℕ) → rowsOf n ≤ size → {b e b′ e′ : List ℕ}
-    → b ≡ countAll (replicate size 0) (namesFrom (beginsIn n) 0 (rowsOf n))
-    → e ≡ countAll (replicate size 0) (namesFrom (nodePasts n) 0 (rowsOf n))
-    → b′ ≡ countAll b (namesFrom (beginsIn s) 0 (rowsOf s))
-    → e′ ≡ countAll e (namesFrom (statementPasts p s) 0 (rowsOf s))
+    → b ≡ countAll (replicate size 0) (allBegins n)
+    → e ≡ countAll (replicate size 0) (allNodePasts n)
+    → b′ ≡ countAll b (allBegins s)
+    → e′ ≡ countAll e (allStatementPasts p s)
     → lowestFault (inOne b′ e′) (rowsOf n) ≡ question9 n p s
 unfolding question9
 spans-verdict size n p s few x y z w =

@@ -16,6 +16,7 @@ use Rattle.image.specs.Rows.{rowAt, rowsOf}
 use Rattle.names.specs.declared.Reach.{Reach}
 use Rattle.names.specs.Names.{namesOfNode, namesOfStatement, rowsFrom, namesFrom, namesIn, countIn}
 use Rattle.names.specs.Spans.{reach, nodeReach, statementReach, begins, pasts, beginsIn, nodePasts, statementPasts}
+use Rattle.names.specs.Spans.{allBegins, allNodePasts, allStatementPasts}
 
 -- ---- rows one after the other
 
@@ -152,6 +153,7 @@ statement-names p row = go (eqb (row .kind) 0) (eqb (row .kind) 1) (eqb (row .ki
   where
     called : List ℕ
     called = rowsFrom (row .b) (rowAt p (row .a) .b)
+
     go : (assign call jump read write halt : Bool)
         → reached row (choose assign (reach 1 1) (choose call (reach 0 (rowAt p (row .a) .b)) (choose jump (reach 1 0) (choose read (reach 1 0) (choose write (reach 1 0) (choose halt (reach 1 0) (reach 0 0)))))))
         ≡ choose assign (row .a ∷ row .b ∷ []) (choose call called (choose jump (row .a ∷ []) (choose read (row .a ∷ []) (choose write (row .a ∷ []) (choose halt (row .a ∷ []) [])))))
@@ -175,9 +177,8 @@ unfolding beginsIn statementPasts
 statement-balanced p s i =
     rw (statement-names p (rowAt s i)) at (row-balanced (rowAt s i) (statementReach p (rowAt s i .kind) (rowAt s i)))
 
-pub names-balanced : (n p s : List ℕ) → Balanced (namesIn n p s)
-    (namesFrom (beginsIn n) 0 (rowsOf n) ++ namesFrom (beginsIn s) 0 (rowsOf s))
-    (namesFrom (nodePasts n) 0 (rowsOf n) ++ namesFrom (statementPasts p s) 0 (rowsOf s))
+pub names-balanced : (n p s : List ℕ)
+    → Balanced (namesIn n p s) (allBegins n ++ allBegins s) (allNodePasts n ++ allStatementPasts p s)
 unfolding namesIn
 names-balanced n p s =
     balanced-both (balanced-rows _ _ _ (node-balanced n) 0 (rowsOf n)) (balanced-rows _ _ _ (statement-balanced p s) 0 (rowsOf s))

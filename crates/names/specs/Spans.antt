@@ -8,8 +8,9 @@ use lib.ListN.{getD, set, take}
 use Rattle.prelude.specs.Choice.{choose}
 use Rattle.prelude.specs.Parts.{sum}
 use Rattle.image.specs.declared.Row.{Row}
-use Rattle.image.specs.Rows.{rowAt}
+use Rattle.image.specs.Rows.{rowAt, rowsOf}
 use Rattle.names.specs.declared.Reach.{Reach}
+use Rattle.names.specs.Names.{namesFrom}
 
 -- how many node rows a row names from its a on, and how many from its b on
 abbrev pub reach : ℕ → ℕ → Reach
@@ -50,6 +51,16 @@ nodePasts n i = pasts (rowAt n i) (nodeReach (rowAt n i .kind))
 
 unfoldable pub statementPasts : List ℕ → List ℕ → ℕ → List ℕ
 statementPasts p s i = pasts (rowAt s i) (statementReach p (rowAt s i .kind) (rowAt s i))
+
+-- of all rows of a table
+abbrev pub allBegins : List ℕ → List ℕ
+allBegins t = namesFrom (beginsIn t) 0 (rowsOf t)
+
+abbrev pub allNodePasts : List ℕ → List ℕ
+allNodePasts n = namesFrom (nodePasts n) 0 (rowsOf n)
+
+abbrev pub allStatementPasts : List ℕ → List ℕ → List ℕ
+allStatementPasts p s = namesFrom (statementPasts p s) 0 (rowsOf s)
 
 -- a table of counts after one more in row k, and after one more in each of the rows; there may be no such row
 unfoldable pub counted : List ℕ → ℕ → List ℕ

@@ -2,12 +2,13 @@
 use image::Row;
 use image::Verdict;
 ghost use mathlib.Core.Path.{_≡_};
-ghost use Prim.Native.Nat.{ℕ, _+_, _≤_, _<_};
+ghost use Prim.Native.Nat.{_+_, _≤_, _<_};
 ghost use lib.ListN.{length, getD};
 ghost use Rattle.image.specs.Faults.{lowestFault};
-ghost use Rattle.image.specs.Rows.{rowAt, rowsOf};
-ghost use Rattle.names.specs.Names.{namesFrom, question9};
-ghost use Rattle.names.specs.Spans.{nodeReach, statementReach, begins, pasts, beginsIn, nodePasts, statementPasts, counted, countAll, Within, inOne};
+ghost use Rattle.image.specs.Rows.{rowsOf};
+ghost use Rattle.names.specs.Names.{question9};
+ghost use Rattle.names.specs.Spans.{nodeReach, statementReach, begins, pasts};
+ghost use Rattle.names.specs.Spans.{allBegins, allNodePasts, allStatementPasts, counted, countAll, Within, inOne};
 
 // How many node rows a row names from its a on, and how many from its b on.
 struct Reach {
@@ -34,7 +35,10 @@ fn call_reach(p: &[u8], row: Row) -> Reach
     let a = row.a as usize;
     let called = image::row_at(p, a);
     let parameters = called.b;
-    Reach { a: 0, b: parameters }
+    Reach {
+        a: 0,
+        b: parameters,
+    }
 }
 
 fn statement_reach(p: &[u8], row: Row) -> Reach
@@ -88,8 +92,8 @@ fn count_row(starts: &mut [u16], ends: &mut [u16], row: Row, reach: Reach)
 // The spans of all nodes.
 fn count_nodes(n: &[u8], starts: &mut [u16], ends: &mut [u16])
     requires { ⌜ (rowsOf (now n) ≤ 2048) × Within (now starts) 8192 × Within (now ends) 8192 ⌝ }
-    ensures { λ _. ⌜ now (starts .exit) ≡ countAll (now (starts .entry)) (namesFrom (beginsIn (now (n .entry))) 0 (rowsOf (now (n .entry)))) ⌝ }
-    ensures { λ _. ⌜ now (ends .exit) ≡ countAll (now (ends .entry)) (namesFrom (nodePasts (now (n .entry))) 0 (rowsOf (now (n .entry)))) ⌝ }
+    ensures { λ _. ⌜ now (starts .exit) ≡ countAll (now (starts .entry)) (allBegins (now (n .entry))) ⌝ }
+    ensures { λ _. ⌜ now (ends .exit) ≡ countAll (now (ends .entry)) (allNodePasts (now (n .entry))) ⌝ }
 {
     let nodes = image::rows_of(n);
     let mut i: usize = 0;
@@ -104,8 +108,8 @@ fn count_nodes(n: &[u8], starts: &mut [u16], ends: &mut [u16])
 // The spans of all statements.
 fn count_statements(p: &[u8], s: &[u8], starts: &mut [u16], ends: &mut [u16])
     requires { ⌜ (rowsOf (now s) ≤ 1024) × Within (now starts) 8192 × Within (now ends) 8192 ⌝ }
-    ensures { λ _. ⌜ now (starts .exit) ≡ countAll (now (starts .entry)) (namesFrom (beginsIn (now (s .entry))) 0 (rowsOf (now (s .entry)))) ⌝ }
-    ensures { λ _. ⌜ now (ends .exit) ≡ countAll (now (ends .entry)) (namesFrom (statementPasts (now (p .entry)) (now (s .entry))) 0 (rowsOf (now (s .entry)))) ⌝ }
+    ensures { λ _. ⌜ now (starts .exit) ≡ countAll (now (starts .entry)) (allBegins (now (s .entry))) ⌝ }
+    ensures { λ _. ⌜ now (ends .exit) ≡ countAll (now (ends .entry)) (allStatementPasts (now (p .entry)) (now (s .entry))) ⌝ }
 {
     let statements = image::rows_of(s);
     let mut i: usize = 0;
@@ -117,7 +121,7 @@ fn count_statements(p: &[u8], s: &[u8], starts: &mut [u16], ends: &mut [u16])
     }
 }
 
-// Whether each of the rows is in one span.
+// Whether each of the rows is in exactly one span.
 fn each_in_one(starts: &[u16], ends: &[u16], rows: usize) -> Verdict
     requires { ⌜ (rows ≤ 2048) × (rows ≤ length (now starts)) × (rows ≤ length (now ends)) ⌝ }
     ensures { λ x. ⌜ x ≡ lowestFault (inOne (now (starts .entry)) (now (ends .entry))) rows ⌝ }
@@ -126,6 +130,7 @@ fn each_in_one(starts: &[u16], ends: &[u16], rows: usize) -> Verdict
     let mut ended: usize = 0;
     let mut k: usize = 0;
     while k < rows {
+        let next = k + 1;
         let begin = starts[k];
         let end = ends[k];
         begun = begun + begin as usize;
@@ -135,7 +140,7 @@ fn each_in_one(starts: &[u16], ends: &[u16], rows: usize) -> Verdict
             let bad = k as u16;
             return Verdict::Fault(bad);
         }
-        k = k + 1;
+        k = next;
     }
     Verdict::Kept
 }

@@ -29,6 +29,9 @@ loop-holds : tie.Need-loop-holds Inv-loop μ-loop
 unfolding sum
 loop-holds c = (omega arith, omega arith, omega arith, refl, refl, kept-none _ _)
 
+add-next : tie.Need-add-next Inv-loop μ-loop
+add-next c = omega arith
+
 mul-begin : tie.Need-mul-begin Inv-loop μ-loop
 mul-begin c = search needs
 
@@ -65,10 +68,7 @@ returns c = let l = c .before .before .before .before .loop in
     let (most, low, high) = c .before .before .before .before .before .pre in
     let b = walk-sum (now (s .starts)) (l .k) (omega arith) (l .inv .3) in
     let e = walk-sum (now (s .ends)) (l .k) (omega arith) (l .inv .4) in
-    scan-bad _ _ _ (l .inv .5) (c .before .before .before .loop-test .taken) (walk-bad _ _ _ b e (c .if1 .taken))
-
-add-k : tie.Need-add-k Inv-loop μ-loop
-add-k c = omega arith
+    scan-bad _ _ _ (l .inv .5) (c .before .before .before .loop-test .taken) (walk-bad _ _ _ b e (omega arith))
 
 loop-less : tie.Need-loop-less Inv-loop μ-loop
 loop-less c = omega arith
@@ -81,7 +81,7 @@ loop-again c = let l = c .before .before .before .before .loop in
     let e = walk-sum (now (s .ends)) (l .k) (omega arith) (l .inv .4) in
     let x = c .before .before .shared-slice-known .given (l .k) in
     let y = c .before .shared-slice-known2 .given (l .k) in
-    (omega arith, omega (arith, x), omega (arith, y), b, e, kept-next _ _ _ (l .inv .5) (walk-good _ _ _ b e (c .if1 .left)))
+    (omega arith, omega (arith, x), omega (arith, y), b, e, kept-next _ _ _ (l .inv .5) (walk-good _ _ _ b e (omega arith)))
 
 returns-2 : tie.Need-returns-2 Inv-loop μ-loop
 returns-2 c = scan-end _ _ _ (c .before .loop .inv .5) (c .loop-test .left)
@@ -93,6 +93,7 @@ each-in-one-spec =
     Inv-loop
     μ-loop
     loop-holds
+    add-next
     mul-begin
     shared-slice-read-begin
     mul-end
@@ -104,7 +105,6 @@ each-in-one-spec =
     add-once
     cast-bad
     returns
-    add-k
     loop-less
     loop-again
     returns-2)
