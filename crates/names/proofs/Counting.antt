@@ -1,22 +1,22 @@
 -- Laws of the tables of counts.
 use mathlib.Core.Path.{_≡_, refl, sym, _∙_, ap}
 use mathlib.Core.List.{List, [], _∷_, _++_}
-use mathlib.Core.Bool.{Bool, true, false}
+use mathlib.Core.Bool.{true, false}
 use Prim.Native.Nat.{ℕ, zero, suc, _+_, _*_, _≤_, _<_}
 use native.Mathlib.Omega.{arith}
 use native.Mathlib.Numerals.{add-one}
 use native.Mathlib.Decide.{decLt, ℕ-discrete}
 use borrow.Author.Tests.{lt-ltb, le-ltb, eq-eqb, ne-eqb}
 use lib.Dec.{ltb, eqb}
-use lib.ListN.{length, getD, set, take, replicate, length-set, length-append, length-replicate, getD-replicate}
+use lib.ListN.{length, getD, set, take, replicate, length-set, length-replicate}
 use lib.Seq.{getD-set-same, getD-set-other, set-out}
 use Rattle.prelude.specs.Choice.{choose}
 use Rattle.prelude.specs.Parts.{sum}
-use Rattle.names.specs.Spans.{allBegins, allNodePasts, allStatementPasts, counted, countAll, Within, inOne}
 use Rattle.image.specs.Rows.{rowsOf}
 use Rattle.image.specs.Faults.{lowestFault}
 use Rattle.image.proofs.Faults.{verdict-same}
 use Rattle.names.specs.Names.{namesFrom, namesIn, countIn, namedOnce, question9}
+use Rattle.names.specs.Spans.{allBegins, nodesPast, bodiesPast, counted, countAll, Within, inOne}
 use Rattle.names.proofs.Spanning.{below, names-next, Pairs, pairs-length, Balanced, names-balanced}
 
 pub count-append : (t xs ys : List ℕ) → countAll t (xs ++ ys) ≡ countAll (countAll t xs) ys
@@ -61,7 +61,8 @@ within-count t (x ∷ xs) m w =
 -- ---- sums
 
 -- the sum of the first m counts grows by those that are below m
-sum-counted : (t : List ℕ) (x m : ℕ) → m ≤ length t → sum (take m (counted t x)) ≡ choose (ltb x m) 1 0 + sum (take m t)
+sum-counted : (t : List ℕ) (x m : ℕ) → m ≤ length t
+    → sum (take m (counted t x)) ≡ choose (ltb x m) 1 0 + sum (take m t)
 unfolding counted choose sum
 sum-counted t x zero h = rw (le-ltb x 0 (omega arith))
 sum-counted [] x (suc m) h = absurd (omega arith)
@@ -99,7 +100,8 @@ module _ (t : List ℕ) (w : Within t 65000) where
   pub room-next : (x y : ℕ) {t′ : List ℕ} → t′ ≡ counted t x → getD t′ y 0 < 65535
   room-next x y {t′} e = let l = within-counted t 65000 x w .each y in rw e (omega arith)
 
-pub count-two : (t : List ℕ) (x y : ℕ) {t′ t″ : List ℕ} → t′ ≡ counted t x → t″ ≡ counted t′ y → t″ ≡ countAll t (x ∷ y ∷ [])
+pub count-two : (t : List ℕ) (x y : ℕ) {t′ t″ : List ℕ} → t′ ≡ counted t x → t″ ≡ counted t′ y
+    → t″ ≡ countAll t (x ∷ y ∷ [])
 unfolding countAll
 count-two t x y e f = rw (f, e)
 
@@ -129,7 +131,8 @@ sum-suc (x ∷ t) zero h = omega arith
 sum-suc (x ∷ t) (suc k) h = let e = sum-suc t k (omega arith) in omega arith
 
 -- the walk's next sum
-pub walk-sum : (t : List ℕ) (k : ℕ) → k < length t → {so-far : ℕ} → so-far ≡ sum (take k t) → so-far + getD t k 0 ≡ sum (take (k + 1) t)
+pub walk-sum : (t : List ℕ) (k : ℕ) → k < length t → {so-far : ℕ} → so-far ≡ sum (take k t)
+    → so-far + getD t k 0 ≡ sum (take (k + 1) t)
 walk-sum t k h e = rw (e, add-one k) (sym (sum-suc t k h))
 
 module _ (starts ends : List ℕ) (k : ℕ) {begun ended : ℕ}
@@ -145,14 +148,18 @@ module _ (starts ends : List ℕ) (k : ℕ) {begun ended : ℕ}
 -- ---- the verdict
 
 module _ (size : ℕ) (names xs ys : List ℕ) (balanced : Balanced names xs ys) where
-  in-one-once : {starts ends : List ℕ} → starts ≡ countAll (replicate size 0) xs → ends ≡ countAll (replicate size 0) ys
+  in-one-once : {starts ends : List ℕ}
+      → starts ≡ countAll (replicate size 0) xs → ends ≡ countAll (replicate size 0) ys
       → (k : ℕ) → k < size → inOne starts ends k ≡ namedOnce names k
   unfolding inOne namedOnce
   in-one-once {starts} {ends} b e k h =
-      rw (b, e, sum-below size xs (k + 1) (omega arith), sum-below size ys (k + 1) (omega arith)) (go (ℕ-discrete (countIn k names) 1))
+      rw (b, e, sum-below size xs (k + 1) (omega arith), sum-below size ys (k + 1) (omega arith))
+      (go (ℕ-discrete (countIn k names) 1))
     where
       go : Dec (countIn k names ≡ 1) → eqb (below (k + 1) xs) (below (k + 1) ys + 1) ≡ eqb (countIn k names) 1
-      go (yes q) = rw (eq-eqb (countIn k names) 1 q) (eq-eqb (below (k + 1) xs) (below (k + 1) ys + 1) (omega (arith, balanced .each k)))
+      go (yes q) =
+          rw (eq-eqb (countIn k names) 1 q)
+          (eq-eqb (below (k + 1) xs) (below (k + 1) ys + 1) (omega (arith, balanced .each k)))
       go (no q) =
           rw (ne-eqb (countIn k names) 1 q)
           (ne-eqb (below (k + 1) xs) (below (k + 1) ys + 1) (λ f. q (omega (arith, balanced .each k))))
@@ -160,14 +167,15 @@ module _ (size : ℕ) (names xs ys : List ℕ) (balanced : Balanced names xs ys)
 -- one span for each row, where both tables have counted all nodes and then all statements, is question 9's answer
 pub spans-verdict : (size : ℕ) (n p s : List ℕ) → rowsOf n ≤ size → {b e b′ e′ : List ℕ}
     → b ≡ countAll (replicate size 0) (allBegins n)
-    → e ≡ countAll (replicate size 0) (allNodePasts n)
+    → e ≡ countAll (replicate size 0) (nodesPast n)
     → b′ ≡ countAll b (allBegins s)
-    → e′ ≡ countAll e (allStatementPasts p s)
+    → e′ ≡ countAll e (bodiesPast p s)
     → lowestFault (inOne b′ e′) (rowsOf n) ≡ question9 n p s
 unfolding question9
 spans-verdict size n p s few x y z w =
     verdict-same _ _ (rowsOf n)
     (λ k h. in-one-once size (namesIn n p s) _ _ (names-balanced n p s) (both _ _ x z) (both _ _ y w) k (omega arith))
   where
-    both : (xs ys : List ℕ) {t t′ : List ℕ} → t ≡ countAll (replicate size 0) xs → t′ ≡ countAll t ys → t′ ≡ countAll (replicate size 0) (xs ++ ys)
+    both : (xs ys : List ℕ) {t t′ : List ℕ} → t ≡ countAll (replicate size 0) xs → t′ ≡ countAll t ys
+        → t′ ≡ countAll (replicate size 0) (xs ++ ys)
     both xs ys e f = f ∙ ap (λ (l : List ℕ). countAll l ys) e ∙ sym (count-append (replicate size 0) xs ys)

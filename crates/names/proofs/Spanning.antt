@@ -2,7 +2,7 @@
 use mathlib.Core.Path.{_≡_, refl, sym, _∙_, ap}
 use mathlib.Core.List.{List, [], _∷_, _++_, append-assoc, append-nil}
 use mathlib.Core.Bool.{Bool, true, false}
-use Prim.Native.Nat.{ℕ, zero, suc, _+_, _*_, _≤_, _<_}
+use Prim.Native.Nat.{ℕ, zero, suc, _+_, _*_, _<_}
 use native.Mathlib.Omega.{arith}
 use native.Mathlib.Decide.{decLt}
 use native.Mathlib.Nat.{add-zero}
@@ -15,8 +15,8 @@ use Rattle.image.specs.declared.Row.{Row}
 use Rattle.image.specs.Rows.{rowAt, rowsOf}
 use Rattle.names.specs.declared.Reach.{Reach}
 use Rattle.names.specs.Names.{namesOfNode, namesOfStatement, rowsFrom, namesFrom, namesIn, countIn}
-use Rattle.names.specs.Spans.{reach, nodeReach, statementReach, begins, pasts, beginsIn, nodePasts, statementPasts}
-use Rattle.names.specs.Spans.{allBegins, allNodePasts, allStatementPasts}
+use Rattle.names.specs.Spans.{nodeReach, statementReach, begins, pasts}
+use Rattle.names.specs.Spans.{beginsIn, nodePasts, statementPasts, allBegins, nodesPast, bodiesPast}
 
 -- ---- rows one after the other
 
@@ -26,7 +26,8 @@ unfolding namesFrom
 names-snoc f i zero = rw add-zero (append-nil (f i))
 names-snoc f i (suc n) =
     let q : i + 1 + n ≡ i + suc n = omega arith in
-    ap (λ (l : List ℕ). f i ++ l) (rw q at (names-snoc f (i + 1) n)) ∙ sym (append-assoc (f i) (namesFrom f (i + 1) n) (f (i + suc n)))
+    ap (λ (l : List ℕ). f i ++ l) (rw q at (names-snoc f (i + 1) n))
+    ∙ sym (append-assoc (f i) (namesFrom f (i + 1) n) (f (i + suc n)))
 
 pub names-next : (f : ℕ → List ℕ) (n : ℕ) → namesFrom f 0 (n + 1) ≡ namesFrom f 0 n ++ f n
 names-next f n = let q : 0 + n ≡ n = omega arith in rw (add-one n) (rw q at (names-snoc f 0 n))
@@ -64,7 +65,8 @@ module _ (t : List ℕ) (i : ℕ) {row : Row} (this-row : row ≡ rowAt t i) whe
   unfolding nodePasts
   node-row e = rw (e, this-row)
 
-  pub statement-row : (p : List ℕ) {r : Reach} → r ≡ statementReach p (row .kind) row → pasts row r ≡ statementPasts p t i
+  pub statement-row : (p : List ℕ) {r : Reach} → r ≡ statementReach p (row .kind) row
+      → pasts row r ≡ statementPasts p t i
   unfolding statementPasts
   statement-row p e = rw (e, this-row)
 
@@ -93,9 +95,16 @@ balanced-none : Balanced [] [] []
 unfolding countIn below
 balanced-none = record { each = λ k. refl }
 
-pub balanced-both : {f g h f′ g′ h′ : List ℕ} → Balanced f g h → Balanced f′ g′ h′ → Balanced (f ++ f′) (g ++ g′) (h ++ h′)
+pub balanced-both : {f g h f′ g′ h′ : List ℕ} → Balanced f g h → Balanced f′ g′ h′
+    → Balanced (f ++ f′) (g ++ g′) (h ++ h′)
 balanced-both {f} {g} {h} {f′} {g′} {h′} x y =
-    record { each = λ k. omega (arith, x .each k, y .each k, count-both k f f′, below-both (k + 1) g g′, below-both (k + 1) h h′) }
+    record {
+      each = λ k.
+          let names = count-both k f f′ in
+          let starts = below-both (k + 1) g g′ in
+          let ends = below-both (k + 1) h h′ in
+          omega (arith, x .each k, y .each k);
+    }
 
 pub balanced-rows : (f g h : ℕ → List ℕ) → ((i : ℕ) → Balanced (f i) (g i) (h i)) → (i n : ℕ)
     → Balanced (namesFrom f i n) (namesFrom g i n) (namesFrom h i n)
@@ -108,12 +117,17 @@ begin-next : (b k : ℕ) → choose (eqb b k) 1 0 + choose (ltb (b + 1) (k + 1))
 unfolding choose
 begin-next b k = go (decLt b k) (decLt k b)
   where
-    go : Dec (b < k) → Dec (k < b) → choose (eqb b k) 1 0 + choose (ltb (b + 1) (k + 1)) 1 0 ≡ choose (ltb b (k + 1)) 1 0
-    go (yes l) d = rw (ne-eqb b k (omega arith), lt-ltb (b + 1) (k + 1) (omega arith), lt-ltb b (k + 1) (omega arith))
-    go (no l) (yes h) = rw (ne-eqb b k (omega arith), le-ltb (b + 1) (k + 1) (omega arith), le-ltb b (k + 1) (omega arith))
-    go (no l) (no h) = rw (eq-eqb b k (omega arith), le-ltb (b + 1) (k + 1) (omega arith), lt-ltb b (k + 1) (omega arith))
+    go : Dec (b < k) → Dec (k < b)
+        → choose (eqb b k) 1 0 + choose (ltb (b + 1) (k + 1)) 1 0 ≡ choose (ltb b (k + 1)) 1 0
+    go (yes l) d =
+        rw (ne-eqb b k (omega arith), lt-ltb (b + 1) (k + 1) (omega arith), lt-ltb b (k + 1) (omega arith))
+    go (no l) (yes h) =
+        rw (ne-eqb b k (omega arith), le-ltb (b + 1) (k + 1) (omega arith), le-ltb b (k + 1) (omega arith))
+    go (no l) (no h) =
+        rw (eq-eqb b k (omega arith), le-ltb (b + 1) (k + 1) (omega arith), lt-ltb b (k + 1) (omega arith))
 
-span-count : (k b count : ℕ) → countIn k (rowsFrom b count) + choose (ltb (b + count) (k + 1)) 1 0 ≡ choose (ltb b (k + 1)) 1 0
+span-count : (k b count : ℕ)
+    → countIn k (rowsFrom b count) + choose (ltb (b + count) (k + 1)) 1 0 ≡ choose (ltb b (k + 1)) 1 0
 unfolding countIn rowsFrom
 span-count k b zero = rw (add-zero b) (omega arith)
 span-count k b (suc count) =
@@ -126,6 +140,7 @@ span-balanced b count = record { each = λ k. let e = span-count k b count in om
 
 -- ---- the spans of a row
 
+-- the rows of both spans
 reached : Row → Reach → List ℕ
 reached row r = rowsFrom (row .a) (r .a) ++ rowsFrom (row .b) (r .b)
 
@@ -133,37 +148,31 @@ row-balanced : (row : Row) (r : Reach) → Balanced (reached row r) (begins row)
 unfolding reached begins pasts
 row-balanced row r = balanced-both (span-balanced (row .a) (r .a)) (span-balanced (row .b) (r .b))
 
+-- the same choice of spans and of names
+chosen : (row : Row) (b : Bool) (x y : Reach) (l m : List ℕ) → reached row x ≡ l → reached row y ≡ m
+    → reached row (choose b x y) ≡ choose b l m
+unfolding choose
+chosen row true x y l m p q = p
+chosen row false x y l m p q = q
+
 node-names : (row : Row) → reached row (nodeReach (row .kind)) ≡ namesOfNode row
-unfolding reached nodeReach namesOfNode choose rowsFrom
-node-names row = go (eqb (row .kind) 2) (eqb (row .kind) 3) (eqb (row .kind) 5) (eqb (row .kind) 6) (eqb (row .kind) 8)
-  where
-    go : (two three five six eight : Bool)
-        → reached row (choose two (reach 1 0) (choose three (reach 1 1) (choose five (reach 1 1) (choose six (reach 1 0) (choose eight (reach 1 0) (reach 0 0))))))
-        ≡ choose two (row .a ∷ []) (choose three (row .a ∷ row .b ∷ []) (choose five (row .a ∷ row .b ∷ []) (choose six (row .a ∷ []) (choose eight (row .a ∷ []) []))))
-    go true three five six eight = refl
-    go false true five six eight = refl
-    go false false true six eight = refl
-    go false false false true eight = refl
-    go false false false false true = refl
-    go false false false false false = refl
+unfolding reached rowsFrom nodeReach namesOfNode
+node-names row =
+    chosen row _ _ _ _ _ refl
+    (chosen row _ _ _ _ _ refl
+    (chosen row _ _ _ _ _ refl
+    (chosen row _ _ _ _ _ refl
+    (chosen row _ _ _ _ _ refl refl))))
 
 statement-names : (p : List ℕ) (row : Row) → reached row (statementReach p (row .kind) row) ≡ namesOfStatement p row
-unfolding reached statementReach namesOfStatement choose rowsFrom
-statement-names p row = go (eqb (row .kind) 0) (eqb (row .kind) 1) (eqb (row .kind) 2) (eqb (row .kind) 5) (eqb (row .kind) 6) (eqb (row .kind) 7)
-  where
-    called : List ℕ
-    called = rowsFrom (row .b) (rowAt p (row .a) .b)
-
-    go : (assign call jump read write halt : Bool)
-        → reached row (choose assign (reach 1 1) (choose call (reach 0 (rowAt p (row .a) .b)) (choose jump (reach 1 0) (choose read (reach 1 0) (choose write (reach 1 0) (choose halt (reach 1 0) (reach 0 0)))))))
-        ≡ choose assign (row .a ∷ row .b ∷ []) (choose call called (choose jump (row .a ∷ []) (choose read (row .a ∷ []) (choose write (row .a ∷ []) (choose halt (row .a ∷ []) [])))))
-    go true call jump read write halt = refl
-    go false true jump read write halt = refl
-    go false false true read write halt = refl
-    go false false false true write halt = refl
-    go false false false false true halt = refl
-    go false false false false false true = refl
-    go false false false false false false = refl
+unfolding reached rowsFrom statementReach namesOfStatement
+statement-names p row =
+    chosen row _ _ _ _ _ refl
+    (chosen row _ _ _ _ _ refl
+    (chosen row _ _ _ _ _ refl
+    (chosen row _ _ _ _ _ refl
+    (chosen row _ _ _ _ _ refl
+    (chosen row _ _ _ _ _ refl refl)))))
 
 -- ---- all names
 
@@ -172,13 +181,15 @@ node-balanced : (n : List ℕ) (i : ℕ) → Balanced (namesOfNode (rowAt n i)) 
 unfolding beginsIn nodePasts
 node-balanced n i = rw (node-names (rowAt n i)) at (row-balanced (rowAt n i) (nodeReach (rowAt n i .kind)))
 
-statement-balanced : (p s : List ℕ) (i : ℕ) → Balanced (namesOfStatement p (rowAt s i)) (beginsIn s i) (statementPasts p s i)
+statement-balanced : (p s : List ℕ) (i : ℕ)
+    → Balanced (namesOfStatement p (rowAt s i)) (beginsIn s i) (statementPasts p s i)
 unfolding beginsIn statementPasts
 statement-balanced p s i =
     rw (statement-names p (rowAt s i)) at (row-balanced (rowAt s i) (statementReach p (rowAt s i .kind) (rowAt s i)))
 
 pub names-balanced : (n p s : List ℕ)
-    → Balanced (namesIn n p s) (allBegins n ++ allBegins s) (allNodePasts n ++ allStatementPasts p s)
+    → Balanced (namesIn n p s) (allBegins n ++ allBegins s) (nodesPast n ++ bodiesPast p s)
 unfolding namesIn
 names-balanced n p s =
-    balanced-both (balanced-rows _ _ _ (node-balanced n) 0 (rowsOf n)) (balanced-rows _ _ _ (statement-balanced p s) 0 (rowsOf s))
+    balanced-both (balanced-rows _ _ _ (node-balanced n) 0 (rowsOf n))
+    (balanced-rows _ _ _ (statement-balanced p s) 0 (rowsOf s))

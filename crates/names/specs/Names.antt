@@ -9,7 +9,8 @@ use Rattle.image.specs.declared.Verdict.{Verdict}
 use Rattle.image.specs.Rows.{rowAt, rowsOf}
 use Rattle.image.specs.Faults.{lowestFault}
 
--- "2 field b .. of a"; "3 element of a at b"; "5 dyadic a, b"; "6 monadic a"; "8 argument holding a": no other node names any
+-- "2 field b .. of a"; "3 element of a at b"; "5 dyadic a, b"; "6 monadic a"; "8 argument holding a":
+-- no other node names any
 unfoldable pub namesOfNode : Row → List ℕ
 namesOfNode row =
     choose (eqb (row .kind) 2) (row .a ∷ [])

@@ -56,11 +56,11 @@ statementPasts p s i = pasts (rowAt s i) (statementReach p (rowAt s i .kind) (ro
 abbrev pub allBegins : List ℕ → List ℕ
 allBegins t = namesFrom (beginsIn t) 0 (rowsOf t)
 
-abbrev pub allNodePasts : List ℕ → List ℕ
-allNodePasts n = namesFrom (nodePasts n) 0 (rowsOf n)
+abbrev pub nodesPast : List ℕ → List ℕ
+nodesPast n = namesFrom (nodePasts n) 0 (rowsOf n)
 
-abbrev pub allStatementPasts : List ℕ → List ℕ → List ℕ
-allStatementPasts p s = namesFrom (statementPasts p s) 0 (rowsOf s)
+abbrev pub bodiesPast : List ℕ → List ℕ → List ℕ
+bodiesPast p s = namesFrom (statementPasts p s) 0 (rowsOf s)
 
 -- a table of counts after one more in row k, and after one more in each of the rows; there may be no such row
 unfoldable pub counted : List ℕ → ℕ → List ℕ

@@ -7,8 +7,8 @@ ghost use lib.ListN.{length, getD};
 ghost use Rattle.image.specs.Faults.{lowestFault};
 ghost use Rattle.image.specs.Rows.{rowsOf};
 ghost use Rattle.names.specs.Names.{question9};
-ghost use Rattle.names.specs.Spans.{nodeReach, statementReach, begins, pasts};
-ghost use Rattle.names.specs.Spans.{allBegins, allNodePasts, allStatementPasts, counted, countAll, Within, inOne};
+ghost use Rattle.names.specs.Spans.{nodeReach, statementReach, begins, pasts, allBegins, nodesPast, bodiesPast};
+ghost use Rattle.names.specs.Spans.{counted, countAll, Within, inOne};
 
 // How many node rows a row names from its a on, and how many from its b on.
 struct Reach {
@@ -93,7 +93,7 @@ fn count_row(starts: &mut [u16], ends: &mut [u16], row: Row, reach: Reach)
 fn count_nodes(n: &[u8], starts: &mut [u16], ends: &mut [u16])
     requires { ⌜ (rowsOf (now n) ≤ 2048) × Within (now starts) 8192 × Within (now ends) 8192 ⌝ }
     ensures { λ _. ⌜ now (starts .exit) ≡ countAll (now (starts .entry)) (allBegins (now (n .entry))) ⌝ }
-    ensures { λ _. ⌜ now (ends .exit) ≡ countAll (now (ends .entry)) (allNodePasts (now (n .entry))) ⌝ }
+    ensures { λ _. ⌜ now (ends .exit) ≡ countAll (now (ends .entry)) (nodesPast (now (n .entry))) ⌝ }
 {
     let nodes = image::rows_of(n);
     let mut i: usize = 0;
@@ -109,7 +109,7 @@ fn count_nodes(n: &[u8], starts: &mut [u16], ends: &mut [u16])
 fn count_statements(p: &[u8], s: &[u8], starts: &mut [u16], ends: &mut [u16])
     requires { ⌜ (rowsOf (now s) ≤ 1024) × Within (now starts) 8192 × Within (now ends) 8192 ⌝ }
     ensures { λ _. ⌜ now (starts .exit) ≡ countAll (now (starts .entry)) (allBegins (now (s .entry))) ⌝ }
-    ensures { λ _. ⌜ now (ends .exit) ≡ countAll (now (ends .entry)) (allStatementPasts (now (p .entry)) (now (s .entry))) ⌝ }
+    ensures { λ _. ⌜ now (ends .exit) ≡ countAll (now (ends .entry)) (bodiesPast (now (p .entry)) (now (s .entry))) ⌝ }
 {
     let statements = image::rows_of(s);
     let mut i: usize = 0;

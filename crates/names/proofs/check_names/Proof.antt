@@ -1,4 +1,4 @@
-use mathlib.Core.Path.{_≡_, refl, sym, _∙_, ap}
+use mathlib.Core.Path.{_∙_}
 use native.Mathlib.Omega.{arith}
 use Rattle.names.proofs.Spanning.{begins-pairs, node-pairs}
 use Rattle.names.proofs.Counting.{within-zeros, rows-room, spans-verdict}
@@ -22,7 +22,9 @@ slice-aggregate-count-nodes-2 : tie.Need-slice-aggregate-count-nodes-2
 slice-aggregate-count-nodes-2 c = search needs
 
 count-nodes-requires : tie.Need-count-nodes-requires
-count-nodes-requires c κs = (c .before .before .before .before .before .before .pre .0, within-zeros 2048 _, within-zeros 2048 _)
+count-nodes-requires c κs =
+    let p = c .before .before .before .before .before .before .pre in
+    (p .0, within-zeros 2048 _, within-zeros 2048 _)
 
 slice-aggregate-count-statements : tie.Need-slice-aggregate-count-statements
 slice-aggregate-count-statements c = search needs
@@ -31,9 +33,14 @@ slice-aggregate-count-statements-2 : tie.Need-slice-aggregate-count-statements-2
 slice-aggregate-count-statements-2 c = search needs
 
 count-statements-requires : tie.Need-count-statements-requires
-count-statements-requires c κs = let (nodes, statements) = c .before .before .before .before .before .before .before .before .before .before .before .pre in
-    let counts = c .before .before .before .before .count-nodes .ensures in
-    (statements, rows-room _ _ _ (counts .0) (begins-pairs _) (within-zeros 2048 0) 8192 (omega arith), rows-room _ _ _ (counts .1) (node-pairs _) (within-zeros 2048 0) 8192 (omega arith))
+count-statements-requires c κs =
+    let b = c .before .before .before .before in
+    let (nodes, statements) = b .before .before .before .before .before .before .before .pre in
+    let counts = b .count-nodes .ensures in (
+      statements,
+      rows-room _ _ _ (counts .0) (begins-pairs _) (within-zeros 2048 0) 8192 (omega arith),
+      rows-room _ _ _ (counts .1) (node-pairs _) (within-zeros 2048 0) 8192 (omega arith),
+    )
 
 slice-aggregate-each-in-one : tie.Need-slice-aggregate-each-in-one
 slice-aggregate-each-in-one c = search needs
@@ -45,10 +52,15 @@ each-in-one-requires : tie.Need-each-in-one-requires
 each-in-one-requires c κs = search needs
 
 returns : tie.Need-returns
-returns c = let first = c .before .before .before .before .before .before .before .before .before .before .count-nodes .ensures in
-    let then = c .before .before .before .before .before .count-statements .ensures in
-    let rows = c .before .before .before .before .before .before .before .before .before .before .before .before .before .rows-of .ensures in
-    rw rows at (c .each-in-one .ensures) ∙ spans-verdict 2048 _ _ _ (c .before .before .before .before .before .before .before .before .before .before .before .before .before .before .before .before .before .pre .0) (first .0) (first .1) (then .0) (then .1)
+returns c =
+    let b = c .before .before .before .before .before in
+    let nodes = b .before .before .before .before .before .count-nodes .ensures in
+    let statements = b .count-statements .ensures in
+    let start = b .before .before .before .before .before .before .before .before in
+    let rows = start .rows-of .ensures in
+    let few = start .before .before .before .before .pre .0 in
+    rw rows at (c .each-in-one .ensures)
+    ∙ spans-verdict 2048 _ _ _ few (nodes .0) (nodes .1) (statements .0) (statements .1)
 
 pub check-names-spec : {M : Type 1} → statement M
 check-names-spec =

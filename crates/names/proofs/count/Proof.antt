@@ -1,4 +1,4 @@
-use mathlib.Core.Path.{_≡_, refl, sym}
+use mathlib.Core.Path.{refl, sym}
 use lib.Seq.{set-out}
 use Rattle.names.specs.Spans.{counted}
 use borrow.Author.Needs.{needs}

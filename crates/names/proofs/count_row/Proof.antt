@@ -11,7 +11,10 @@ count-span-requires : tie.Need-count-span-requires
 count-span-requires c κs = let p = c .before .before .before .before .pre in (room _ (p .0) _, room _ (p .1) _)
 
 count-span-requires-2 : tie.Need-count-span-requires-2
-count-span-requires-2 c κs = let p = c .before .before .before .before .before .before .before .before .before .before .before .pre in let first = c .before .before .before .before .before .before .count-span .ensures in
+count-span-requires-2 c κs =
+    let b = c .before .before .before .before .before .before in
+    let p = b .before .before .before .before .before .pre in
+    let first = b .count-span .ensures in
     (room-next _ (p .0) _ _ (first .0), room-next _ (p .1) _ _ (first .1))
 
 same-length : tie.Need-same-length
@@ -22,7 +25,10 @@ same-length-2 c = search needs
 
 returns : tie.Need-returns
 unfolding begins pasts
-returns c = let first = c .before .before .before .before .before .before .before .before .before .before .before .count-span .ensures in let second = c .before .before .before .before .count-span2 .ensures in
+returns c =
+    let b = c .before .before .before .before in
+    let first = b .before .before .before .before .before .before .before .count-span .ensures in
+    let second = b .count-span2 .ensures in
     (count-two _ _ _ (first .0) (second .0), count-two _ _ _ (first .1) (second .1))
 
 pub count-row-spec : {M : Type 1} → statement M

@@ -1,7 +1,7 @@
 use denote.Ref.{now}
 use Rattle.image.specs.Rows.{rowsOf}
-use mathlib.Core.Path.{_≡_, refl, sym, _∙_, ap}
-use Prim.Native.Nat.{ℕ, _+_, _-_, _*_, _≤_, _<_}
+use mathlib.Core.Path.{_≡_, refl}
+use Prim.Native.Nat.{_-_, _≤_}
 use native.Mathlib.Omega.{arith}
 use borrow.Author.Needs.{needs}
 use Rattle.names.specs.Names.{namesFrom}
@@ -40,10 +40,14 @@ statement-reach-requires : tie.Need-statement-reach-requires Inv-loop μ-loop
 statement-reach-requires c κs = search needs
 
 count-row-requires : tie.Need-count-row-requires Inv-loop μ-loop
-count-row-requires c κs = let l = c .before .before .before .before .before .loop in
-    let rows = c .before .before .before .before .before .before .rows-of .ensures in
-    let (most, begun, ended) = c .before .before .before .before .before .before .before .before .before .before .before .pre in
-    (rows-room _ _ _ (l .inv .1) (begins-pairs _) begun 65000 (omega arith), rows-room _ _ _ (l .inv .2) (statement-pairs _ _) ended 65000 (omega arith))
+count-row-requires c κs =
+    let b = c .before .before .before .before .before in
+    let l = b .loop in
+    let rows = b .before .rows-of .ensures in
+    let (most, begun, ended) = b .before .before .before .before .before .before .pre in (
+      rows-room _ _ _ (l .inv .1) (begins-pairs _) begun 65000 (omega arith),
+      rows-room _ _ _ (l .inv .2) (statement-pairs _ _) ended 65000 (omega arith),
+    )
 
 add-i : tie.Need-add-i Inv-loop μ-loop
 add-i c = search needs
@@ -52,10 +56,15 @@ loop-less : tie.Need-loop-less Inv-loop μ-loop
 loop-less c = omega arith
 
 loop-again : tie.Need-loop-again Inv-loop μ-loop
-loop-again c = let l = c .before .before .before .before .before .before .before .before .before .before .loop in
+loop-again c =
+    let l = c .before .before .before .before .before .before .before .before .before .before .loop in
     let this = c .before .before .before .before .before .before .before .before .row-at .ensures in
-    let row = c .before .before .before .before .count-row .ensures in
-    (omega arith, rows-next _ _ _ (l .inv .1) (row .0) (begins-row _ _ this), rows-next _ _ _ (l .inv .2) (row .1) (statement-row _ _ this _ (c .before .before .before .before .before .before .before .statement-reach .ensures)))
+    let reach = c .before .before .before .before .before .before .before .statement-reach .ensures in
+    let row = c .before .before .before .before .count-row .ensures in (
+      omega arith,
+      rows-next _ _ _ (l .inv .1) (row .0) (begins-row _ _ this),
+      rows-next _ _ _ (l .inv .2) (row .1) (statement-row _ _ this _ reach),
+    )
 
 same-length : tie.Need-same-length Inv-loop μ-loop
 same-length c = rows-length _ _ _ (c .before .loop .inv .1)
@@ -64,7 +73,8 @@ same-length-2 : tie.Need-same-length-2 Inv-loop μ-loop
 same-length-2 c = rows-length _ _ _ (c .before .loop .inv .2)
 
 returns : tie.Need-returns Inv-loop μ-loop
-returns c = let l = c .before .loop in
+returns c =
+    let l = c .before .loop in
     let rows = c .before .before .rows-of .ensures in
     let all : l .i ≡ rowsOf (now (c .before .before .before .before .before .before .before .args .s)) = omega arith in
     (rw all at (l .inv .1), rw all at (l .inv .2))

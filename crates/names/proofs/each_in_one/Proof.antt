@@ -1,9 +1,8 @@
 use denote.Ref.{now}
-use mathlib.Core.Path.{_≡_, refl, sym, _∙_, ap}
-use Prim.Native.Nat.{ℕ, _+_, _-_, _*_, _≤_, _<_}
+use mathlib.Core.Path.{_≡_, refl}
+use Prim.Native.Nat.{_-_, _*_, _≤_}
 use native.Mathlib.Omega.{arith}
 use borrow.Author.Needs.{needs}
-use borrow.Author.Tests.{eq-eqb, ne-eqb}
 use lib.ListN.{take}
 use Rattle.prelude.specs.Parts.{sum}
 use Rattle.image.specs.Faults.{KeptIn}
@@ -45,25 +44,26 @@ shared-slice-read-end : tie.Need-shared-slice-read-end Inv-loop μ-loop
 shared-slice-read-end c = omega arith
 
 cast-begun : tie.Need-cast-begun Inv-loop μ-loop
-cast-begun c = omega (arith, c .before .shared-slice-known .given (c .before .before .before .loop .k), c .shared-slice-known2 .given (c .before .before .before .loop .k))
+cast-begun c = let k = c .before .before .before .loop .k in omega (arith, c .before .shared-slice-known .given k)
 
 add-begun : tie.Need-add-begun Inv-loop μ-loop
-add-begun c = omega (arith, c .before .shared-slice-known .given (c .before .before .before .loop .k), c .shared-slice-known2 .given (c .before .before .before .loop .k))
+add-begun c = let k = c .before .before .before .loop .k in omega (arith, c .before .shared-slice-known .given k)
 
 cast-ended : tie.Need-cast-ended Inv-loop μ-loop
-cast-ended c = omega (arith, c .before .shared-slice-known .given (c .before .before .before .loop .k), c .shared-slice-known2 .given (c .before .before .before .loop .k))
+cast-ended c = let k = c .before .before .before .loop .k in omega (arith, c .shared-slice-known2 .given k)
 
 add-ended : tie.Need-add-ended Inv-loop μ-loop
-add-ended c = omega (arith, c .before .shared-slice-known .given (c .before .before .before .loop .k), c .shared-slice-known2 .given (c .before .before .before .loop .k))
+add-ended c = let k = c .before .before .before .loop .k in omega (arith, c .shared-slice-known2 .given k)
 
 add-once : tie.Need-add-once Inv-loop μ-loop
-add-once c = omega (arith, c .before .shared-slice-known .given (c .before .before .before .loop .k), c .shared-slice-known2 .given (c .before .before .before .loop .k))
+add-once c = let k = c .before .before .before .loop .k in omega (arith, c .shared-slice-known2 .given k)
 
 cast-bad : tie.Need-cast-bad Inv-loop μ-loop
 cast-bad c = omega arith
 
 returns : tie.Need-returns Inv-loop μ-loop
-returns c = let l = c .before .before .before .before .loop in
+returns c =
+    let l = c .before .before .before .before .loop in
     let s = c .before .before .before .before .before .args in
     let (most, low, high) = c .before .before .before .before .before .pre in
     let b = walk-sum (now (s .starts)) (l .k) (omega arith) (l .inv .3) in
@@ -74,14 +74,16 @@ loop-less : tie.Need-loop-less Inv-loop μ-loop
 loop-less c = omega arith
 
 loop-again : tie.Need-loop-again Inv-loop μ-loop
-loop-again c = let l = c .before .before .before .before .loop in
+loop-again c =
+    let l = c .before .before .before .before .loop in
     let s = c .before .before .before .before .before .args in
     let (most, low, high) = c .before .before .before .before .before .pre in
     let b = walk-sum (now (s .starts)) (l .k) (omega arith) (l .inv .3) in
     let e = walk-sum (now (s .ends)) (l .k) (omega arith) (l .inv .4) in
     let x = c .before .before .shared-slice-known .given (l .k) in
     let y = c .before .shared-slice-known2 .given (l .k) in
-    (omega arith, omega (arith, x), omega (arith, y), b, e, kept-next _ _ _ (l .inv .5) (walk-good _ _ _ b e (omega arith)))
+    let good = walk-good _ _ _ b e (omega arith) in
+    (omega arith, omega (arith, x), omega (arith, y), b, e, kept-next _ _ _ (l .inv .5) good)
 
 returns-2 : tie.Need-returns-2 Inv-loop μ-loop
 returns-2 c = scan-end _ _ _ (c .before .loop .inv .5) (c .loop-test .left)

@@ -1,4 +1,4 @@
-use mathlib.Core.Path.{_≡_, refl, sym, _∙_, ap}
+use mathlib.Core.Path.{sym, ap}
 use borrow.Author.Tests.{ne-eqb}
 use Rattle.prelude.specs.Choice.{choose}
 use Rattle.names.specs.Spans.{nodeReach}
@@ -29,7 +29,15 @@ returns-5 c = sym (ap nodeReach (c .match .keys5))
 
 returns-6 : tie.Need-returns-6
 unfolding nodeReach choose
-returns-6 c = rw (ne-eqb _ 2 (c .match .rest .0 .0 .0 .0 .1), ne-eqb _ 3 (c .match .rest .0 .0 .0 .1), ne-eqb _ 5 (c .match .rest .0 .0 .1), ne-eqb _ 6 (c .match .rest .0 .1), ne-eqb _ 8 (c .match .rest .1))
+returns-6 c =
+    let r = c .match .rest in
+    rw (
+      ne-eqb _ 2 (r .0 .0 .0 .0 .1),
+      ne-eqb _ 3 (r .0 .0 .0 .1),
+      ne-eqb _ 5 (r .0 .0 .1),
+      ne-eqb _ 6 (r .0 .1),
+      ne-eqb _ 8 (r .1),
+    )
 
 pub node-reach-spec : {M : Type 1} → statement M
 node-reach-spec = tie.close (tie.spec returns returns-2 returns-3 returns-4 returns-5 returns-6)

@@ -1,4 +1,4 @@
-use mathlib.Core.Path.{_≡_, refl, sym, _∙_, ap}
+use mathlib.Core.Path.{sym, _∙_, ap}
 use denote.Ref.{now}
 use borrow.Author.Tests.{ne-eqb}
 use Rattle.prelude.specs.Choice.{choose}
@@ -15,31 +15,52 @@ call-reach-requires c κs = search needs
 
 returns : tie.Need-returns
 unfolding statementReach choose
-returns c = let s = c .before .before .args in sym (ap (λ j. statementReach (now (s .p)) j (s .row)) (c .match .keys1))
+returns c =
+    let s = c .before .before .args in
+    sym (ap (λ j. statementReach (now (s .p)) j (s .row)) (c .match .keys1))
 
 returns-2 : tie.Need-returns-2
 unfolding statementReach choose
-returns-2 c = let s = c .before .before .before .args in c .call-reach .ensures ∙ sym (ap (λ j. statementReach (now (s .p)) j (s .row)) (c .before .match .keys2))
+returns-2 c =
+    let s = c .before .before .before .args in
+    c .call-reach .ensures ∙ sym (ap (λ j. statementReach (now (s .p)) j (s .row)) (c .before .match .keys2))
 
 returns-3 : tie.Need-returns-3
 unfolding statementReach choose
-returns-3 c = let s = c .before .before .args in sym (ap (λ j. statementReach (now (s .p)) j (s .row)) (c .match .keys3))
+returns-3 c =
+    let s = c .before .before .args in
+    sym (ap (λ j. statementReach (now (s .p)) j (s .row)) (c .match .keys3))
 
 returns-4 : tie.Need-returns-4
 unfolding statementReach choose
-returns-4 c = let s = c .before .before .args in sym (ap (λ j. statementReach (now (s .p)) j (s .row)) (c .match .keys4))
+returns-4 c =
+    let s = c .before .before .args in
+    sym (ap (λ j. statementReach (now (s .p)) j (s .row)) (c .match .keys4))
 
 returns-5 : tie.Need-returns-5
 unfolding statementReach choose
-returns-5 c = let s = c .before .before .args in sym (ap (λ j. statementReach (now (s .p)) j (s .row)) (c .match .keys5))
+returns-5 c =
+    let s = c .before .before .args in
+    sym (ap (λ j. statementReach (now (s .p)) j (s .row)) (c .match .keys5))
 
 returns-6 : tie.Need-returns-6
 unfolding statementReach choose
-returns-6 c = let s = c .before .before .args in sym (ap (λ j. statementReach (now (s .p)) j (s .row)) (c .match .keys6))
+returns-6 c =
+    let s = c .before .before .args in
+    sym (ap (λ j. statementReach (now (s .p)) j (s .row)) (c .match .keys6))
 
 returns-7 : tie.Need-returns-7
 unfolding statementReach choose
-returns-7 c = rw (ne-eqb _ 0 (c .match .rest .0 .0 .0 .0 .0 .1), ne-eqb _ 1 (c .match .rest .0 .0 .0 .0 .1), ne-eqb _ 2 (c .match .rest .0 .0 .0 .1), ne-eqb _ 5 (c .match .rest .0 .0 .1), ne-eqb _ 6 (c .match .rest .0 .1), ne-eqb _ 7 (c .match .rest .1))
+returns-7 c =
+    let r = c .match .rest in
+    rw (
+      ne-eqb _ 0 (r .0 .0 .0 .0 .0 .1),
+      ne-eqb _ 1 (r .0 .0 .0 .0 .1),
+      ne-eqb _ 2 (r .0 .0 .0 .1),
+      ne-eqb _ 5 (r .0 .0 .1),
+      ne-eqb _ 6 (r .0 .1),
+      ne-eqb _ 7 (r .1),
+    )
 
 pub statement-reach-spec : {M : Type 1} → statement M
 statement-reach-spec =
