@@ -1,0 +1,3 @@
+pub mod Spanning
+pub mod Counting
+pub mod Accepted
