@@ -2,3 +2,4 @@ pub mod Rooms
 pub mod Cells
 pub mod Counting
 pub mod Running
+pub mod Framing
