@@ -39,7 +39,7 @@ module _ (a : ℕ) (s r : List ℕ) (within : a ≤ length s) where
   lent-cell i =
       rw (take-all (length s - a) (drop a s) (le-of-eq (length-drop a s))) (getD-drop a s i 0)
 
-  pub lent-length : length (take (length s - a) (drop a s)) ≡ length s - a
+  lent-length : length (take (length s - a) (drop a s)) ≡ length s - a
   lent-length = rw (take-all (length s - a) (drop a s) (le-of-eq (length-drop a s))) (length-drop a s)
 
   put-is : take a s ++ (r ++ drop (length s - a) (drop a s)) ≡ take a s ++ r

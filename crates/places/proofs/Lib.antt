@@ -3,3 +3,5 @@ pub mod Cells
 pub mod Counting
 pub mod Running
 pub mod Framing
+pub mod Placing
+pub mod Owning

@@ -77,7 +77,8 @@ fn place_frames(v: &[u8], p: &[u8], plan: &mut [u32])
     }
 }
 
-// Writes what the plan holds of the variables and procedures of accepted tables.
+// Writes what the plan holds of the variables and procedures of accepted tables. The sizes are in the plan already:
+// t and f, whose sizes they are, are named by the promise alone.
 pub fn fill_places(t: &[u8], f: &[u8], v: &[u8], p: &[u8], plan: &mut [u32])
     requires { ⌜ PlacesFit (now t) (now f) (now v) (now p) (now plan) ⌝ }
     ensures { λ x. ⌜ Places (now (t .entry)) (now (f .entry)) (now (v .entry)) (now (p .entry)) (now (plan .entry)) (now (plan .exit)) ⌝ }
