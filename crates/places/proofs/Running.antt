@@ -1,0 +1,50 @@
+-- Laws of the loop that writes the places of variables that stand in a row.
+use mathlib.Core.Path.{_≡_, refl, sym, _∙_, ap}
+use mathlib.Core.List.{List}
+use Prim.Native.Nat.{ℕ, zero, suc, _+_, _*_, _≤_, _<_}
+use native.Mathlib.Omega.{arith}
+use lib.ListN.{length, getD, set}
+use Rattle.image.specs.Rows.{rowAt, rowsOf}
+use Rattle.places.specs.Places.{widthBy, roomBy}
+use Rattle.places.specs.Filling.{held, Filled, VariablesFit}
+use Rattle.places.proofs.Cells.{filled-none, filled-next}
+use Rattle.places.proofs.Rooms.{width-small, width-agree, room-more, room-small}
+
+-- the places of j variables are written
+pub record Run (v old plan : List ℕ) (k n at place j : ℕ) : Type 0 where
+  pub within : j ≤ n
+  pub next : place ≡ at + roomBy (held old) v k j
+  pub filled : Filled (384 + k) j (λ i. at + roomBy (held old) v k i) old plan
+
+pub run-none : (v old : List ℕ) (k n at : ℕ) → Run v old old k n at at 0
+unfolding roomBy
+run-none v old k n at = record {
+  within = omega arith;
+  next = omega arith;
+  filled = filled-none (384 + k) (λ i. at + roomBy (held old) v k i) old;
+}
+
+module _ (v old plan : List ℕ) (k n at place j : ℕ) (fit : VariablesFit v old) (rows : k + n ≤ rowsOf v) (r : Run v old plan k n at place j)
+    (more : j < n) where
+  pub run-room : 384 + (k + j) < length plan
+  run-room = let cells = fit .cells in let few = fit .few in let same = r .filled .cells in omega arith
+
+  module _ (width : ℕ) (this : width ≡ widthBy (held plan) v (k + j)) where
+    pub run-next : Run v old (set plan (384 + (k + j)) place) k n at (place + width) (j + 1)
+    run-next =
+        let one : j + 1 ≡ suc j = omega arith in
+        let low = fit .low (k + j) (omega arith) in
+        let same = this ∙ width-agree (held plan) (held old) v (k + j) (r .filled .below (rowAt v (k + j) .a) (omega arith)) in
+        record {
+          within = omega arith;
+          next = rw one (omega (arith, r .next, same, room-more (held old) v k j));
+          filled = rw one (filled-next (384 + k) j (λ i. at + roomBy (held old) v k i) old plan (384 + (k + j)) place
+              (r .filled) (omega arith) run-room (r .next));
+        }
+
+    pub run-small : at ≤ 3 → place + width ≤ 1048579
+    run-small little =
+        let next = run-next .next in
+        let few = fit .few in
+        let total = room-small (held old) v k (j + 1) (λ i low high. width-small (held old) v i (fit .small i (omega arith))) in
+        omega (arith, next, total)

@@ -1,0 +1,62 @@
+-- The part of the plan that belongs to variables and procedures, so that a step need not add up sizes.
+-- Cell 384 + k: the place of variable row k: a global's first cell in the store, another's counted from its frame's base.
+-- Cell 640 + q: the size of procedure q's frame. Cell 704 + q: its first variable row; one more for the row behind the last.
+-- Cell 769: the number of the globals' cells.
+use Prim.Native.Nat.{ℕ, zero, suc, _+_, _-_, _≤_, _<_}
+use mathlib.Core.Path.{_≡_}
+use mathlib.Core.List.{List}
+use lib.Dec.{eqb}
+use lib.ListN.{length, getD}
+use Rattle.prelude.specs.Choice.{choose}
+use Rattle.image.specs.Rows.{rowAt, rowsOf}
+use Rattle.types.specs.Sizes.{sizeOf}
+use Rattle.frames.specs.Variables.{globalsOf}
+use Rattle.frames.specs.Procedures.{claimedBy, firstVariable}
+
+-- "a VAR parameter two cells, address and dynamic type, others their size": variable row k, where `size` gives types their size
+unfoldable pub widthBy : (ℕ → ℕ) → List ℕ → ℕ → ℕ
+widthBy size v k = choose (eqb (rowAt v k .kind) 3) 2 (size (rowAt v k .a))
+
+-- the cells of n variables from row k on
+unfoldable pub roomBy : (ℕ → ℕ) → List ℕ → ℕ → ℕ → ℕ
+roomBy size v k zero = 0
+roomBy size v k (suc n) = roomBy size v k n + widthBy size v (k + n)
+
+abbrev pub widthOf : List ℕ → List ℕ → List ℕ → ℕ → ℕ
+widthOf t f = widthBy (sizeOf t f)
+
+abbrev pub roomFrom : List ℕ → List ℕ → List ℕ → ℕ → ℕ → ℕ
+roomFrom t f = roomBy (sizeOf t f)
+
+-- "Globals fill cells 0 to G - 1.": G
+unfoldable pub globalCells : List ℕ → List ℕ → List ℕ → ℕ
+globalCells t f v = roomFrom t f v 0 (globalsOf v)
+
+-- "Procedure p's frame of Fp cells holds three links .., then its variables": Fp of procedure q
+unfoldable pub frameSize : List ℕ → List ℕ → List ℕ → List ℕ → ℕ → ℕ
+frameSize t f v p q = 3 + roomFrom t f v (firstVariable v p q) (claimedBy (rowAt p q))
+
+-- where variable row k of procedure q begins in its frame
+unfoldable pub placeIn : List ℕ → List ℕ → List ℕ → List ℕ → ℕ → ℕ → ℕ
+placeIn t f v p q k = 3 + roomFrom t f v (firstVariable v p q) (k - firstVariable v p q)
+
+-- "Procedures use up the remaining variables in order": the first variable of each procedure, and the row behind the last
+pub record Firsts (v p old firsts : List ℕ) : Type 0 where
+  pub cells : length firsts ≡ length old
+  pub first : (q : ℕ) → q ≤ rowsOf p → getD firsts q 0 ≡ firstVariable v p q
+  pub rest : (i : ℕ) → rowsOf p < i → getD firsts i 0 ≡ getD old i 0
+
+-- what the plan holds of variables and procedures; every other cell is as it was
+pub record Places (t f v p old plan : List ℕ) : Type 0 where
+  pub cells : length plan ≡ length old
+  pub global : (k : ℕ) → k < globalsOf v → getD plan (384 + k) 0 ≡ roomFrom t f v 0 k
+  pub own : (q j : ℕ) → q < rowsOf p → j < claimedBy (rowAt p q)
+      → getD plan (384 + (firstVariable v p q + j)) 0 ≡ 3 + roomFrom t f v (firstVariable v p q) j
+  pub frame : (q : ℕ) → q < rowsOf p → getD plan (640 + q) 0 ≡ frameSize t f v p q
+  pub first : (q : ℕ) → q ≤ rowsOf p → getD plan (704 + q) 0 ≡ firstVariable v p q
+  pub globals : getD plan 769 0 ≡ globalCells t f v
+  pub types : (i : ℕ) → i < 384 → getD plan i 0 ≡ getD old i 0
+  pub variables : (k : ℕ) → firstVariable v p (rowsOf p) ≤ k → k < 256 → getD plan (384 + k) 0 ≡ getD old (384 + k) 0
+  pub frames : (q : ℕ) → rowsOf p ≤ q → q < 64 → getD plan (640 + q) 0 ≡ getD old (640 + q) 0
+  pub firsts : (q : ℕ) → rowsOf p < q → q ≤ 64 → getD plan (704 + q) 0 ≡ getD old (704 + q) 0
+  pub rest : (i : ℕ) → 770 ≤ i → getD plan i 0 ≡ getD old i 0
