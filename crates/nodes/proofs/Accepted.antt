@@ -15,8 +15,9 @@ use Rattle.image.specs.declared.Verdict.the-variants.{Kept}
 use Rattle.image.specs.Rows.{rowAt, rowsOf}
 use Rattle.image.proofs.Bytes.{row-missing}
 use Rattle.image.proofs.Faults.{verdict-kept}
-use Rattle.nodes.specs.Nodes.{isDesignator, isArgument, childKept, designatorKept, constantKept, variableKept, fieldKept}
-use Rattle.nodes.specs.Nodes.{elementKept, guardKept, dyadicKept, monadicKept, argumentKept, formKept, nodeKept, question7}
+use Rattle.nodes.specs.Nodes.{isDesignator, isArgument, childKept, designatorKept, constantKept, variableKept}
+use Rattle.nodes.specs.Nodes.{fieldKept, elementKept, guardKept, dyadicKept, monadicKept, argumentKept}
+use Rattle.nodes.specs.Nodes.{formKept, nodeKept, question7}
 
 -- ---- nodes that may be named
 
@@ -135,8 +136,8 @@ constant-node row e =
     record {
       typed = leb-true _ _ typed;
       boolean = λ z.
-        let (b, c) = also-true _ _ (sym (choose-yes _ _ _ (eq-eqb (row .a) 0 z)) ∙ rest) in
-        (eqb-true _ _ b, leb-true _ _ c);
+          let (b, c) = also-true _ _ (sym (choose-yes _ _ _ (eq-eqb (row .a) 0 z)) ∙ rest) in
+          (eqb-true _ _ b, leb-true _ _ c);
     }
 
 variable-node : (v : List ℕ) (row : Row) → variableKept (rowsOf v) row ≡ true → VariableNode v row

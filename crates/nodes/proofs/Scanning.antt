@@ -18,6 +18,7 @@ module _ (types variables : ℕ) (n : List ℕ) (r : ℕ) (row : Row) (this-row 
   unfolding nodeKept
   form-bad e = rw (← this-row) (also-right _ e)
 
-  pub node-good : row .zero ≡ 0 → formKept types variables n r (row .kind) row ≡ true → nodeKept types variables n r ≡ true
+  pub node-good : row .zero ≡ 0 → formKept types variables n r (row .kind) row ≡ true
+      → nodeKept types variables n r ≡ true
   unfolding nodeKept
   node-good z e = rw (← this-row) (also-yes (eq-eqb (row .zero) 0 z) e)

@@ -18,8 +18,9 @@ use Rattle.frames.specs.Procedures.{bodyEnd}
 use Rattle.frames.proofs.Accepted.{ProceduresKept}
 use Rattle.nodes.specs.Nodes.{isDesignator, isArgument}
 use Rattle.nodes.proofs.Accepted.{Plain, Designator, designator-is, argument-not}
-use Rattle.statements.specs.Statements.{procedureAt, isNode, targetKept, argumentsKept, assignKept, callKept, jumpKept}
-use Rattle.statements.specs.Statements.{gotoKept, returnKept, readKept, valueKept, formKept, lastKept, statementIn, statementKept, question8}
+use Rattle.statements.specs.Statements.{procedureAt, isNode, targetKept, argumentsKept, assignKept, callKept}
+use Rattle.statements.specs.Statements.{jumpKept, gotoKept, returnKept, readKept, valueKept, formKept, lastKept}
+use Rattle.statements.specs.Statements.{statementIn, statementKept, question8}
 use Rattle.statements.proofs.Bodies.{InBody, in-body}
 
 -- ---- a row of each kind
@@ -72,8 +73,10 @@ pub record ValueRow (n : List ℕ) (row : Row) : Type 0 where
 pub data StatementRow (n p s : List ℕ) (r : ℕ) : Type 0 where
   is-assign : rowAt s r .zero ≡ 0 → rowAt s r .kind ≡ 0 → AssignRow n (rowAt s r) → StatementRow n p s r
   is-call : rowAt s r .zero ≡ 0 → rowAt s r .kind ≡ 1 → CallRow n p (rowAt s r) → StatementRow n p s r
-  is-jump : rowAt s r .zero ≡ 0 → rowAt s r .kind ≡ 2 → JumpRow n p s (procedureAt p r) (rowAt s r) → StatementRow n p s r
-  is-goto : rowAt s r .zero ≡ 0 → rowAt s r .kind ≡ 3 → GotoRow p s (procedureAt p r) (rowAt s r) → StatementRow n p s r
+  is-jump : rowAt s r .zero ≡ 0 → rowAt s r .kind ≡ 2 → JumpRow n p s (procedureAt p r) (rowAt s r)
+      → StatementRow n p s r
+  is-goto : rowAt s r .zero ≡ 0 → rowAt s r .kind ≡ 3 → GotoRow p s (procedureAt p r) (rowAt s r)
+      → StatementRow n p s r
   is-return : rowAt s r .zero ≡ 0 → rowAt s r .kind ≡ 4 → ReturnRow (rowAt s r) → StatementRow n p s r
   is-read : rowAt s r .zero ≡ 0 → rowAt s r .kind ≡ 5 → ReadRow n (rowAt s r) → StatementRow n p s r
   is-write : rowAt s r .zero ≡ 0 → rowAt s r .kind ≡ 6 → ValueRow n (rowAt s r) → StatementRow n p s r
@@ -129,14 +132,16 @@ call-row n p row e =
       unused-c = eqb-true _ _ c;
     }
 
-jump-row : (n p s : List ℕ) (q : ℕ) (row : Row) → jumpKept n (rowAt p q .a) (bodyEnd p (rowsOf s) q) row ≡ true → JumpRow n p s q row
+jump-row : (n p s : List ℕ) (q : ℕ) (row : Row) → jumpKept n (rowAt p q .a) (bodyEnd p (rowsOf s) q) row ≡ true
+    → JumpRow n p s q row
 unfolding jumpKept
 jump-row n p s q row e =
     let (a, e₁) = also-true _ _ e in
     let (b, c) = also-true _ _ e₁ in
     record { condition = plain-is n _ a; target = target-is p s q _ b; unused-c = eqb-true _ _ c }
 
-goto-row : (p s : List ℕ) (q : ℕ) (row : Row) → gotoKept (rowAt p q .a) (bodyEnd p (rowsOf s) q) row ≡ true → GotoRow p s q row
+goto-row : (p s : List ℕ) (q : ℕ) (row : Row) → gotoKept (rowAt p q .a) (bodyEnd p (rowsOf s) q) row ≡ true
+    → GotoRow p s q row
 unfolding gotoKept
 goto-row p s q row e =
     let (a, e₁) = also-true _ _ e in
@@ -199,7 +204,8 @@ last-row end r row e at =
     (choose-cases (eqb (row .kind) 4) (o .1)))
     (choose-cases (eqb (row .kind) 3) (sym (choose-yes _ _ _ (eq-eqb (r + 1) end at)) ∙ e))
 
-ends-row : (n p s : List ℕ) (r : ℕ) → statementKept n p s r ≡ true → r + 1 ≡ bodyEnd p (rowsOf s) (procedureAt p r) → Ends (rowAt s r)
+ends-row : (n p s : List ℕ) (r : ℕ) → statementKept n p s r ≡ true → r + 1 ≡ bodyEnd p (rowsOf s) (procedureAt p r)
+    → Ends (rowAt s r)
 unfolding statementKept statementIn
 ends-row n p s r e =
     let (zero, e₁) = also-true _ _ e in
@@ -225,7 +231,8 @@ module _ (n p s : List ℕ) (e : question8 n p s ≡ Kept) (r : ℕ) (h : r < ro
       → formKept n p (rowAt p (procedureAt p r) .a) (bodyEnd p (rowsOf s) (procedureAt p r)) k (rowAt s r) ≡ true
   unfolding statementKept statementIn
   form k kind =
-      sym (ap (λ j. formKept n p (rowAt p (procedureAt p r) .a) (bodyEnd p (rowsOf s) (procedureAt p r)) j (rowAt s r)) kind)
+      let q = procedureAt p r in
+      sym (ap (λ j. formKept n p (rowAt p q .a) (bodyEnd p (rowsOf s) q) j (rowAt s r)) kind)
       ∙ also-true _ _ (also-true _ _ kept .1) .0
 
   pub assign-is : rowAt s r .kind ≡ 0 → AssignRow n (rowAt s r)

@@ -71,7 +71,9 @@ module _ (v p s : List ℕ) (kept : ProceduresKept v p s) where
     where
       go : (x : Bool) → beginsAt p q (suc r) ≡ x → InBody p s (choose x (q + 1) q) (suc r)
       go true e = let (more, at) = begins-true p q (suc r) e in rw at at (start-in (q + 1) more)
-      go false e = let low = b .start in record { procedure = b .procedure; start = omega arith; end = end (decLt (q + 1) (rowsOf p)) }
+      go false e =
+          let low = b .start in
+          record { procedure = b .procedure; start = omega arith; end = end (decLt (q + 1) (rowsOf p)) }
         where
           end : Dec (q + 1 < rowsOf p) → suc r < bodyEnd p (rowsOf s) q
           end (yes l) =
