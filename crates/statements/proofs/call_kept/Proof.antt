@@ -13,7 +13,7 @@ use Rattle.statements.proofs.arguments_kept.Reads as arguments-kept-rea
 
 returns : tie.Need-returns
 unfolding callKept
-returns c = sym (also-left _ (lt-leb _ _ (c .if1 .taken)))
+returns c = λ n runs. sym (also-left _ (lt-leb _ _ (c .if1 .taken)))
 
 rows-of-requires : tie.Need-rows-of-requires
 rows-of-requires c κs = search needs
@@ -23,7 +23,7 @@ cast-if2 c = search needs
 
 returns-2 : tie.Need-returns-2
 unfolding callKept
-returns-2 c = sym (also-right _ (also-left _ (le-ltb _ _ (rw (c .before .rows-of .ensures) at (c .if2 .taken)))))
+returns-2 c = λ n runs. sym (also-right _ (also-left _ (le-ltb _ _ (rw (c .before .rows-of .ensures) at (c .if2 .taken)))))
 
 cast-row-at : tie.Need-cast-row-at
 cast-row-at c = search needs
@@ -36,12 +36,14 @@ arguments-kept-requires c κs = search needs
 
 returns-3 : tie.Need-returns-3
 unfolding callKept
-returns-3 c = let arguments = rw (c .before .before .row-at .ensures) at (c .before .arguments-kept .ensures) in
+returns-3 c = λ n runs.
+    let arguments = rw (c .before .before .row-at .ensures) at (c .before .arguments-kept .ensures n runs) in
     sym (also-right _ (also-right _ (also-left _ (sym arguments ∙ not-true _ (c .if3 .taken)))))
 
 returns-4 : tie.Need-returns-4
 unfolding callKept
-returns-4 c = let arguments = rw (c .before .before .row-at .ensures) at (c .before .arguments-kept .ensures) in
+returns-4 c = λ n runs.
+    let arguments = rw (c .before .before .row-at .ensures) at (c .before .arguments-kept .ensures n runs) in
     let some = rw (c .before .before .before .before .rows-of .ensures) at (c .before .before .before .if2 .left) in
     sym (also-pass _ (le-leb _ _ (c .before .before .before .before .before .if1 .left)) ∙ also-pass _ (lt-ltb _ _ some)
     ∙ also-pass _ (sym arguments ∙ not-false _ (c .if3 .left)))

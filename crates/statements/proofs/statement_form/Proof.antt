@@ -42,47 +42,65 @@ value-kept-requires-2 c κs = search needs
 
 returns : tie.Need-returns
 unfolding formKept choose
-returns c = let s = c .before .before .before .before .args in
-    c .assign-kept .ensures ∙ sym (ap (λ j. formKept (now (s .n)) (now (s .p)) (s .start) (s .end) j (s .row)) (c .before .match .keys1))
+returns c = let s = c .before .before .before .before .before .args in
+    c .assign-kept .ensures
+    ∙ sym (ap (λ j. formKept (now (s .n)) (now (s .p)) (s .start) (s .end) j (s .row)) (c .before .match .keys1))
 
 returns-2 : tie.Need-returns-2
 unfolding formKept choose
-returns-2 c = let s = c .before .before .before .before .args in
-    c .call-kept .ensures ∙ sym (ap (λ j. formKept (now (s .n)) (now (s .p)) (s .start) (s .end) j (s .row)) (c .before .match .keys2))
+returns-2 c = let s = c .before .before .before .before .before .args in
+    c .call-kept .ensures (now (s .n)) (c .before .before .before .before .before .pre)
+    ∙ sym (ap (λ j. formKept (now (s .n)) (now (s .p)) (s .start) (s .end) j (s .row)) (c .before .match .keys2))
 
 returns-3 : tie.Need-returns-3
 unfolding formKept choose
-returns-3 c = let s = c .before .before .before .before .args in
-    c .jump-kept .ensures ∙ sym (ap (λ j. formKept (now (s .n)) (now (s .p)) (s .start) (s .end) j (s .row)) (c .before .match .keys3))
+returns-3 c = let s = c .before .before .before .before .before .args in
+    c .jump-kept .ensures
+    ∙ sym (ap (λ j. formKept (now (s .n)) (now (s .p)) (s .start) (s .end) j (s .row)) (c .before .match .keys3))
 
 returns-4 : tie.Need-returns-4
 unfolding formKept choose
-returns-4 c = let s = c .before .before .before .before .args in
-    c .goto-kept .ensures ∙ sym (ap (λ j. formKept (now (s .n)) (now (s .p)) (s .start) (s .end) j (s .row)) (c .before .match .keys4))
+returns-4 c = let s = c .before .before .before .before .before .args in
+    c .goto-kept .ensures
+    ∙ sym (ap (λ j. formKept (now (s .n)) (now (s .p)) (s .start) (s .end) j (s .row)) (c .before .match .keys4))
 
 returns-5 : tie.Need-returns-5
 unfolding formKept choose
-returns-5 c = let s = c .before .before .before .before .args in
-    c .return-kept .ensures ∙ sym (ap (λ j. formKept (now (s .n)) (now (s .p)) (s .start) (s .end) j (s .row)) (c .before .match .keys5))
+returns-5 c = let s = c .before .before .before .before .before .args in
+    c .return-kept .ensures
+    ∙ sym (ap (λ j. formKept (now (s .n)) (now (s .p)) (s .start) (s .end) j (s .row)) (c .before .match .keys5))
 
 returns-6 : tie.Need-returns-6
 unfolding formKept choose
-returns-6 c = let s = c .before .before .before .before .args in
-    c .read-kept .ensures ∙ sym (ap (λ j. formKept (now (s .n)) (now (s .p)) (s .start) (s .end) j (s .row)) (c .before .match .keys6))
+returns-6 c = let s = c .before .before .before .before .before .args in
+    c .read-kept .ensures
+    ∙ sym (ap (λ j. formKept (now (s .n)) (now (s .p)) (s .start) (s .end) j (s .row)) (c .before .match .keys6))
 
 returns-7 : tie.Need-returns-7
 unfolding formKept choose
-returns-7 c = let s = c .before .before .before .before .args in
-    c .value-kept .ensures ∙ sym (ap (λ j. formKept (now (s .n)) (now (s .p)) (s .start) (s .end) j (s .row)) (c .before .match .keys7))
+returns-7 c = let s = c .before .before .before .before .before .args in
+    c .value-kept .ensures
+    ∙ sym (ap (λ j. formKept (now (s .n)) (now (s .p)) (s .start) (s .end) j (s .row)) (c .before .match .keys7))
 
 returns-8 : tie.Need-returns-8
 unfolding formKept choose
-returns-8 c = let s = c .before .before .before .before .args in
-    c .value-kept2 .ensures ∙ sym (ap (λ j. formKept (now (s .n)) (now (s .p)) (s .start) (s .end) j (s .row)) (c .before .match .keys8))
+returns-8 c = let s = c .before .before .before .before .before .args in
+    c .value-kept2 .ensures
+    ∙ sym (ap (λ j. formKept (now (s .n)) (now (s .p)) (s .start) (s .end) j (s .row)) (c .before .match .keys8))
 
 returns-9 : tie.Need-returns-9
 unfolding formKept choose
-returns-9 c = rw (ne-eqb _ 0 (c .match .rest .0 .0 .0 .0 .0 .0 .0 .1), ne-eqb _ 1 (c .match .rest .0 .0 .0 .0 .0 .0 .1), ne-eqb _ 2 (c .match .rest .0 .0 .0 .0 .0 .1), ne-eqb _ 3 (c .match .rest .0 .0 .0 .0 .1), ne-eqb _ 4 (c .match .rest .0 .0 .0 .1), ne-eqb _ 5 (c .match .rest .0 .0 .1), ne-eqb _ 6 (c .match .rest .0 .1), ne-eqb _ 7 (c .match .rest .1))
+returns-9 c =
+    rw (
+      ne-eqb _ 0 (c .match .rest .0 .0 .0 .0 .0 .0 .0 .1),
+      ne-eqb _ 1 (c .match .rest .0 .0 .0 .0 .0 .0 .1),
+      ne-eqb _ 2 (c .match .rest .0 .0 .0 .0 .0 .1),
+      ne-eqb _ 3 (c .match .rest .0 .0 .0 .0 .1),
+      ne-eqb _ 4 (c .match .rest .0 .0 .0 .1),
+      ne-eqb _ 5 (c .match .rest .0 .0 .1),
+      ne-eqb _ 6 (c .match .rest .0 .1),
+      ne-eqb _ 7 (c .match .rest .1),
+    )
 
 pub statement-form-spec : {M : Type 1} → statement M
 statement-form-spec =
