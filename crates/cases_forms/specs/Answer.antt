@@ -11,7 +11,7 @@ use Rattle.types.specs.Question.{question4}
 use Rattle.frames.specs.Variables.{question5}
 use Rattle.frames.specs.Procedures.{question6}
 use Rattle.nodes.specs.Nodes.{question7}
-use Rattle.nodes.specs.Statements.{question8}
+use Rattle.statements.specs.Statements.{question8}
 
 -- the first no decides: this question's, or what the later ones say
 unfoldable pub firstNo : ℕ → Verdict → ℕ → ℕ

@@ -24,7 +24,7 @@ fn tables_answer(t: &[u8], f: &[u8], v: &[u8], p: &[u8], n: &[u8], s: &[u8]) -> 
     let variables = frames::check_variables(t, v);
     let procedures = frames::check_procedures(v, p, s);
     let nodes = nodes::check_nodes(t, v, n);
-    let statements = nodes::check_statements(n, p, s);
+    let statements = statements::check_statements(n, p, s);
     let eight = first_no(8, statements, 0);
     let seven = first_no(7, nodes, eight);
     let six = first_no(6, procedures, seven);

@@ -16,7 +16,7 @@ use Rattle.values.specs.declared.KindAnswer.the-variants.{Untyped, Kind}
 use Rattle.types.specs.Extends.{extends}
 use Rattle.frames.specs.Procedures.{firstVariable}
 use Rattle.nodes.specs.Nodes.{isDesignator}
-use Rattle.nodes.specs.Statements.{procedureAt}
+use Rattle.statements.specs.Statements.{procedureAt}
 use Rattle.typing.specs.Typing.{typeOf}
 use Rattle.owners.specs.Owners.{ownBelow}
 

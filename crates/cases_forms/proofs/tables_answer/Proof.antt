@@ -8,7 +8,7 @@ use Rattle.cases_forms.proofs.first_no.Reads as first-no-reads
 use Rattle.frames.proofs.check_procedures.Reads as check-procedures-reads
 use Rattle.frames.proofs.check_variables.Reads as check-variables-reads
 use Rattle.nodes.proofs.check_nodes.Reads as check-nodes-reads
-use Rattle.nodes.proofs.check_statements.Reads as check-statements-reads
+use Rattle.statements.proofs.check_statements.Reads as check-statements-reads
 use Rattle.types.proofs.check_types.Reads as check-types-reads
 
 slice-aggregate-check-types : tie.Need-slice-aggregate-check-types

@@ -1,0 +1,4 @@
+pub mod Scanning
+pub mod Running
+pub mod Bodies
+pub mod Accepted
