@@ -8,17 +8,18 @@ use lib.ListN.{getD}
 use Rattle.prelude.specs.Choice.{choose, _also_}
 use Rattle.image.specs.declared.Row.{Row}
 use Rattle.image.specs.declared.Verdict.{Verdict}
+use Rattle.image.specs.declared.Verdict.the-variants.{Kept}
 use Rattle.image.specs.Rows.{rowAt, rowsOf}
 use Rattle.image.specs.Faults.{allFrom, lowestFault}
 use Rattle.values.specs.Values.{BOOLEAN, INTEGER}
 use Rattle.values.specs.declared.KindAnswer.{KindAnswer}
 use Rattle.values.specs.declared.KindAnswer.the-variants.{Untyped, Kind}
 use Rattle.types.specs.Extends.{extends}
-use Rattle.frames.specs.Procedures.{firstVariable}
+use Rattle.frames.specs.Procedures.{firstVariable, question6}
 use Rattle.nodes.specs.Nodes.{isDesignator}
 use Rattle.statements.specs.Statements.{procedureAt}
 use Rattle.typing.specs.Typing.{typeOf}
-use Rattle.owners.specs.Owners.{ownBelow}
+use Rattle.owners.specs.Owners.{ownBelow, spanOf, spanIn}
 
 -- a node's type is row r
 unfoldable pub isType : KindAnswer → ℕ → Bool
@@ -83,8 +84,26 @@ rulesBy t v p n s type = lowestFault (statementRule t v p n s type) (rowsOf s)
 unfoldable pub question11 : List ℕ → List ℕ → List ℕ → List ℕ → List ℕ → List ℕ → Verdict
 question11 t f v p n s = rulesBy t v p n s (typeOf t f v n)
 
--- ---- a table of first variables
+-- ---- what the tables hold that the question reads
 
 -- each procedure's first variable, and behind the last procedure where its variables end
 pub record FirstTable (v p firsts : List ℕ) : Type 0 where
   pub first : (q : ℕ) → q ≤ rowsOf p → getD firsts q 0 ≡ firstVariable v p q
+
+-- accepted procedures, their first variables, and the spans of all nodes
+pub record Ready (v p n s least past firsts : List ℕ) : Type 0 where
+  pub few-variables : rowsOf v ≤ 256
+  pub few-statements : rowsOf s ≤ 1024
+  pub some-procedure : 1 ≤ rowsOf p
+  pub procedures : question6 v p s ≡ Kept
+  pub table : FirstTable v p firsts
+  pub spans : (k : ℕ) → spanIn least past k ≡ spanOf v n k
+
+-- tables whose counts are in range, with accepted procedures
+pub record RowsFit (v p n s : List ℕ) : Type 0 where
+  pub few-variables : rowsOf v ≤ 256
+  pub some-procedure : 1 ≤ rowsOf p
+  pub few-procedures : rowsOf p ≤ 64
+  pub few-nodes : rowsOf n ≤ 2048
+  pub few-statements : rowsOf s ≤ 1024
+  pub procedures : question6 v p s ≡ Kept

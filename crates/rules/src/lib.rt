@@ -11,7 +11,7 @@ ghost use Rattle.image.specs.Rows.{rowsOf};
 ghost use Rattle.frames.specs.Procedures.{firstVariable, question6};
 ghost use Rattle.typing.specs.Typing.{typeIn};
 ghost use Rattle.owners.specs.Owners.{spanOf, spanIn, within};
-ghost use Rattle.rules.specs.Rules.{isType, assignable as isAssignable, assignRule, formRule, argumentRule, callRule, typeRule, haltRule, ruleBy, rulesBy, FirstTable};
+ghost use Rattle.rules.specs.Rules.{isType, assignable as isAssignable, assignRule, formRule, argumentRule, callRule, typeRule, haltRule, ruleBy, rulesBy, FirstTable, Ready, RowsFit};
 
 fn is_type(types: &[u16], k: usize, r: u16) -> bool
     ensures { λ x. ⌜ x ≡ isType (typeIn (now (types .entry)) k) r ⌝ }
@@ -228,4 +228,60 @@ fn rule_by(
         7 => halt_rule(n, types, least, past, first, next, row),
         _ => true,
     }
+}
+
+// Whether each statement keeps its rules, by tables of spans and of first variables.
+fn rules_by(
+    t: &[u8],
+    v: &[u8],
+    p: &[u8],
+    n: &[u8],
+    s: &[u8],
+    types: &[u16],
+    least: &[u16],
+    past: &[u16],
+    firsts: &[u32],
+) -> Verdict
+    requires { ⌜ Ready (now v) (now p) (now n) (now s) (now least) (now past) (now firsts) ⌝ }
+    ensures { λ x. ⌜ x ≡ rulesBy (now (t .entry)) (now (v .entry)) (now (p .entry)) (now (n .entry)) (now (s .entry)) (typeIn (now (types .entry))) ⌝ }
+{
+    let statements = image::rows_of(s);
+    let mut q: usize = 0;
+    let mut r: usize = 0;
+    while r < statements {
+        let row = image::row_at(s, r);
+        let first = types::cell(firsts, q);
+        let next = types::cell(firsts, q + 1);
+        if !rule_by(t, v, p, n, types, least, past, firsts, first, next, row) {
+            let bad = r as u16;
+            return Verdict::Fault(bad);
+        }
+        r = r + 1;
+        q = statements::next_procedure(p, q, r);
+    }
+    Verdict::Kept
+}
+
+// Question 11, by a table that holds the type of each node.
+pub fn check_rules(t: &[u8], v: &[u8], p: &[u8], n: &[u8], s: &[u8], types: &[u16]) -> Verdict
+    requires { ⌜ RowsFit (now v) (now p) (now n) (now s) ⌝ }
+    ensures { λ x. ⌜ x ≡ rulesBy (now (t .entry)) (now (v .entry)) (now (p .entry)) (now (n .entry)) (now (s .entry)) (typeIn (now (types .entry))) ⌝ }
+{
+    let nodes = image::rows_of(n);
+    let mut least = [0u16; 2048];
+    let mut past = [0u16; 2048];
+    owners::fill_spans(v, n, &mut least, &mut past);
+    let mut firsts = [0u32; 65];
+    places::first_variables(v, p, &mut firsts);
+    rules_by(
+        t,
+        v,
+        p,
+        n,
+        s,
+        types,
+        &least[..nodes],
+        &past[..nodes],
+        &firsts,
+    )
 }

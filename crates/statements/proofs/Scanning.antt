@@ -15,6 +15,11 @@ pub statement-is : (n p s : List ℕ) (q r : ℕ) (row : Row) → row ≡ rowAt 
 unfolding statementKept
 statement-is n p s q r row this-row this-procedure = rw (this-row, this-procedure)
 
+-- the first row is the module body's
+pub procedure-first : (p : List ℕ) → 0 ≡ procedureAt p 0
+unfolding procedureAt
+procedure-first p = refl
+
 -- the next row's procedure
 pub procedure-next : (p : List ℕ) (q r : ℕ) → q ≡ procedureAt p r → nextProcedure p q (r + 1) ≡ procedureAt p (r + 1)
 unfolding procedureAt
