@@ -40,7 +40,7 @@ pub record Own (v p : List ℕ) (q k : ℕ) : Type 0 where
   pub low : firstVariable v p q ≤ k
   pub high : k < firstVariable v p (q + 1)
 
-module _ (t f v p : List ℕ) (q k : ℕ) (own : Own v p q k) where
+module _ (v p : List ℕ) (q k : ℕ) (own : Own v p q k) where
   -- it is one of those that the procedure claims
   pub own-count : k - firstVariable v p q < claimedBy (rowAt p q)
   own-count =
@@ -52,16 +52,17 @@ module _ (t f v p : List ℕ) (q k : ℕ) (own : Own v p q k) where
   own-row : firstVariable v p q + (k - firstVariable v p q) ≡ k
   own-row = let low = own .low in omega arith
 
+module _ (t f v p : List ℕ) (q k : ℕ) (own : Own v p q k) where
   -- the plan has its place
   pub own-place : (old plan : List ℕ) → Places t f v p old plan → q < rowsOf p
       → getD plan (384 + k) 0 ≡ placeIn t f v p q k
   unfolding placeIn
-  own-place old plan places h = rw own-row at (places .own q (k - firstVariable v p q) h own-count)
+  own-place old plan places h = rw (own-row v p q k own) at (places .own q (k - firstVariable v p q) h (own-count v p q k own))
 
   own-up : (n : ℕ) → k - firstVariable v p q < n
       → roomFrom t f v (firstVariable v p q) (k - firstVariable v p q) + widthOf t f v k
       ≤ roomFrom t f v (firstVariable v p q) n
-  own-up n h = rw own-row at (room-up (sizeOf t f) v (firstVariable v p q) (k - firstVariable v p q) n h)
+  own-up n h = rw (own-row v p q k own) at (room-up (sizeOf t f) v (firstVariable v p q) (k - firstVariable v p q) n h)
 
   -- its cells stand behind the links and within the frame
   pub own-links : 3 ≤ placeIn t f v p q k
@@ -70,7 +71,7 @@ module _ (t f v p : List ℕ) (q k : ℕ) (own : Own v p q k) where
 
   pub own-within : placeIn t f v p q k + widthOf t f v k ≤ frameSize t f v p q
   unfolding placeIn frameSize
-  own-within = let up = own-up (claimedBy (rowAt p q)) own-count in omega arith
+  own-within = let up = own-up (claimedBy (rowAt p q)) (own-count v p q k own) in omega arith
 
   -- and before those of a later variable
   pub own-apart : (l : ℕ) → k < l → placeIn t f v p q k + widthOf t f v k ≤ placeIn t f v p q l
