@@ -57,7 +57,9 @@ module _ (t f v p : List ℕ) (q k : ℕ) (own : Own v p q k) where
   pub own-place : (old plan : List ℕ) → Places t f v p old plan → q < rowsOf p
       → getD plan (384 + k) 0 ≡ placeIn t f v p q k
   unfolding placeIn
-  own-place old plan places h = rw (own-row v p q k own) at (places .own q (k - firstVariable v p q) h (own-count v p q k own))
+  own-place old plan places h =
+      let at = places .own q (k - firstVariable v p q) h (own-count v p q k own) in
+      rw (own-row v p q k own) at at
 
   own-up : (n : ℕ) → k - firstVariable v p q < n
       → roomFrom t f v (firstVariable v p q) (k - firstVariable v p q) + widthOf t f v k
