@@ -1,11 +1,12 @@
 -- Laws of cells that are written one after the other, and of a lent part of them.
-use mathlib.Core.Path.{_≡_, refl, sym, _∙_, ap}
+use mathlib.Core.Path.{_≡_, refl, _∙_}
 use mathlib.Core.List.{List, _++_, append-nil}
-use Prim.Native.Nat.{ℕ, zero, suc, _+_, _-_, _≤_, _<_}
+use Prim.Native.Nat.{ℕ, suc, _+_, _-_, _≤_, _<_}
 use native.Mathlib.Omega.{arith}
 use native.Mathlib.Decide.{decLt}
 use native.Mathlib.Nat.{le-of-eq}
-use lib.ListN.{length, getD, set, take, drop, length-set, length-append, length-take, length-drop, drop-of-length-le, List·getD-append}
+use lib.ListN.{length, getD, set, take, drop, length-set, length-append, length-drop}
+use lib.ListN.{drop-of-length-le, List·getD-append}
 use lib.Seq.{getD-set-same, getD-set-other, getD-take, getD-drop, getD-append-add, take-all, length-take-le}
 use Rattle.places.specs.Filling.{Filled}
 
@@ -16,8 +17,8 @@ filled-none from g old =
     record { cells = refl; cell = λ j h. absurd (omega arith); below = λ i h. refl; above = λ i h. refl }
 
 -- one cell more
-pub filled-next : (from n : ℕ) (g : ℕ → ℕ) (old plan : List ℕ) (i x : ℕ) → Filled from n g old plan → i ≡ from + n → i < length plan
-    → x ≡ g n → Filled from (suc n) g old (set plan i x)
+pub filled-next : (from n : ℕ) (g : ℕ → ℕ) (old plan : List ℕ) (i x : ℕ) → Filled from n g old plan
+    → i ≡ from + n → i < length plan → x ≡ g n → Filled from (suc n) g old (set plan i x)
 filled-next from n g old plan i x filled at room e = record {
   cells = length-set plan i x ∙ filled .cells;
   cell = λ j h. go j (decLt j n) h;
@@ -48,7 +49,8 @@ module _ (a : ℕ) (s r : List ℕ) (within : a ≤ length s) where
   front : length (take a s) ≡ a
   front = length-take-le a s within
 
-  pub put-length : length r ≡ length (take (length s - a) (drop a s)) → length (take a s ++ (r ++ drop (length s - a) (drop a s))) ≡ length s
+  pub put-length : length r ≡ length (take (length s - a) (drop a s))
+      → length (take a s ++ (r ++ drop (length s - a) (drop a s))) ≡ length s
   put-length e = rw put-is (omega (arith, length-append (take a s) r, front, e, lent-length))
 
   pub put-below : (i : ℕ) → i < a → getD (take a s ++ (r ++ drop (length s - a) (drop a s))) i 0 ≡ getD s i 0

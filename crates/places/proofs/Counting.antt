@@ -1,10 +1,10 @@
 -- Laws of the loop that writes the first variable of each procedure.
-use mathlib.Core.Path.{_≡_, refl, sym, _∙_, ap}
+use mathlib.Core.Path.{_≡_, refl, sym, _∙_}
 use mathlib.Core.List.{List}
 use Prim.Native.Nat.{ℕ, zero, suc, _+_, _*_, _≤_, _<_}
 use native.Mathlib.Omega.{arith}
 use native.Mathlib.Decide.{decLe}
-use lib.ListN.{length, getD, set}
+use lib.ListN.{length, set}
 use Rattle.image.specs.declared.Row.{Row}
 use Rattle.image.specs.Rows.{rowAt, rowsOf}
 use Rattle.frames.specs.Variables.{globalsOf}
@@ -29,7 +29,8 @@ module _ (v p : List ℕ) where
   first-grows q zero h = let z : q ≡ 0 = omega arith in rw z (omega arith)
   first-grows q (suc r) h = go (decLe q r) (first-grows q r)
     where
-      go : Dec (q ≤ r) → (q ≤ r → firstVariable v p q ≤ firstVariable v p r) → firstVariable v p q ≤ firstVariable v p (suc r)
+      go : Dec (q ≤ r) → (q ≤ r → firstVariable v p q ≤ firstVariable v p r)
+          → firstVariable v p q ≤ firstVariable v p (suc r)
       go (yes l) rest = omega (arith, rest l, first-next r)
       go (no l) rest = let e : q ≡ suc r = omega arith in rw e (omega arith)
 

@@ -1,14 +1,13 @@
 -- Laws of the loop that writes the frames.
-use mathlib.Core.Path.{_≡_, refl, sym, _∙_, ap}
+use mathlib.Core.Path.{_≡_, refl, _∙_, ap}
 use mathlib.Core.List.{List}
-use Prim.Native.Nat.{ℕ, zero, suc, _+_, _≤_, _<_}
+use Prim.Native.Nat.{ℕ, suc, _+_, _≤_, _<_}
 use native.Mathlib.Omega.{arith}
 use native.Mathlib.Decide.{decLt}
 use lib.ListN.{length, getD, set, length-set}
 use lib.Seq.{getD-set-same, getD-set-other}
 use Rattle.image.specs.declared.Row.{Row}
 use Rattle.image.specs.Rows.{rowAt, rowsOf}
-use Rattle.frames.specs.Variables.{globalsOf}
 use Rattle.frames.specs.Procedures.{claimedBy, firstVariable}
 use Rattle.frames.proofs.Claiming.{globals-within}
 use Rattle.places.specs.Places.{roomBy}
@@ -17,8 +16,8 @@ use Rattle.places.proofs.Rooms.{room-agree}
 use Rattle.places.proofs.Counting.{first-none, first-next, first-grows, first-up}
 
 -- the variables fit a plan of the same length with the same sizes
-pub fit-same : (v old plan : List ℕ) → VariablesFit v old → length plan ≡ length old → ((i : ℕ) → i < 64 → getD plan i 0 ≡ getD old i 0)
-    → VariablesFit v plan
+pub fit-same : (v old plan : List ℕ) → VariablesFit v old → length plan ≡ length old
+    → ((i : ℕ) → i < 64 → getD plan i 0 ≡ getD old i 0) → VariablesFit v plan
 fit-same v old plan fit cells same = record {
   few = fit .few;
   cells = let c = fit .cells in omega arith;
@@ -27,8 +26,8 @@ fit-same v old plan fit cells same = record {
 }
 
 -- the sizes of their types being the same, so are the cells of variables
-pub room-same : (v : List ℕ) (g h : ℕ → ℕ) → ((k : ℕ) → k < rowsOf v → g (rowAt v k .a) ≡ h (rowAt v k .a)) → (k n : ℕ) → k + n ≤ rowsOf v
-    → roomBy g v k n ≡ roomBy h v k n
+pub room-same : (v : List ℕ) (g h : ℕ → ℕ) → ((k : ℕ) → k < rowsOf v → g (rowAt v k .a) ≡ h (rowAt v k .a))
+    → (k n : ℕ) → k + n ≤ rowsOf v → roomBy g v k n ≡ roomBy h v k n
 room-same v g h same k n within = room-agree g h v k n (λ j low high. same j (omega arith))
 
 pub framed-none : (size : ℕ → ℕ) (v p old : List ℕ) → Framed size v p 0 old old
@@ -41,7 +40,8 @@ framed-none size v p old = record {
   above = λ i h. refl;
 }
 
-module _ (v p old plan : List ℕ) (q : ℕ) (fit : FramesFit v p old) (framed : Framed (held old) v p q old plan) (more : q < rowsOf p) where
+module _ (v p old plan : List ℕ) (q : ℕ) (fit : FramesFit v p old) (framed : Framed (held old) v p q old plan)
+    (more : q < rowsOf p) where
   few-variables : rowsOf v ≤ 256
   few-variables = fit .variables .few
 
@@ -64,10 +64,12 @@ module _ (v p old plan : List ℕ) (q : ℕ) (fit : FramesFit v p old) (framed :
   rooms : (n : ℕ) → n ≤ count → roomBy (held plan) v first n ≡ roomBy (held old) v first n
   rooms n h =
       let claims = fit .claims q more in
-      room-same v (held plan) (held old) (λ k l. types-same (rowAt v k .a) (fit .variables .low k l)) first n (omega arith)
+      room-same v (held plan) (held old) (λ k l. types-same (rowAt v k .a) (fit .variables .low k l)) first n
+      (omega arith)
 
   -- one frame more
-  module _ (next : List ℕ) (size : ℕ) (run : Filled (384 + first) count (λ j. 3 + roomBy (held plan) v first j) plan next)
+  module _ (next : List ℕ) (size : ℕ)
+      (run : Filled (384 + first) count (λ j. 3 + roomBy (held plan) v first j) plan next)
       (total : size ≡ 3 + roomBy (held plan) v first count) where
     abbrev last : List ℕ
     last = set next (640 + q) size
@@ -82,7 +84,8 @@ module _ (v p old plan : List ℕ) (q : ℕ) (fit : FramesFit v p old) (framed :
         within : firstVariable v p r + claimedBy (rowAt p r) ≤ 256
         within = let claims = fit .claims r (omega arith) in let few = few-variables in omega arith
 
-        go : Dec (r < q) → getD last (384 + (firstVariable v p r + j)) 0 ≡ 3 + roomBy (held old) v (firstVariable v p r) j
+        go : Dec (r < q)
+            → getD last (384 + (firstVariable v p r + j)) 0 ≡ 3 + roomBy (held old) v (firstVariable v p r) j
         go (yes low) =
             other (384 + (firstVariable v p r + j)) (λ e. omega (arith, within))
             ∙ run .below (384 + (firstVariable v p r + j)) (omega (arith, first-up v p r q low))
@@ -101,7 +104,8 @@ module _ (v p old plan : List ℕ) (q : ℕ) (fit : FramesFit v p old) (framed :
         → getD last (640 + r) 0 ≡ 3 + roomBy (held old) v (firstVariable v p r) (claimedBy (rowAt p r))
     frame-next r h = go (decLt r q)
       where
-        go : Dec (r < q) → getD last (640 + r) 0 ≡ 3 + roomBy (held old) v (firstVariable v p r) (claimedBy (rowAt p r))
+        go : Dec (r < q)
+            → getD last (640 + r) 0 ≡ 3 + roomBy (held old) v (firstVariable v p r) (claimedBy (rowAt p r))
         go (yes low) =
             let claims = fit .claims q more in
             let few = few-variables in
@@ -111,7 +115,8 @@ module _ (v p old plan : List ℕ) (q : ℕ) (fit : FramesFit v p old) (framed :
             let many = fit .few in
             let cells = fit .variables .cells in
             let same = run .cells ∙ framed .cells in
-            rw e (getD-set-same next (640 + q) size 0 (omega arith) ∙ total ∙ ap (λ n. 3 + n) (rooms count (omega arith)))
+            let room = ap (λ n. 3 + n) (rooms count (omega arith)) in
+            rw e (getD-set-same next (640 + q) size 0 (omega arith) ∙ total ∙ room)
 
     framed-next : Framed (held old) v p (q + 1) old last
     framed-next =
@@ -144,6 +149,8 @@ module _ (v p old plan : List ℕ) (q : ℕ) (fit : FramesFit v p old) (framed :
     pub run-rows : at + (row .b + row .c) ≤ rowsOf v
     run-rows = omega (arith, begins, counts, fit .claims q more)
 
-    pub framed-more : (next : List ℕ) (size : ℕ) → Filled (384 + at) (row .b + row .c) (λ j. 3 + roomBy (held plan) v at j) plan next
-        → size ≡ 3 + roomBy (held plan) v at (row .b + row .c) → Framed (held old) v p (q + 1) old (set next (640 + q) size)
+    pub framed-more : (next : List ℕ) (size : ℕ)
+        → Filled (384 + at) (row .b + row .c) (λ j. 3 + roomBy (held plan) v at j) plan next
+        → size ≡ 3 + roomBy (held plan) v at (row .b + row .c)
+        → Framed (held old) v p (q + 1) old (set next (640 + q) size)
     framed-more next size run total = framed-next next size (rw (counts, begins) at run) (rw (counts, begins) at total)

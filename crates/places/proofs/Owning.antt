@@ -1,7 +1,7 @@
 -- What the layers above cite: where a variable's cells stand, that variables do not overlap, and how large frames are.
-use mathlib.Core.Path.{_≡_, refl, sym, _∙_, ap}
+use mathlib.Core.Path.{_≡_, _∙_}
 use mathlib.Core.List.{List}
-use Prim.Native.Nat.{ℕ, zero, suc, _+_, _-_, _*_, _≤_, _<_}
+use Prim.Native.Nat.{ℕ, suc, _+_, _-_, _*_, _≤_, _<_}
 use native.Mathlib.Omega.{arith}
 use lib.ListN.{getD}
 use Rattle.image.specs.declared.Verdict.the-variants.{Kept}
@@ -25,8 +25,8 @@ unfolding claimedBy
 claims-kept v p s e q h = procedures-kept v p s e .row q h .room
 
 -- what question 4 put into the plan is still there
-pub plan-kept : (t f v p old plan : List ℕ) → Places t f v p old plan → question4 t f ≡ Kept → rowsOf t ≤ 64 → rowsOf f ≤ 256
-    → Plan t f (rowsOf t) old → Plan t f (rowsOf t) plan
+pub plan-kept : (t f v p old plan : List ℕ) → Places t f v p old plan → question4 t f ≡ Kept
+    → rowsOf t ≤ 64 → rowsOf f ≤ 256 → Plan t f (rowsOf t) old → Plan t f (rowsOf t) plan
 plan-kept t f v p old plan places four few-types few-fields planned = record {
   size = λ r h. places .types r (omega arith) ∙ planned .size r h;
   inherited = λ r h. places .types (64 + r) (omega arith) ∙ planned .inherited r h;
@@ -40,7 +40,7 @@ pub record Own (v p : List ℕ) (q k : ℕ) : Type 0 where
   pub low : firstVariable v p q ≤ k
   pub high : k < firstVariable v p (q + 1)
 
-module _ (t f v p : List ℕ) (q k : ℕ) (own : Own v p q k) where
+module _ (v p : List ℕ) (q k : ℕ) (own : Own v p q k) where
   -- it is one of those that the procedure claims
   pub own-count : k - firstVariable v p q < claimedBy (rowAt p q)
   own-count =
@@ -52,14 +52,19 @@ module _ (t f v p : List ℕ) (q k : ℕ) (own : Own v p q k) where
   own-row : firstVariable v p q + (k - firstVariable v p q) ≡ k
   own-row = let low = own .low in omega arith
 
+module _ (t f v p : List ℕ) (q k : ℕ) (own : Own v p q k) where
   -- the plan has its place
-  pub own-place : (old plan : List ℕ) → Places t f v p old plan → q < rowsOf p → getD plan (384 + k) 0 ≡ placeIn t f v p q k
+  pub own-place : (old plan : List ℕ) → Places t f v p old plan → q < rowsOf p
+      → getD plan (384 + k) 0 ≡ placeIn t f v p q k
   unfolding placeIn
-  own-place old plan places h = rw own-row at (places .own q (k - firstVariable v p q) h own-count)
+  own-place old plan places h =
+      let at = places .own q (k - firstVariable v p q) h (own-count v p q k own) in
+      rw (own-row v p q k own) at at
 
   own-up : (n : ℕ) → k - firstVariable v p q < n
-      → roomFrom t f v (firstVariable v p q) (k - firstVariable v p q) + widthOf t f v k ≤ roomFrom t f v (firstVariable v p q) n
-  own-up n h = rw own-row at (room-up (sizeOf t f) v (firstVariable v p q) (k - firstVariable v p q) n h)
+      → roomFrom t f v (firstVariable v p q) (k - firstVariable v p q) + widthOf t f v k
+      ≤ roomFrom t f v (firstVariable v p q) n
+  own-up n h = rw (own-row v p q k own) at (room-up (sizeOf t f) v (firstVariable v p q) (k - firstVariable v p q) n h)
 
   -- its cells stand behind the links and within the frame
   pub own-links : 3 ≤ placeIn t f v p q k
@@ -68,7 +73,7 @@ module _ (t f v p : List ℕ) (q k : ℕ) (own : Own v p q k) where
 
   pub own-within : placeIn t f v p q k + widthOf t f v k ≤ frameSize t f v p q
   unfolding placeIn frameSize
-  own-within = let up = own-up (claimedBy (rowAt p q)) own-count in omega arith
+  own-within = let up = own-up (claimedBy (rowAt p q)) (own-count v p q k own) in omega arith
 
   -- and before those of a later variable
   pub own-apart : (l : ℕ) → k < l → placeIn t f v p q k + widthOf t f v k ≤ placeIn t f v p q l
@@ -91,7 +96,8 @@ module _ (t f v : List ℕ) (k : ℕ) where
 module _ (t f v : List ℕ) (four : question4 t f ≡ Kept) (five : question5 t v ≡ Kept) where
   pub width-kept : (k : ℕ) → k < rowsOf v → widthOf t f v k ≤ 4096
   width-kept k h =
-      width-small (sizeOf t f) v k (size-small t f (types-kept t f four) (rowAt v k .a) (variables-kept t v five k h .typed))
+      let typed = variables-kept t v five k h .typed in
+      width-small (sizeOf t f) v k (size-small t f (types-kept t f four) (rowAt v k .a) typed)
 
   pub room-kept : (k n : ℕ) → k + n ≤ rowsOf v → roomFrom t f v k n ≤ n * 4096
   room-kept k n h = room-small (sizeOf t f) v k n (λ j low high. width-kept j (omega arith))
@@ -100,6 +106,9 @@ module _ (t f v : List ℕ) (four : question4 t f ≡ Kept) (five : question5 t 
   unfolding globalCells
   globals-kept = room-kept 0 (globalsOf v) (omega (arith, globals-within v))
 
-  pub frame-kept : (p : List ℕ) → Claims v p → (q : ℕ) → q < rowsOf p → frameSize t f v p q ≤ 3 + claimedBy (rowAt p q) * 4096
+  pub frame-kept : (p : List ℕ) → Claims v p → (q : ℕ) → q < rowsOf p
+      → frameSize t f v p q ≤ 3 + claimedBy (rowAt p q) * 4096
   unfolding frameSize
-  frame-kept p claims q h = let room = room-kept (firstVariable v p q) (claimedBy (rowAt p q)) (claims q h) in omega arith
+  frame-kept p claims q h =
+      let room = room-kept (firstVariable v p q) (claimedBy (rowAt p q)) (claims q h) in
+      omega arith

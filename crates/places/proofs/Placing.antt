@@ -1,7 +1,7 @@
 -- Laws of the function that fills the plan's part of variables and procedures.
-use mathlib.Core.Path.{_≡_, refl, sym, _∙_, ap}
+use mathlib.Core.Path.{_≡_, _∙_, ap}
 use mathlib.Core.List.{List, _++_}
-use Prim.Native.Nat.{ℕ, zero, suc, _+_, _-_, _≤_, _<_}
+use Prim.Native.Nat.{ℕ, _+_, _-_, _≤_, _<_}
 use native.Mathlib.Omega.{arith}
 use lib.ListN.{length, getD, set, take, drop, length-set}
 use lib.Seq.{getD-set-same, getD-set-other}
@@ -53,7 +53,8 @@ module _ (t f v p old : List ℕ) (fit : PlacesFit t f v p old) where
   rooms : (plan : List ℕ) → ((i : ℕ) → i < 384 → getD plan i 0 ≡ getD old i 0) → (k n : ℕ) → k + n ≤ rowsOf v
       → roomBy (held plan) v k n ≡ roomFrom t f v k n
   rooms plan same k n h =
-      room-same v (held plan) (sizeOf t f) (λ i l. same (rowAt v i .a) (let low = fits .low i l in omega arith) ∙ sized i l) k n h
+      room-same v (held plan) (sizeOf t f)
+      (λ i l. same (rowAt v i .a) (let low = fits .low i l in omega arith) ∙ sized i l) k n h
 
   module _ (one : List ℕ) (b : Begun v p old one) where
     types-one : (i : ℕ) → i < 384 → getD one i 0 ≡ getD old i 0
@@ -95,9 +96,6 @@ module _ (t f v p old : List ℕ) (fit : PlacesFit t f v p old) where
               first = λ q h. above-three (704 + q) (omega arith) (omega arith) ∙ b .first q (omega arith);
             }
 
-        pub frames-length : (plan : List ℕ) → Framed (held three) v p (rowsOf p) three plan → length plan ≡ length old
-        frames-length plan framed = framed .cells ∙ cells-three
-
         -- the frames are placed
         module _ (plan : List ℕ) (framed : Framed (held three) v p (rowsOf p) three plan) where
           global-place : (k : ℕ) → k < globalsOf v → getD plan (384 + k) 0 ≡ roomFrom t f v 0 k
@@ -121,8 +119,8 @@ module _ (t f v p old : List ℕ) (fit : PlacesFit t f v p old) where
           frame-place : (q : ℕ) → q < rowsOf p → getD plan (640 + q) 0 ≡ frameSize t f v p q
           unfolding frameSize
           frame-place q h =
-              framed .frame q h
-              ∙ ap (λ n. 3 + n) (rooms three types-three (firstVariable v p q) (claimedBy (rowAt p q)) (fit .claims q h))
+              let room = rooms three types-three (firstVariable v p q) (claimedBy (rowAt p q)) (fit .claims q h) in
+              framed .frame q h ∙ ap (λ n. 3 + n) room
 
           globals-place : getD plan 769 0 ≡ globalCells t f v
           unfolding globalCells
@@ -138,6 +136,9 @@ module _ (t f v p old : List ℕ) (fit : PlacesFit t f v p old) where
               ∙ rooms one types-one 0 globals globals-rows
               ∙ ap (roomFrom t f v 0) all
 
+          above-plan : (i : ℕ) → 640 + rowsOf p ≤ i → (i ≡ 769 → ⊥) → getD plan i 0 ≡ getD one i 0
+          above-plan i h other = let few = few-globals in framed .above i h ∙ above-three i (omega arith) other
+
           pub places-filled : Places t f v p old plan
           places-filled =
               let few = few-globals in
@@ -147,7 +148,7 @@ module _ (t f v p old : List ℕ) (fit : PlacesFit t f v p old) where
                 global = global-place;
                 own = own-place;
                 frame = frame-place;
-                first = λ q h. framed .above (704 + q) (omega arith) ∙ above-three (704 + q) (omega arith) (omega arith) ∙ b .first q h;
+                first = λ q h. above-plan (704 + q) (omega arith) (omega arith) ∙ b .first q h;
                 globals = globals-place;
                 types = λ i h. framed .below i (omega arith) ∙ types-three i h;
                 variables = λ k h l. let begin = first-none v p in
@@ -155,8 +156,8 @@ module _ (t f v p old : List ℕ) (fit : PlacesFit t f v p old) where
                     framed .variables (384 + k) (omega arith) (omega arith)
                     ∙ above-three (384 + k) (omega arith) (omega arith)
                     ∙ b .below (384 + k) (omega arith);
-                frames = λ q h l. framed .above (640 + q) (omega arith) ∙ above-three (640 + q) (omega arith) (omega arith) ∙ b .below (640 + q) (omega arith);
-                firsts = λ q h l. framed .above (704 + q) (omega arith) ∙ above-three (704 + q) (omega arith) (omega arith) ∙ b .above q h;
+                frames = λ q h l. above-plan (640 + q) (omega arith) (omega arith) ∙ b .below (640 + q) (omega arith);
+                firsts = λ q h l. above-plan (704 + q) (omega arith) (omega arith) ∙ b .above q h;
                 rest = λ i h. let at : 704 + (i - 704) ≡ i = omega arith in
-                    framed .above i (omega arith) ∙ above-three i (omega arith) (omega arith) ∙ rw at at (b .above (i - 704) (omega arith));
+                    above-plan i (omega arith) (omega arith) ∙ rw at at (b .above (i - 704) (omega arith));
               }

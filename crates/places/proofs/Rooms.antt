@@ -1,5 +1,5 @@
 -- Laws of the cells of variables that stand in a row.
-use mathlib.Core.Path.{_≡_, refl, sym, _∙_, ap}
+use mathlib.Core.Path.{_≡_, refl, ap}
 use mathlib.Core.Bool.{Bool, true, false}
 use mathlib.Core.List.{List}
 use Prim.Native.Nat.{ℕ, zero, suc, _+_, _*_, _≤_, _<_}
@@ -18,11 +18,13 @@ pub width-var : (size : ℕ → ℕ) (v : List ℕ) (k : ℕ) → rowAt v k .kin
 unfolding widthBy
 width-var size v k e = choose-yes _ _ _ (eq-eqb (rowAt v k .kind) 3 e)
 
-pub width-other : (size : ℕ → ℕ) (v : List ℕ) (k : ℕ) → (rowAt v k .kind ≡ 3 → ⊥) → widthBy size v k ≡ size (rowAt v k .a)
+pub width-other : (size : ℕ → ℕ) (v : List ℕ) (k : ℕ) → (rowAt v k .kind ≡ 3 → ⊥)
+    → widthBy size v k ≡ size (rowAt v k .a)
 unfolding widthBy
 width-other size v k e = choose-no _ _ _ (ne-eqb (rowAt v k .kind) 3 e)
 
-pub width-agree : (g h : ℕ → ℕ) (v : List ℕ) (k : ℕ) → g (rowAt v k .a) ≡ h (rowAt v k .a) → widthBy g v k ≡ widthBy h v k
+pub width-agree : (g h : ℕ → ℕ) (v : List ℕ) (k : ℕ) → g (rowAt v k .a) ≡ h (rowAt v k .a)
+    → widthBy g v k ≡ widthBy h v k
 unfolding widthBy
 width-agree g h v k e = ap (λ n. choose (eqb (rowAt v k .kind) 3) 2 n) e
 
@@ -36,7 +38,8 @@ width-small size v k small = go (eqb (rowAt v k .kind) 3)
 
 -- ---- several
 
-pub room-agree : (g h : ℕ → ℕ) (v : List ℕ) (k n : ℕ) → ((j : ℕ) → k ≤ j → j < k + n → g (rowAt v j .a) ≡ h (rowAt v j .a))
+pub room-agree : (g h : ℕ → ℕ) (v : List ℕ) (k n : ℕ)
+    → ((j : ℕ) → k ≤ j → j < k + n → g (rowAt v j .a) ≡ h (rowAt v j .a))
     → roomBy g v k n ≡ roomBy h v k n
 unfolding roomBy
 room-agree g h v k zero same = refl

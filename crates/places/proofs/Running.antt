@@ -1,9 +1,9 @@
 -- Laws of the loop that writes the places of variables that stand in a row.
-use mathlib.Core.Path.{_≡_, refl, sym, _∙_, ap}
+use mathlib.Core.Path.{_≡_, _∙_}
 use mathlib.Core.List.{List}
-use Prim.Native.Nat.{ℕ, zero, suc, _+_, _*_, _≤_, _<_}
+use Prim.Native.Nat.{ℕ, suc, _+_, _≤_, _<_}
 use native.Mathlib.Omega.{arith}
-use lib.ListN.{length, getD, set}
+use lib.ListN.{length, set}
 use Rattle.image.specs.Rows.{rowAt, rowsOf}
 use Rattle.places.specs.Places.{widthBy, roomBy}
 use Rattle.places.specs.Filling.{held, Filled, VariablesFit}
@@ -24,8 +24,11 @@ run-none v old k n at = record {
   filled = filled-none (384 + k) (λ i. at + roomBy (held old) v k i) old;
 }
 
-module _ (v old plan : List ℕ) (k n at place j : ℕ) (fit : VariablesFit v old) (rows : k + n ≤ rowsOf v) (r : Run v old plan k n at place j)
-    (more : j < n) where
+width-fits : (v plan : List ℕ) → VariablesFit v plan → (k : ℕ) → k < rowsOf v → widthBy (held plan) v k ≤ 4096
+width-fits v plan fit k h = width-small (held plan) v k (fit .small k h)
+
+module _ (v old plan : List ℕ) (k n at place j : ℕ) (fit : VariablesFit v old) (rows : k + n ≤ rowsOf v)
+    (r : Run v old plan k n at place j) (more : j < n) where
   pub run-room : 384 + (k + j) < length plan
   run-room = let cells = fit .cells in let few = fit .few in let same = r .filled .cells in omega arith
 
@@ -34,7 +37,8 @@ module _ (v old plan : List ℕ) (k n at place j : ℕ) (fit : VariablesFit v ol
     run-next =
         let one : j + 1 ≡ suc j = omega arith in
         let low = fit .low (k + j) (omega arith) in
-        let same = this ∙ width-agree (held plan) (held old) v (k + j) (r .filled .below (rowAt v (k + j) .a) (omega arith)) in
+        let below = r .filled .below (rowAt v (k + j) .a) (omega arith) in
+        let same = this ∙ width-agree (held plan) (held old) v (k + j) below in
         record {
           within = omega arith;
           next = rw one (omega (arith, r .next, same, room-more (held old) v k j));
@@ -46,5 +50,5 @@ module _ (v old plan : List ℕ) (k n at place j : ℕ) (fit : VariablesFit v ol
     run-small little =
         let next = run-next .next in
         let few = fit .few in
-        let total = room-small (held old) v k (j + 1) (λ i low high. width-small (held old) v i (fit .small i (omega arith))) in
+        let total = room-small (held old) v k (j + 1) (λ i low high. width-fits v old fit i (omega arith)) in
         omega (arith, next, total)

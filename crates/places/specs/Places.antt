@@ -1,7 +1,7 @@
 -- The part of the plan that belongs to variables and procedures, so that a step need not add up sizes.
--- Cell 384 + k: the place of variable row k: a global's first cell in the store, another's counted from its frame's base.
--- Cell 640 + q: the size of procedure q's frame. Cell 704 + q: its first variable row; one more for the row behind the last.
--- Cell 769: the number of the globals' cells.
+-- Cell 384 + k: where variable row k begins: a global in the store, another in its frame.
+-- Cell 640 + q: the size of procedure q's frame. Cell 704 + q: its first variable row; the row behind the last
+-- procedure's variables follows. Cell 769: how many cells the globals have.
 use Prim.Native.Nat.{ℕ, zero, suc, _+_, _-_, _≤_, _<_}
 use mathlib.Core.Path.{_≡_}
 use mathlib.Core.List.{List}
@@ -13,7 +13,7 @@ use Rattle.types.specs.Sizes.{sizeOf}
 use Rattle.frames.specs.Variables.{globalsOf}
 use Rattle.frames.specs.Procedures.{claimedBy, firstVariable}
 
--- "a VAR parameter two cells, address and dynamic type, others their size": variable row k, where `size` gives types their size
+-- "a VAR parameter two cells, address and dynamic type, others their size": variable row k, by the sizes of types
 unfoldable pub widthBy : (ℕ → ℕ) → List ℕ → ℕ → ℕ
 widthBy size v k = choose (eqb (rowAt v k .kind) 3) 2 (size (rowAt v k .a))
 
@@ -40,7 +40,7 @@ frameSize t f v p q = 3 + roomFrom t f v (firstVariable v p q) (claimedBy (rowAt
 unfoldable pub placeIn : List ℕ → List ℕ → List ℕ → List ℕ → ℕ → ℕ → ℕ
 placeIn t f v p q k = 3 + roomFrom t f v (firstVariable v p q) (k - firstVariable v p q)
 
--- "Procedures use up the remaining variables in order": the first variable of each procedure, and the row behind the last
+-- "Procedures use up the remaining variables in order": the first of each procedure, and the row behind the last
 pub record Firsts (v p old firsts : List ℕ) : Type 0 where
   pub cells : length firsts ≡ length old
   pub first : (q : ℕ) → q ≤ rowsOf p → getD firsts q 0 ≡ firstVariable v p q

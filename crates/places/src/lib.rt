@@ -1,7 +1,7 @@
 // Places of variables and sizes of frames: the plan's part of variables and procedures.
 ghost use mathlib.Core.Path.{_≡_};
-ghost use Prim.Native.Nat.{ℕ, _+_, _≤_, _<_};
-ghost use lib.ListN.{length, getD};
+ghost use Prim.Native.Nat.{_+_, _≤_, _<_};
+ghost use lib.ListN.{length};
 ghost use Rattle.image.specs.Rows.{rowsOf};
 ghost use Rattle.places.specs.Places.{widthBy, roomBy, Firsts, Places};
 ghost use Rattle.places.specs.Filling.{held, Filled, VariablesFit, FramesFit, Framed, PlacesFit};
@@ -81,7 +81,8 @@ fn place_frames(v: &[u8], p: &[u8], plan: &mut [u32])
 // t and f, whose sizes they are, are named by the promise alone.
 pub fn fill_places(t: &[u8], f: &[u8], v: &[u8], p: &[u8], plan: &mut [u32])
     requires { ⌜ PlacesFit (now t) (now f) (now v) (now p) (now plan) ⌝ }
-    ensures { λ x. ⌜ Places (now (t .entry)) (now (f .entry)) (now (v .entry)) (now (p .entry)) (now (plan .entry)) (now (plan .exit)) ⌝ }
+    ensures { λ x. ⌜ Places (now (t .entry)) (now (f .entry)) (now (v .entry)) (now (p .entry)) (now (plan .entry))
+        (now (plan .exit)) ⌝ }
 {
     first_variables(v, p, &mut plan[704..]);
     let globals = frames::globals(v);

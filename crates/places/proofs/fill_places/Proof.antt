@@ -1,7 +1,8 @@
-use Prim.Native.Nat.{ℕ, _+_, _≤_}
+use Prim.Native.Nat.{_≤_}
 use denote.Ref.{now}
+use lib.ListN.{length}
 use native.Mathlib.Omega.{arith}
-use Rattle.places.proofs.Placing.{begun, globals-fit, globals-rows, frames-fit, frames-length, places-filled}
+use Rattle.places.proofs.Placing.{begun, globals-fit, globals-rows, frames-fit, places-filled}
 use borrow.Author.Needs.{needs}
 use Rattle.places.proofs.fill_places.Statement.{statement}
 use Rattle.places.proofs.fill_places.Tie as tie
@@ -28,30 +29,42 @@ globals-requires : tie.Need-globals-requires
 globals-requires c κs = search needs
 
 place-run-requires : tie.Need-place-run-requires
-place-run-requires c κs = let s = c .before .before .before .before .before .before .before .before .before .before .before in
-    let one = begun _ _ (now (s .args .plan)) _ (let cells = s .pre .cells in omega arith) (c .before .before .before .before .first-variables .ensures) in
-    (globals-fit _ _ _ _ _ (s .pre) _ one, globals-rows _ _ _ _ _ (s .pre) _ one _ (c .before .globals .ensures), omega arith)
+place-run-requires c κs =
+    let b = c .before .before .before .before in
+    let s = b .before .before .before .before .before .before .before in
+    let cells : 704 ≤ length (now (s .args .plan)) = let many = s .pre .cells in omega arith in
+    let one = begun _ _ (now (s .args .plan)) _ cells (b .first-variables .ensures) in
+    let fit = globals-fit _ _ _ _ _ (s .pre) _ one in
+    (fit, globals-rows _ _ _ _ _ (s .pre) _ one _ (c .before .globals .ensures), omega arith)
 
 slice-write-plan : tie.Need-slice-write-plan
 slice-write-plan c = search needs
 
 place-frames-requires : tie.Need-place-frames-requires
-place-frames-requires c κs = let s = c .before .before .before .before .before .before .before .before .before .before .before .before .before .before .before in
-    let run = c .before .before .before .place-run .ensures in
-    let one = begun _ _ (now (s .args .plan)) _ (let cells = s .pre .cells in omega arith) (c .before .before .before .before .before .before .before .before .first-variables .ensures) in
-    frames-fit _ _ _ _ _ (s .pre) _ one _ (c .before .before .before .before .before .globals .ensures) _ _ (run .1) (run .0)
-
-same-length : tie.Need-same-length
-same-length c = let s = c .before .before .before .before .before .before .before .before .before .before .before .before .before .before .before .before .before .before in
-    let run = c .before .before .before .before .before .before .place-run .ensures in
-    let one = begun _ _ (now (s .args .plan)) _ (let cells = s .pre .cells in omega arith) (c .before .before .before .before .before .before .before .before .before .before .before .first-variables .ensures) in
-    frames-length _ _ _ _ _ (s .pre) _ one _ (c .before .before .before .before .before .before .before .before .globals .ensures) _ _ (run .1) (run .0) _ (c .before .before .place-frames .ensures)
+place-frames-requires c κs =
+    let r = c .before .before .before in
+    let g = r .before .before in
+    let b = g .before .before .before in
+    let s = b .before .before .before .before .before .before .before in
+    let cells : 704 ≤ length (now (s .args .plan)) = let many = s .pre .cells in omega arith in
+    let one = begun _ _ (now (s .args .plan)) _ cells (b .first-variables .ensures) in
+    let run = r .place-run .ensures in
+    frames-fit _ _ _ _ _ (s .pre) _ one _ (g .globals .ensures) _ _ (run .1) (run .0)
 
 returns : tie.Need-returns
-returns c = let s = c .before .before .before .before .before .before .before .before .before .before .before .before .before .before .before .before .before .before in
-    let run = c .before .before .before .before .before .before .place-run .ensures in
-    let one = begun _ _ (now (s .args .plan)) _ (let cells = s .pre .cells in omega arith) (c .before .before .before .before .before .before .before .before .before .before .before .first-variables .ensures) in
-    places-filled _ _ _ _ _ (s .pre) _ one _ (c .before .before .before .before .before .before .before .before .globals .ensures) _ _ (run .1) (run .0) _ (c .before .before .place-frames .ensures)
+returns c =
+    let r = c .before .before .before .before .before .before in
+    let g = r .before .before in
+    let b = g .before .before .before in
+    let s = b .before .before .before .before .before .before .before in
+    let cells : 704 ≤ length (now (s .args .plan)) = let many = s .pre .cells in omega arith in
+    let one = begun _ _ (now (s .args .plan)) _ cells (b .first-variables .ensures) in
+    let run = r .place-run .ensures in
+    let frames = c .before .before .place-frames .ensures in
+    places-filled _ _ _ _ _ (s .pre) _ one _ (g .globals .ensures) _ _ (run .1) (run .0) _ frames
+
+same-length : tie.Need-same-length
+same-length c = returns c .cells
 
 pub fill-places-spec : {M : Type 1} → statement M
 fill-places-spec =

@@ -1,8 +1,8 @@
-use mathlib.Core.Path.{_≡_, refl, sym, _∙_, ap}
-use Prim.Native.Nat.{ℕ, suc, _+_, _-_, _*_, _≤_, _<_}
+use mathlib.Core.Path.{_∙_}
+use Prim.Native.Nat.{_-_, _<_}
 use native.Mathlib.Omega.{arith}
 use borrow.Author.Needs.{needs}
-use lib.ListN.{length-set}
+use lib.ListN.{length, length-set}
 use denote.Ref.{now}
 use Rattle.frames.proofs.Claiming.{globals-within}
 use Rattle.places.proofs.Counting.{Counted, counted-none, counted-next, counted-end}
@@ -27,10 +27,14 @@ globals-requires : tie.Need-globals-requires Inv-loop μ-loop
 globals-requires c κs = search needs
 
 cast-first : tie.Need-cast-first Inv-loop μ-loop
-cast-first c = let s = c .before .before .before .before .before in omega (arith, c .globals .ensures, globals-within (now (s .args .v)), s .pre .0)
+cast-first c =
+    let s = c .before .before .before .before .before in
+    omega (arith, c .globals .ensures, globals-within (now (s .args .v)), s .pre .0)
 
 loop-holds : tie.Need-loop-holds Inv-loop μ-loop
-loop-holds c = let s = c .before .before .before .before .before in counted-none _ _ _ _ (c .globals .ensures) (s .pre .0)
+loop-holds c =
+    let s = c .before .before .before .before .before in
+    counted-none _ _ _ _ (c .globals .ensures) (s .pre .0)
 
 row-at-requires : tie.Need-row-at-requires Inv-loop μ-loop
 row-at-requires c κs = search needs
@@ -45,15 +49,19 @@ mul-firsts : tie.Need-mul-firsts Inv-loop μ-loop
 mul-firsts c = search needs
 
 slice-write-firsts : tie.Need-slice-write-firsts Inv-loop μ-loop
-slice-write-firsts c = let s = c .before .before .before .before .before .before .before .before .before .before .pre in
-    let l = c .before .before .before .before .loop .inv in
-    omega (arith, s .2, l .within, l .filled .cells)
+slice-write-firsts c =
+    let l = c .before .before .before .before in
+    let s = l .before .before .before .before .before .before .pre in
+    omega (arith, s .2, l .loop .inv .within, l .loop .inv .filled .cells)
 
 add-first : tie.Need-add-first Inv-loop μ-loop
 add-first c = omega arith
 
 add-first-2 : tie.Need-add-first-2 Inv-loop μ-loop
-add-first-2 c = let s = c .before .before .before .before .before .before .before .before .before .before .pre in let l = c .before .before .before .before .loop .inv in omega (arith, s .1, l .within, l .small)
+add-first-2 c =
+    let l = c .before .before .before .before in
+    let s = l .before .before .before .before .before .before .pre in
+    omega (arith, s .1, l .loop .inv .within, l .loop .inv .small)
 
 add-q : tie.Need-add-q Inv-loop μ-loop
 add-q c = omega arith
@@ -62,10 +70,13 @@ loop-less : tie.Need-loop-less Inv-loop μ-loop
 loop-less c = omega arith
 
 loop-again : tie.Need-loop-again Inv-loop μ-loop
-loop-again c = let s = c .before .before .before .before .before .before .before .before .before .before .pre in
-    let l = c .before .before .before .before .loop in
-    let more = rw (c .before .before .before .before .before .before .rows-of .ensures) at (c .before .before .before .loop-test .taken) in
-    counted-next _ _ _ _ _ _ (l .inv) (omega (arith, s .2, l .inv .filled .cells)) more _ (c .before .before .row-at .ensures) (omega arith)
+loop-again c =
+    let l = c .before .before .before .before in
+    let s = l .before .before .before .before .before .before .pre in
+    let so-far = l .loop .inv in
+    let more = rw (l .before .before .rows-of .ensures) at (c .before .before .before .loop-test .taken) in
+    let room : l .loop .q < length (l .loop .firsts) = omega (arith, s .2, so-far .filled .cells) in
+    counted-next _ _ _ _ _ _ so-far room more _ (c .before .before .row-at .ensures) (omega arith)
 
 mul-firsts-2 : tie.Need-mul-firsts-2 Inv-loop μ-loop
 mul-firsts-2 c = search needs

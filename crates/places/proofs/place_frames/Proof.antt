@@ -1,5 +1,5 @@
-use mathlib.Core.Path.{_≡_, refl, sym, _∙_, ap}
-use Prim.Native.Nat.{ℕ, suc, _+_, _-_, _*_, _≤_, _<_}
+use mathlib.Core.Path.{_≡_}
+use Prim.Native.Nat.{_-_, _≤_}
 use native.Mathlib.Omega.{arith}
 use borrow.Author.Needs.{needs}
 use denote.Ref.{now}
@@ -49,10 +49,14 @@ add-place-run : tie.Need-add-place-run Inv-loop μ-loop
 add-place-run c = omega arith
 
 place-run-requires : tie.Need-place-run-requires Inv-loop μ-loop
-place-run-requires c κs = let s = c .before .before .before .before .before .before .before .before .before .before .before .before .pre in
+place-run-requires c κs =
     let l = c .before .before .before .before .before .before .before .loop .inv in
-    let more = rw (c .before .before .before .before .before .before .before .before .rows-of .ensures) at (c .before .before .before .before .before .before .loop-test .taken) in
-    (run-fits _ _ _ _ _ s (l .1) more, run-rows _ _ _ _ _ s (l .1) more _ (c .before .before .before .before .before .row-at .ensures) _ (c .before .cell .ensures), omega arith)
+    let s = c .before .before .before .before .before .before .before .before in
+    let fit = s .before .before .before .before .pre in
+    let more = rw (s .rows-of .ensures) at (c .before .before .before .before .before .before .loop-test .taken) in
+    let row = c .before .before .before .before .before .row-at .ensures in
+    let rows = run-rows _ _ _ _ _ fit (l .1) more _ row _ (c .before .cell .ensures) in
+    (run-fits _ _ _ _ _ fit (l .1) more, rows, omega arith)
 
 add-plan : tie.Need-add-plan Inv-loop μ-loop
 add-plan c = omega arith
@@ -61,10 +65,11 @@ mul-plan : tie.Need-mul-plan Inv-loop μ-loop
 mul-plan c = search needs
 
 slice-write-plan : tie.Need-slice-write-plan Inv-loop μ-loop
-slice-write-plan c = let s = c .before .before .before .before .before .before .before .before .before .before .before .before .before .before .before .pre in
+slice-write-plan c =
+    let l = c .before .before .before .before .before .before .before .before .before .before in
+    let fit = l .before .before .before .before .before .pre in
     let same = c .before .before .place-run .ensures .1 .cells in
-    let so-far = c .before .before .before .before .before .before .before .before .before .before .loop .inv in
-    omega (arith, s .variables .cells, s .few, so-far .0, so-far .1 .cells, same)
+    omega (arith, fit .variables .cells, fit .few, l .loop .inv .0, l .loop .inv .1 .cells, same)
 
 add-q : tie.Need-add-q Inv-loop μ-loop
 add-q c = omega arith
@@ -73,11 +78,15 @@ loop-less : tie.Need-loop-less Inv-loop μ-loop
 loop-less c = omega arith
 
 loop-again : tie.Need-loop-again Inv-loop μ-loop
-loop-again c = let s = c .before .before .before .before .before .before .before .before .before .before .before .before .before .before .before .pre in
-    let l = c .before .before .before .before .before .before .before .before .before .before .loop .inv in
-    let more = rw (c .before .before .before .before .before .before .before .before .before .before .before .rows-of .ensures) at (c .before .before .before .before .before .before .before .before .before .loop-test .taken) in
+loop-again c =
+    let r = c .before .before .before .before .before .before .before .before in
+    let l = r .before .before .loop .inv in
+    let s = r .before .before .before in
+    let fit = s .before .before .before .before .pre in
+    let more = rw (s .rows-of .ensures) at (r .before .loop-test .taken) in
+    let first = c .before .before .before .before .cell .ensures in
     let run = c .before .before .place-run .ensures in
-    (omega arith, framed-more _ _ _ _ _ s (l .1) more _ (c .before .before .before .before .before .before .before .before .row-at .ensures) _ (c .before .before .before .before .cell .ensures) _ _ (run .1) (run .0))
+    (omega arith, framed-more _ _ _ _ _ fit (l .1) more _ (r .row-at .ensures) _ first _ _ (run .1) (run .0))
 
 same-length : tie.Need-same-length Inv-loop μ-loop
 same-length c = c .before .loop .inv .1 .cells

@@ -1,5 +1,5 @@
-use mathlib.Core.Path.{_≡_, refl, sym, _∙_, ap}
-use Prim.Native.Nat.{ℕ, suc, _+_, _-_, _*_, _≤_, _<_}
+use mathlib.Core.Path.{_≡_}
+use Prim.Native.Nat.{_-_}
 use native.Mathlib.Omega.{arith}
 use borrow.Author.Needs.{needs}
 use Rattle.places.proofs.Running.{Run, run-none, run-room, run-next, run-small}
@@ -31,12 +31,17 @@ mul-plan : tie.Need-mul-plan Inv-loop μ-loop
 mul-plan c = search needs
 
 slice-write-plan : tie.Need-slice-write-plan Inv-loop μ-loop
-slice-write-plan c = let s = c .before .before .before .before .before .before .pre in
-    run-room _ _ _ _ _ _ _ _ (s .0) (s .1) (c .before .before .before .loop .inv) (c .before .before .loop-test .taken)
+slice-write-plan c =
+    let l = c .before .before .before .loop in
+    let s = c .before .before .before .before .before .before .pre in
+    run-room _ _ _ _ _ _ _ _ (s .0) (s .1) (l .inv) (c .before .before .loop-test .taken)
 
 add-place : tie.Need-add-place Inv-loop μ-loop
-add-place c = let s = c .before .before .before .before .before .before .pre in
-    let small = run-small _ _ _ _ _ _ _ _ (s .0) (s .1) (c .before .before .before .loop .inv) (c .before .before .loop-test .taken) _ (c .width-at .ensures) (s .2) in
+add-place c =
+    let l = c .before .before .before .loop in
+    let s = c .before .before .before .before .before .before .pre in
+    let more = c .before .before .loop-test .taken in
+    let small = run-small _ _ _ _ _ _ _ _ (s .0) (s .1) (l .inv) more _ (c .width-at .ensures) (s .2) in
     record { fits = omega (arith, small) }
 
 add-j : tie.Need-add-j Inv-loop μ-loop
@@ -46,8 +51,11 @@ loop-less : tie.Need-loop-less Inv-loop μ-loop
 loop-less c = omega arith
 
 loop-again : tie.Need-loop-again Inv-loop μ-loop
-loop-again c = let s = c .before .before .before .before .before .before .pre in
-    run-next _ _ _ _ _ _ _ _ (s .0) (s .1) (c .before .before .before .loop .inv) (c .before .before .loop-test .taken) _ (c .width-at .ensures)
+loop-again c =
+    let l = c .before .before .before .loop in
+    let s = c .before .before .before .before .before .before .pre in
+    let more = c .before .before .loop-test .taken in
+    run-next _ _ _ _ _ _ _ _ (s .0) (s .1) (l .inv) more _ (c .width-at .ensures)
 
 same-length : tie.Need-same-length Inv-loop μ-loop
 same-length c = c .before .loop .inv .filled .cells

@@ -1,4 +1,4 @@
-use mathlib.Core.Path.{_≡_, refl, sym, _∙_, ap}
+use mathlib.Core.Path.{sym, _∙_, ap}
 use denote.Ref.{now}
 use lib.ListN.{getD}
 use Rattle.image.specs.declared.Row.{Row}
@@ -18,7 +18,9 @@ cast-a : tie.Need-cast-a
 cast-a c = search needs
 
 returns : tie.Need-returns
-returns c = sym (width-var _ _ _ (sym (ap (λ (x : Row). x .kind) (c .before .before .row-at .ensures)) ∙ c .if1 .taken))
+returns c =
+    let row = c .before .before .row-at .ensures in
+    sym (width-var _ _ _ (sym (ap (λ (x : Row). x .kind) row) ∙ c .if1 .taken))
 
 cell-requires : tie.Need-cell-requires
 cell-requires c κs = search needs
