@@ -11,8 +11,9 @@ use Rattle.image.specs.Faults.{firstFrom, lowestFault, allFrom}
 use Rattle.image.specs.declared.Verdict.the-variants.{Kept}
 use lib.IntN.{pos, negℤ}
 use Rattle.values.specs.Values.{isInteger, trapNumber, bind}
-use Rattle.values.specs.Operators.{integerOf, divOf, modOf, dividedBy, arithmeticOf, memberOf, elementsOf}
-use Rattle.values.specs.Operators.{rangeOf, complementOf, integersOf, dyadicOf, monadicOf, decides, appliedTo}
+use Rattle.integers.specs.Integers.{integerOf, divOf, modOf, dividedBy, arithmeticOf}
+use Rattle.sets.specs.Sets.{memberOf, elementsOf, rangeOf, complementOf}
+use Rattle.operators.specs.Operators.{integersOf, dyadicOf, monadicOf, decides, appliedTo}
 use Rattle.values.specs.declared.Value.{Value}
 use Rattle.values.specs.declared.Value.the-variants as Vs
 use Rattle.values.specs.declared.Trap.the-variants as Ts
