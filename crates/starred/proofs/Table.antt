@@ -18,11 +18,12 @@ use Rattle.values.specs.declared.Value.{Value}
 use Rattle.values.specs.declared.Value.the-variants as Vs
 use Rattle.values.specs.declared.Trap.the-variants as Ts
 use Rattle.values.specs.declared.Answer.the-variants as As
-use Rattle.types.specs.Forms.{formOf, form, baseOf, countOf, ofBase, ownTypes}
-use Rattle.types.specs.Sizes.{sizeBy, sizeOf, layoutBy, layoutOf, fieldsBy, fieldsOf}
-use Rattle.types.specs.Extends.{extendsTo, extends}
-use Rattle.types.specs.Question.{usedBelow, scalarKept, arrayKept, fieldKept, baseKept, recordKept, laterKept}
-use Rattle.types.specs.Question.{shapeKept, typeKept, typeRule, question4}
+use Rattle.shapes.specs.Forms.{formOf, form, baseOf, countOf, ofBase, ownTypes}
+use Rattle.shapes.specs.Sizes.{sizeBy, sizeOf, layoutBy, layoutOf, fieldsBy, fieldsOf}
+use Rattle.relations.specs.Extends.{extendsTo, extends}
+use Rattle.shapes.specs.Shapes.{usedBelow, scalarKept, arrayKept, fieldKept, baseKept, recordKept, laterKept}
+use Rattle.shapes.specs.Shapes.{shapeKept, typeKept}
+use Rattle.types.specs.Question.{typeRule, question4}
 
 -- what the cases open: rows and rules, types, values
 unfoldable pub rows : Unit {0}

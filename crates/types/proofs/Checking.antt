@@ -1,12 +1,12 @@
 -- Laws of the loop that asks question 4, row by row.
 use mathlib.Core.Path.{_≡_, refl, sym, _∙_, ap}
-use mathlib.Core.Bool.{Bool, true, false}
+use mathlib.Core.Bool.{true, false}
 use mathlib.Core.List.{List}
-use Prim.Native.Nat.{ℕ, zero, suc, _+_, _≤_, _<_}
+use Prim.Native.Nat.{ℕ, suc, _+_, _≤_, _<_}
 use native.Mathlib.Omega.{arith}
 use native.Mathlib.Decide.{decLt}
 use borrow.Author.Tests.{eq-eqb, ne-eqb, le-leb, lt-leb}
-use lib.Dec.{leb, eqb}
+use lib.Dec.{eqb}
 use lib.ListN.{length, getD}
 use Rattle.prelude.specs.Choice.{_also_}
 use Rattle.prelude.proofs.Choice.{also-yes, also-left, also-right}
@@ -16,12 +16,14 @@ use Rattle.image.specs.declared.Verdict.the-variants.{Kept, Fault}
 use Rattle.image.specs.Rows.{rowAt, rowsOf}
 use Rattle.image.specs.Faults.{lowestFault, KeptIn, Lowest}
 use Rattle.image.proofs.Faults.{kept-none, kept-next, kept-verdict, fault-verdict}
-use Rattle.types.specs.Forms.{formOf, form, countOf}
-use Rattle.types.specs.Sizes.{sizeBy, sizeOf}
-use Rattle.types.specs.Question.{usedBelow, shapeKept, typeKept, typeRule, question4}
+use Rattle.shapes.specs.Forms.{formOf, form, countOf}
+use Rattle.shapes.specs.Sizes.{sizeBy, sizeOf}
+use Rattle.shapes.specs.Shapes.{usedBelow, shapeKept, typeKept}
+use Rattle.types.specs.Question.{typeRule, question4}
 use Rattle.types.specs.Plan.{Plan, Rest, passed}
 use Rattle.types.specs.Filling.{Ready}
-use Rattle.types.proofs.Accepted.{Shape, shape-of, size-agree, size-is, rule-low, rule-top}
+use Rattle.shapes.proofs.Accepted.{Shape, shape-of, size-agree, size-is}
+use Rattle.types.proofs.Accepted.{rule-low, rule-top}
 use Rattle.types.proofs.Planning.{used-next, used-fits, plan-none, rest-none, rest-more}
 
 -- the rows below r are passed
