@@ -7,7 +7,7 @@ use borrow.Author.Tests.{eq-eqb, ne-eqb, lt-ltb, le-ltb}
 use lib.Dec.{eqb, ltb}
 use lib.ListN.{getD}
 use Rattle.prelude.specs.Choice.{choose}
-use Rattle.prelude.specs.Rec.{below, rec}
+use Rattle.prelude.specs.Rec.{below}
 use Rattle.prelude.proofs.Choice.{choose-yes, choose-no}
 use Rattle.prelude.proofs.Rec.{rec-eq, below-low, below-high}
 use Rattle.image.specs.declared.Row.{Row}

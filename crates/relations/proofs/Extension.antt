@@ -3,7 +3,7 @@ use mathlib.Core.Path.{_≡_, refl, sym, _∙_}
 use mathlib.Core.Bool.{Bool, true, false}
 use mathlib.Core.List.{List, [], map, append-nil}
 use mathlib.Core.Logic.{⊎-elim}
-use Prim.Native.Nat.{ℕ, zero, suc, _-_, _<_}
+use Prim.Native.Nat.{ℕ, zero, suc, _<_}
 use native.Mathlib.Omega.{arith}
 use native.Mathlib.Decide.{decLt}
 use borrow.Author.Tests.{eqb-true}
@@ -11,10 +11,10 @@ use lib.Dec.{eqb}
 use Rattle.prelude.specs.Choice.{choose}
 use Rattle.prelude.specs.Parts.{joined, Part}
 use Rattle.prelude.specs.Rec.{below}
-use Rattle.prelude.proofs.Choice.{choose-cases, choose-yes, clash}
+use Rattle.prelude.proofs.Choice.{choose-cases, clash}
 use Rattle.prelude.proofs.Parts.{part-more}
 use Rattle.prelude.proofs.Rec.{below-low, below-high}
-use Rattle.image.specs.Rows.{rowAt, rowsOf}
+use Rattle.image.specs.Rows.{rowsOf}
 use Rattle.shapes.specs.Forms.{Form, Form.scalar, Form.array, Form.recordOf, Form.noForm, form, baseOf, ofBase}
 use Rattle.shapes.specs.Forms.{ownTypes}
 use Rattle.shapes.specs.Sizes.{layoutBy, layoutOf, fieldsBy, fieldsOf}

@@ -10,10 +10,9 @@ use lib.Dec.{ltb}
 use lib.ListN.{length, getD, take, length-append, List·getD-append}
 use lib.Seq.{take-append-le, take-append-add, getD-append-add}
 use Rattle.prelude.specs.Choice.{choose}
-use Rattle.prelude.specs.Parts.{joined, sum}
+use Rattle.prelude.specs.Parts.{sum}
 use Rattle.prelude.proofs.Choice.{choose-yes, choose-no}
 use Rattle.prelude.proofs.Parts.{map-append}
-use Rattle.image.specs.declared.Row.{Row}
 use Rattle.image.specs.Rows.{rowAt, rowsOf}
 use Rattle.relations.specs.declared.FieldAnswer.{FieldAnswer}
 use Rattle.relations.specs.declared.FieldAnswer.the-variants.{Missing, Field}

@@ -17,7 +17,7 @@ pub fn extends(t: &[u8], r: u16, u: u16) -> bool
     let mut at = r as usize;
     while at != sought {
         let row = image::row_at(t, at);
-        let base = types::base_of(row);
+        let base = shapes::base_of(row);
         if base == 0 {
             return false;
         }
@@ -39,7 +39,7 @@ fn own_field(f: &[u8], plan: &[u32], b: u16, c: u16, j: usize) -> FieldAnswer
     }
     let k = (b as usize) + j;
     let row = image::row_at(f, k);
-    let place = types::cell(plan, 128 + k);
+    let place = sizes::cell(plan, 128 + k);
     FieldAnswer::Field(place, row.a)
 }
 
@@ -58,7 +58,7 @@ pub fn field(t: &[u8], f: &[u8], plan: &[u32], r: u16, n: u16) -> FieldAnswer
         if kind != 4 {
             return FieldAnswer::Missing;
         }
-        let inherited = types::cell(plan, 64 + at) as usize;
+        let inherited = sizes::cell(plan, 64 + at) as usize;
         if inherited <= sought {
             return own_field(f, plan, b, c, sought - inherited);
         }

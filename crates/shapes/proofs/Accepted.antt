@@ -8,17 +8,13 @@ use native.Mathlib.Omega.{arith}
 use native.Mathlib.Decide.{decLt}
 use borrow.Author.Tests.{ltb-true, leb-true, eqb-true, lt-ltb, le-ltb}
 use lib.Dec.{ltb, eqb}
-use Rattle.prelude.specs.Choice.{choose, _also_}
-use Rattle.prelude.specs.Parts.{joined, sum}
-use Rattle.prelude.specs.Rec.{below, rec}
+use Rattle.prelude.specs.Choice.{choose}
 use Rattle.prelude.proofs.Choice.{choose-yes, choose-no, choose-cases, also-true, clash}
 use Rattle.prelude.proofs.Rec.{rec-eq, below-low}
 use Rattle.image.specs.declared.Row.{Row}
-use Rattle.image.specs.declared.Verdict.{Verdict}
-use Rattle.image.specs.declared.Verdict.the-variants.{Kept, Fault}
 use Rattle.image.specs.Rows.{rowAt, rowsOf}
-use Rattle.image.specs.Faults.{allFrom, lowestFault, KeptIn}
-use Rattle.image.proofs.Faults.{all-each, verdict-kept}
+use Rattle.image.specs.Faults.{KeptIn}
+use Rattle.image.proofs.Faults.{all-each}
 use Rattle.shapes.specs.Forms.{Form, Form.scalar, Form.array, Form.recordOf, formOf, form, ofBase, ownTypes}
 use Rattle.shapes.specs.Sizes.{sizeBy, sizeOf, layoutBy, layoutOf, fieldsBy, fieldsOf}
 use Rattle.shapes.specs.Shapes.{usedBelow, scalarKept, arrayKept, fieldKept, baseKept, recordKept, laterKept}

@@ -11,12 +11,10 @@ use borrow.Author.Tests.{eqb-true, eqb-false}
 use lib.Dec.{eqb}
 use lib.ListN.{length, take, replicate, length-append}
 use Rattle.prelude.specs.Parts.{joined, sum, Nth, Part}
-use Rattle.prelude.specs.Rec.{rec}
 use Rattle.prelude.proofs.Parts.{nth-nil, nth-map, nth-replicate, part-joined, joined-replicate, joined-map-append, take-map}
 use Rattle.prelude.proofs.Rec.{rec-rel}
 use Rattle.image.specs.declared.Row.{Row}
 use Rattle.image.specs.Rows.{rowAt, rowsOf}
-use Rattle.image.specs.Faults.{KeptIn}
 use Rattle.shapes.specs.Forms.{Form, Form.scalar, Form.array, Form.recordOf, Form.noForm, formOf, form, ofBase}
 use Rattle.shapes.specs.Forms.{ownTypes}
 use Rattle.shapes.specs.Sizes.{sizeBy, sizeOf, layoutBy, layoutOf, fieldsBy, fieldsOf, offsetOf}

@@ -5,9 +5,8 @@ use mathlib.Core.List.{List}
 use lib.Dec.{ltb, leb, eqb}
 use Rattle.prelude.specs.Choice.{choose, _also_}
 use Rattle.image.specs.declared.Row.{Row}
-use Rattle.image.specs.declared.Verdict.{Verdict}
 use Rattle.image.specs.Rows.{rowAt, rowsOf}
-use Rattle.image.specs.Faults.{allFrom, lowestFault}
+use Rattle.image.specs.Faults.{allFrom}
 use Rattle.shapes.specs.Forms.{form, countOf}
 use Rattle.shapes.specs.Sizes.{sizeOf}
 

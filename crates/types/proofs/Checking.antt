@@ -8,13 +8,12 @@ use native.Mathlib.Decide.{decLt}
 use borrow.Author.Tests.{eq-eqb, ne-eqb, le-leb, lt-leb}
 use lib.Dec.{eqb}
 use lib.ListN.{length, getD}
-use Rattle.prelude.specs.Choice.{_also_}
 use Rattle.prelude.proofs.Choice.{also-yes, also-left, also-right}
 use Rattle.image.specs.declared.Row.{Row}
 use Rattle.image.specs.declared.Verdict.{Verdict}
 use Rattle.image.specs.declared.Verdict.the-variants.{Kept, Fault}
 use Rattle.image.specs.Rows.{rowAt, rowsOf}
-use Rattle.image.specs.Faults.{lowestFault, KeptIn, Lowest}
+use Rattle.image.specs.Faults.{KeptIn}
 use Rattle.image.proofs.Faults.{kept-none, kept-next, kept-verdict, fault-verdict}
 use Rattle.shapes.specs.Forms.{formOf, form, countOf}
 use Rattle.shapes.specs.Sizes.{sizeBy, sizeOf}

@@ -1,6 +1,6 @@
 use mathlib.Core.Path.{_≡_, refl, sym, _∙_}
 use native.Mathlib.Omega.{arith}
-use Prim.Native.Nat.{_-_, _≤_}
+use Prim.Native.Nat.{_≤_}
 use borrow.Author.Needs.{needs}
 use Rattle.relations.specs.Fields.{plannedField}
 use Rattle.relations.proofs.Climbing.{planned-other, planned-own, planned-none, planned-high, planned-low}

@@ -1,4 +1,4 @@
-use Rattle.prelude.specs.Choice.{choose, _also_}
+use Rattle.prelude.specs.Choice.{_also_}
 use Rattle.shapes.proofs.Rows.{kept-base}
 use mathlib.Core.Path.{sym, _∙_}
 use borrow.Author.Tests.{le-ltb, lt-ltb}

@@ -1,5 +1,5 @@
 use Rattle.prelude.proofs.Choice.{tests}
-use Rattle.prelude.specs.Choice.{choose, _also_}
+use Rattle.prelude.specs.Choice.{_also_}
 use Rattle.shapes.specs.Shapes.{fieldKept}
 use borrow.Author.Needs.{needs}
 use Rattle.shapes.proofs.field_kept.Statement.{statement}

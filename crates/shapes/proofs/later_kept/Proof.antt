@@ -1,7 +1,7 @@
 use borrow.Author.Tests.{eq-eqb, ne-eqb}
 use native.Mathlib.Omega.{arith}
 use borrow.Author.Tests.{ne-eqb}
-use Rattle.prelude.specs.Choice.{choose, _also_}
+use Rattle.prelude.specs.Choice.{choose}
 use Rattle.shapes.specs.Shapes.{laterKept}
 use borrow.Author.Needs.{needs}
 use Rattle.shapes.proofs.later_kept.Statement.{statement}

@@ -1,6 +1,5 @@
 use Rattle.prelude.proofs.Choice.{also-right, also-pass}
 use mathlib.Core.Path.{sym, _∙_}
-use Rattle.prelude.specs.Choice.{choose, _also_}
 use Rattle.shapes.specs.Shapes.{recordKept}
 use borrow.Author.Tests.{eq-eqb, ne-eqb, le-leb, lt-leb, not-true, not-false}
 use Rattle.prelude.proofs.Choice.{also-left}

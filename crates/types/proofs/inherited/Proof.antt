@@ -2,7 +2,7 @@ use Rattle.image.specs.declared.Row.{Row}
 use Rattle.image.specs.Rows.{rowAt}
 use denote.Ref.{now}
 use lib.ListN.{getD}
-use Prim.Native.Nat.{_+_, _-_}
+use Prim.Native.Nat.{_+_}
 use mathlib.Core.Path.{sym, _∙_, ap}
 use Rattle.shapes.proofs.Rows.{of-no-base, of-base}
 use native.Mathlib.Omega.{arith}

@@ -5,7 +5,6 @@ use Rattle.image.specs.declared.Row.{Row}
 use Rattle.shapes.specs.Forms.{ownTypes}
 use Rattle.types.specs.Filling.{Offsets}
 use Rattle.types.proofs.Offsetting.{Turn, at-turn, offsets-none, offsets-next}
-use Rattle.image.specs.Rows.{rowAt}
 use mathlib.Core.Path.{_≡_, _∙_, ap}
 use Prim.Native.Nat.{_+_, _-_, _≤_}
 use native.Mathlib.Omega.{arith}
