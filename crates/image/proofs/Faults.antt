@@ -1,7 +1,7 @@
 -- Laws of the lowest row at fault.
-use mathlib.Core.Path.{_≡_, refl, sym, _∙_, ap}
+use mathlib.Core.Path.{_≡_, refl, sym, _∙_}
 use mathlib.Core.Bool.{Bool, true, false}
-use mathlib.Core.Logic.{_⊎_, inl, inr, ⊎-elim}
+use mathlib.Core.Logic.{⊎-elim}
 use Prim.Native.Nat.{ℕ, zero, suc, _+_, _≤_, _<_}
 use native.Mathlib.Omega.{arith}
 use native.Mathlib.Decide.{decLe}
@@ -9,7 +9,6 @@ use borrow.Author.Tests.{lt-ltb, le-ltb}
 use Rattle.prelude.specs.Choice.{choose, _also_}
 use Rattle.prelude.proofs.Choice.{choose-yes, choose-no, choose-cases, also-true, also-yes, also-left, also-right}
 use Rattle.image.specs.Faults.{firstFrom, lowestFault, ruleUpTo, allFrom, KeptIn, Lowest}
-use Rattle.image.specs.declared.Verdict.{Verdict}
 use Rattle.image.specs.declared.Verdict.the-variants.{Kept, Fault}
 
 differ : {r : ℕ} {C : Type 0} → Fault r ≡ Kept → C

@@ -9,16 +9,15 @@ use native.Mathlib.Omega.{arith}
 use borrow.Author.Tests.{lt-ltb, le-leb, lt-leb, eq-eqb, ne-eqb}
 use denote.Ref.{now}
 use Rattle.prelude.proofs.Choice.{choose-yes, choose-no, also-yes, also-left, also-right}
-use Rattle.image.specs.Header.{question1, question2, tablesOf, thirdAnswer, headerOf}
-use Rattle.image.specs.declared.HeaderAnswer.{HeaderAnswer}
-use Rattle.image.specs.declared.HeaderAnswer.the-variants.{No, Yes}
+use Rattle.header.specs.Header.{question1, question2, tablesOf, thirdAnswer, headerOf}
+use Rattle.header.specs.declared.HeaderAnswer.the-variants.{No}
 use borrow.Author.Needs.{needs}
-use Rattle.image.proofs.header.Statement.{statement}
-use Rattle.image.proofs.header.Tie as tie
-use Rattle.image.proofs.header.Reads as reads
-use Rattle.image.proofs.header.Lts as lts
-use Rattle.image.proofs.tables_of.Reads as tables-of-reads
-use Rattle.image.proofs.word_at.Reads as word-at-reads
+use Rattle.header.proofs.header.Statement.{statement}
+use Rattle.header.proofs.header.Tie as tie
+use Rattle.header.proofs.header.Reads as reads
+use Rattle.header.proofs.header.Lts as lts
+use Rattle.header.proofs.tables_of.Reads as tables-of-reads
+use Rattle.header.proofs.word_at.Reads as word-at-reads
 
 module _ (image : List ℕ) where
   first-no : question1 image ≡ false → headerOf image ≡ No 1

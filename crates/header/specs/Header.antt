@@ -1,19 +1,18 @@
 -- Questions 1 to 3 of the check: the version, the length, and the six tables.
 use Prim.Native.Nat.{ℕ, _+_, _-_, _*_}
 use mathlib.Core.List.{List, []}
-use mathlib.Core.Bool.{Bool, true, false, not}
+use mathlib.Core.Bool.{Bool}
 use lib.Dec.{ltb, leb, eqb}
 use lib.ListN.{length, getD, take, drop}
 use Rattle.prelude.specs.Choice.{choose, _also_}
 use Rattle.image.specs.Rows.{numberAt, wordAt}
-use Rattle.image.specs.declared.Table.{Table}
-use Rattle.image.specs.declared.Tables.{Tables}
-use Rattle.image.specs.declared.TableAnswer.{TableAnswer}
-use Rattle.image.specs.declared.TableAnswer.the-variants.{Unfit, Found}
-use Rattle.image.specs.declared.TablesAnswer.{TablesAnswer}
-use Rattle.image.specs.declared.TablesAnswer.the-variants.{Amiss, Six}
-use Rattle.image.specs.declared.HeaderAnswer.{HeaderAnswer}
-use Rattle.image.specs.declared.HeaderAnswer.the-variants.{No, Yes}
+use Rattle.header.specs.declared.Table.{Table}
+use Rattle.header.specs.declared.TableAnswer.{TableAnswer}
+use Rattle.header.specs.declared.TableAnswer.the-variants.{Unfit, Found}
+use Rattle.header.specs.declared.TablesAnswer.{TablesAnswer}
+use Rattle.header.specs.declared.TablesAnswer.the-variants.{Amiss, Six}
+use Rattle.header.specs.declared.HeaderAnswer.{HeaderAnswer}
+use Rattle.header.specs.declared.HeaderAnswer.the-variants.{No, Yes}
 
 -- "1. Is there a first byte, and is it 1?"
 unfoldable pub question1 : List ℕ → Bool

@@ -1,10 +1,10 @@
 use Rattle.image.specs.Rows.{wordAt}
 use borrow.Author.Needs.{needs}
-use Rattle.image.proofs.word_at.Statement.{statement}
-use Rattle.image.proofs.word_at.Tie as tie
-use Rattle.image.proofs.word_at.Reads as reads
-use Rattle.image.proofs.word_at.Lts as lts
+use Rattle.header.proofs.word_at.Statement.{statement}
+use Rattle.header.proofs.word_at.Tie as tie
+use Rattle.header.proofs.word_at.Reads as reads
+use Rattle.header.proofs.word_at.Lts as lts
 use Rattle.image.proofs.number_at.Reads as number-at-reads
 
 number-at-requires : tie.Need-number-at-requires
 number-at-requires c κs = search needs

@@ -1,11 +1,11 @@
-use Rattle.image.specs.Header.{partOf}
+use Rattle.header.specs.Header.{partOf}
 use Rattle.prelude.proofs.Choice.{tests}
 use Rattle.prelude.specs.Choice.{choose, _also_}
 use borrow.Author.Needs.{needs}
-use Rattle.image.proofs.part.Statement.{statement}
-use Rattle.image.proofs.part.Tie as tie
-use Rattle.image.proofs.part.Reads as reads
-use Rattle.image.proofs.part.Lts as lts
+use Rattle.header.proofs.part.Statement.{statement}
+use Rattle.header.proofs.part.Tie as tie
+use Rattle.header.proofs.part.Reads as reads
+use Rattle.header.proofs.part.Lts as lts
 
 slice-aggregate-result : tie.Need-slice-aggregate-result
 slice-aggregate-result c = search needs

@@ -1,12 +1,12 @@
-use Rattle.image.specs.Header.{tableFrom}
+use Rattle.header.specs.Header.{tableFrom}
 use Rattle.prelude.proofs.Choice.{tests}
 use Rattle.prelude.specs.Choice.{choose}
 use borrow.Author.Needs.{needs}
-use Rattle.image.proofs.table_from.Statement.{statement}
-use Rattle.image.proofs.table_from.Tie as tie
-use Rattle.image.proofs.table_from.Reads as reads
-use Rattle.image.proofs.table_from.Lts as lts
+use Rattle.header.proofs.table_from.Statement.{statement}
+use Rattle.header.proofs.table_from.Tie as tie
+use Rattle.header.proofs.table_from.Reads as reads
+use Rattle.header.proofs.table_from.Lts as lts
 use Rattle.image.proofs.number_at.Reads as number-at-reads
 
 add-if1 : tie.Need-add-if1
 add-if1 c = search needs

@@ -1,26 +1,27 @@
 -- What an accepted header guarantees of the six tables.
-use mathlib.Core.Path.{_≡_, refl, sym, subst, _∙_, ap}
-use mathlib.Core.List.{List}
+use mathlib.Core.Path.{_≡_, refl, subst}
+use mathlib.Core.List.{List, []}
 use mathlib.Core.Bool.{Bool, true, false}
 use mathlib.Core.Logic.{⊎-elim}
-use Prim.Native.Nat.{ℕ, _+_, _-_, _*_, _/_, _≤_, _<_}
+use Prim.Native.Nat.{ℕ, _+_, _-_, _*_, _≤_}
 use native.Mathlib.Omega.{arith}
-use borrow.Author.Tests.{ltb-false, eqb-true, leb-true, le-leb}
-use lib.Dec.{ltb, leb, eqb}
+use borrow.Author.Tests.{ltb-false, eqb-true, le-leb}
+use lib.Dec.{leb, eqb}
 use lib.ListN.{length, getD, take, drop, length-drop}
 use lib.Seq.{length-take-le}
-use Rattle.prelude.specs.Choice.{choose}
+use Rattle.prelude.specs.Choice.{choose, _also_}
 use Rattle.prelude.proofs.Choice.{choose-cases, choose-yes, also-true, also-yes}
 use Rattle.image.specs.Rows.{numberAt, wordAt, rowsOf}
-use Rattle.image.specs.Header.{question1, question2, tableFrom, thenTable, tablesOf, thirdAnswer, headerOf, partOf}
-use Rattle.image.specs.declared.Table.{Table}
-use Rattle.image.specs.declared.Tables.{Tables}
-use Rattle.image.specs.declared.TableAnswer.{TableAnswer}
-use Rattle.image.specs.declared.TableAnswer.the-variants.{Unfit, Found}
-use Rattle.image.specs.declared.TablesAnswer.{TablesAnswer}
-use Rattle.image.specs.declared.TablesAnswer.the-variants.{Amiss, Six}
-use Rattle.image.specs.declared.HeaderAnswer.{HeaderAnswer}
-use Rattle.image.specs.declared.HeaderAnswer.the-variants.{No, Yes}
+use Rattle.image.proofs.Bytes.{Bytes, slice-bytes}
+use Rattle.header.specs.Header.{question1, question2, tableFrom, thenTable, tablesOf, thirdAnswer, headerOf}
+use Rattle.header.specs.Header.{partOf}
+use Rattle.header.specs.declared.Table.{Table}
+use Rattle.header.specs.declared.Tables.{Tables}
+use Rattle.header.specs.declared.TableAnswer.{TableAnswer}
+use Rattle.header.specs.declared.TableAnswer.the-variants.{Unfit, Found}
+use Rattle.header.specs.declared.TablesAnswer.{TablesAnswer}
+use Rattle.header.specs.declared.TablesAnswer.the-variants.{Amiss, Six}
+use Rattle.header.specs.declared.HeaderAnswer.the-variants.{No, Yes}
 
 -- ---- one table after the other
 
@@ -170,3 +171,14 @@ header-fits image ts e =
     (choose-cases (question2 image) (a .1)))
     (λ a. no-header (a .1))
     (choose-cases (question1 image) e)
+
+-- ---- bytes
+
+-- a table of bytes is one of bytes
+pub part-bytes : (image : List ℕ) → Bytes image → (t : Table) → Bytes (partOf image t)
+unfolding partOf choose
+part-bytes image h t = go (leb (t .start) (t .end) also leb (t .end) (length image))
+  where
+    go : (b : Bool) → Bytes (choose b (take (t .end - t .start) (drop (t .start) image)) [])
+    go true = slice-bytes image h (t .end - t .start) (t .start)
+    go false = record { each = λ i. omega arith }

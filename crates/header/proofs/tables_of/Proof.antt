@@ -7,17 +7,17 @@ use lib.Dec.{eqb}
 use lib.ListN.{length}
 use Rattle.prelude.specs.Choice.{choose}
 use Rattle.prelude.proofs.Choice.{choose-yes, choose-no}
-use Rattle.image.specs.Header.{tableFrom, thenTable, tablesOf}
-use Rattle.image.specs.declared.Table.{Table}
-use Rattle.image.specs.declared.TablesAnswer.{TablesAnswer}
-use Rattle.image.specs.declared.TablesAnswer.the-variants.{Amiss, Six}
-use Rattle.image.proofs.Fitting.{found-then, unfit-then, found-within}
+use Rattle.header.specs.Header.{tableFrom, thenTable, tablesOf}
+use Rattle.header.specs.declared.Table.{Table}
+use Rattle.header.specs.declared.TablesAnswer.{TablesAnswer}
+use Rattle.header.specs.declared.TablesAnswer.the-variants.{Amiss, Six}
+use Rattle.header.proofs.Fitting.{found-then, unfit-then, found-within}
 use borrow.Author.Needs.{needs}
-use Rattle.image.proofs.tables_of.Statement.{statement}
-use Rattle.image.proofs.tables_of.Tie as tie
-use Rattle.image.proofs.tables_of.Reads as reads
-use Rattle.image.proofs.tables_of.Lts as lts
-use Rattle.image.proofs.table_from.Reads as table-from-reads
+use Rattle.header.proofs.tables_of.Statement.{statement}
+use Rattle.header.proofs.tables_of.Tie as tie
+use Rattle.header.proofs.tables_of.Reads as reads
+use Rattle.header.proofs.tables_of.Lts as lts
+use Rattle.header.proofs.table_from.Reads as table-from-reads
 
 -- what is left of question 3 once some of the tables are found
 module _ (image : List ℕ) where
