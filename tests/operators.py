@@ -1,7 +1,7 @@
 #!/usr/bin/env python3
 """Cases of the operators, cells and constants, with the answers that document 01 gives.
 
-Written from document 01 alone: it shares nothing with the code or the definitions of the crate values.
+Written from document 01 alone: it shares nothing with the code or the definitions of the crates that it asks.
 Writes crates/cases_values/data/operators.bin and crates/cases_values/stdout; with --check it only compares.
 
 A case has 17 bytes, its numbers big-endian:

@@ -1,10 +1,9 @@
 -- The number that questions 1 to 8 answer of an image: refusal × 65,536 + row.
 use Prim.Native.Nat.{ℕ, _+_, _*_}
 use mathlib.Core.List.{List}
-use Rattle.image.specs.Header.{headerOf, partOf}
-use Rattle.image.specs.declared.HeaderAnswer.{HeaderAnswer}
-use Rattle.image.specs.declared.HeaderAnswer.the-variants.{No, Yes}
-use Rattle.image.specs.declared.Tables.{Tables}
+use Rattle.header.specs.Header.{headerOf, partOf}
+use Rattle.header.specs.declared.HeaderAnswer.{HeaderAnswer}
+use Rattle.header.specs.declared.HeaderAnswer.the-variants.{No, Yes}
 use Rattle.image.specs.declared.Verdict.{Verdict}
 use Rattle.image.specs.declared.Verdict.the-variants.{Kept, Fault}
 use Rattle.types.specs.Question.{question4}

@@ -1,5 +1,5 @@
 // Runs questions 1 to 8 on the images of a pack and prints what they answer.
-use image::HeaderAnswer;
+use header::HeaderAnswer;
 use image::Verdict;
 ghost use mathlib.Core.Path.{_≡_};
 ghost use Prim.Native.Nat.{_≤_};
@@ -35,7 +35,7 @@ fn tables_answer(t: &[u8], f: &[u8], v: &[u8], p: &[u8], n: &[u8], s: &[u8]) -> 
 fn answer(image: &[u8]) -> u32
     ensures { λ r. ⌜ r ≡ answerOf (now (image .entry)) ⌝ }
 {
-    match image::header(image) {
+    match header::header(image) {
         HeaderAnswer::No(question) => (question as u32) * 65536,
         HeaderAnswer::Yes(tables) => {
             let types = tables.types;
@@ -44,12 +44,12 @@ fn answer(image: &[u8]) -> u32
             let procedures = tables.procedures;
             let nodes = tables.nodes;
             let statements = tables.statements;
-            let t = image::part(image, types);
-            let f = image::part(image, fields);
-            let v = image::part(image, variables);
-            let p = image::part(image, procedures);
-            let n = image::part(image, nodes);
-            let s = image::part(image, statements);
+            let t = header::part(image, types);
+            let f = header::part(image, fields);
+            let v = header::part(image, variables);
+            let p = header::part(image, procedures);
+            let n = header::part(image, nodes);
+            let s = header::part(image, statements);
             tables_answer(t, f, v, p, n, s)
         }
     }

@@ -1,12 +1,12 @@
 // Runs questions 1 to 3 on the images of a pack and prints what they answer.
-use image::HeaderAnswer;
+use header::HeaderAnswer;
 ghost use mathlib.Core.Path.{_≡_};
 ghost use Rattle.cases_image.specs.Answer.{answerOf};
 
 fn answer(image: &[u8]) -> u32
     ensures { λ r. ⌜ r ≡ answerOf (now (image .entry)) ⌝ }
 {
-    match image::header(image) {
+    match header::header(image) {
         HeaderAnswer::No(question) => (question as u32) * 65536,
         HeaderAnswer::Yes(_) => 0,
     }

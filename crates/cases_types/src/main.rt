@@ -1,5 +1,5 @@
 // Runs questions 1 to 4 on the images of a pack and prints what they answer.
-use image::HeaderAnswer;
+use header::HeaderAnswer;
 use image::Verdict;
 ghost use mathlib.Core.Path.{_≡_};
 ghost use Rattle.cases_types.specs.Answer.{answerOf};
@@ -7,13 +7,13 @@ ghost use Rattle.cases_types.specs.Answer.{answerOf};
 fn answer(image: &[u8]) -> u32
     ensures { λ r. ⌜ r ≡ answerOf (now (image .entry)) ⌝ }
 {
-    match image::header(image) {
+    match header::header(image) {
         HeaderAnswer::No(question) => (question as u32) * 65536,
         HeaderAnswer::Yes(tables) => {
             let types = tables.types;
             let fields = tables.fields;
-            let t = image::part(image, types);
-            let f = image::part(image, fields);
+            let t = header::part(image, types);
+            let f = header::part(image, fields);
             let mut plan = [0u32; 384];
             match types::check_types(t, f, &mut plan) {
                 Verdict::Kept => 0,

@@ -16,8 +16,8 @@ use Rattle.values.specs.declared.Answer.{Answer}
 use Rattle.values.specs.declared.Answer.the-variants as As
 use Rattle.values.proofs.Value.{the-type as valueType}
 use Rattle.values.proofs.Answer.{the-type as answerType}
-use Rattle.values.proofs.Division.{up-from}
-use Rattle.values.proofs.Operands.{neither}
+use Rattle.integers.proofs.Division.{up-from}
+use Rattle.values.proofs.Binding.{neither}
 use Rattle.cases_values.specs.Cases.{sameValue, sameAs, cellWith, weightAt, counted}
 
 -- ---- 64 bits

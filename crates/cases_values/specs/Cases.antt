@@ -7,7 +7,7 @@ use lib.IntN.{ℤ, pos, _+ℤ_, _*ℤ_}
 use lib.ListN.{getD, take, drop}
 use Rattle.prelude.specs.Choice.{choose}
 use Rattle.values.specs.Values.{constantOf, cellOf, numberOf, trapNumber, bind}
-use Rattle.values.specs.Operators.{dyadicOf, monadicOf, equalZ}
+use Rattle.operators.specs.Operators.{dyadicOf, monadicOf, equalZ}
 use Rattle.values.specs.declared.Value.{Value}
 use Rattle.values.specs.declared.Value.the-variants as Vs
 use Rattle.values.specs.declared.Answer.{Answer}

@@ -1,5 +1,6 @@
-// Asks the crate values the cases of data/operators.bin, whose answers an independent script wrote, and prints
-// for each kind of question how many came out the same and how many did not. tests/operators.py has the format.
+// Asks the crates values and operators the cases of data/operators.bin, whose answers an independent script wrote,
+// and prints for each kind of question how many came out the same and how many did not. tests/operators.py has the
+// format.
 use libc::STDOUT_FILENO;
 use values::Answer;
 use values::Value;
@@ -43,7 +44,7 @@ fn wide_at(high: i32, b: u16, c: u16) -> i64
     (high as i64) * 4294967296 + (low as i64)
 }
 
-// ---- what the crate answers
+// ---- what the crates answer
 
 fn dyadic_case(s: &[u8]) -> Answer
     requires { ⌜ 17 ≤ length (now s) ⌝ }
@@ -57,7 +58,7 @@ fn dyadic_case(s: &[u8]) -> Answer
     let Answer::Val(w) = right else {
         return right;
     };
-    values::dyadic(byte_at(s, 1), v, w)
+    operators::dyadic(byte_at(s, 1), v, w)
 }
 
 fn monadic_case(s: &[u8]) -> Answer
@@ -68,7 +69,7 @@ fn monadic_case(s: &[u8]) -> Answer
     let Answer::Val(v) = operand else {
         return operand;
     };
-    values::monadic(byte_at(s, 1), v)
+    operators::monadic(byte_at(s, 1), v)
 }
 
 fn cell_case(s: &[u8]) -> Answer

@@ -1,22 +1,19 @@
 -- What questions 5 and 6 say of accepted rows.
-use mathlib.Core.Path.{_≡_, refl, sym, _∙_, ap}
-use mathlib.Core.Bool.{Bool, true, false}
+use mathlib.Core.Path.{_≡_, sym, _∙_}
+use mathlib.Core.Bool.{true}
 use mathlib.Core.List.{List}
 use Prim.Native.Nat.{ℕ, _+_, _≤_, _<_}
 use native.Mathlib.Omega.{arith}
 use borrow.Author.Tests.{ltb-true, leb-true, eqb-true, eq-eqb}
-use lib.Dec.{ltb, leb, eqb}
-use Rattle.prelude.specs.Choice.{choose, _also_}
 use Rattle.prelude.proofs.Choice.{choose-yes, also-true}
 use Rattle.image.specs.declared.Row.{Row}
 use Rattle.image.specs.declared.Verdict.the-variants.{Kept}
 use Rattle.image.specs.Rows.{rowAt, rowsOf}
-use Rattle.image.specs.Faults.{allFrom, lowestFault, KeptIn}
-use Rattle.image.proofs.Faults.{all-each, verdict-kept}
+use Rattle.image.specs.Faults.{KeptIn}
+use Rattle.image.proofs.Faults.{all-each, verdict-kept, up-to-kept}
 use Rattle.frames.specs.Variables.{isGlobal, isLocal, isParameter, formKept, variableKept, question5}
 use Rattle.frames.specs.Procedures.{claimedBy, firstVariable, bodyEnd, moduleKept, bodyKept, ownKept}
-use Rattle.frames.specs.Procedures.{procedureKept, procedureRule, question6}
-use Rattle.frames.proofs.Claiming.{rule-low, rule-top}
+use Rattle.frames.specs.Procedures.{procedureKept, question6}
 
 -- ---- variables
 
@@ -88,8 +85,5 @@ pub record ProceduresKept (v p s : List ℕ) : Type 0 where
 pub procedures-kept : (v p s : List ℕ) → question6 v p s ≡ Kept → ProceduresKept v p s
 unfolding question6
 procedures-kept v p s e =
-    let kept = verdict-kept (procedureRule v p s) (rowsOf p + 1) e in
-    record {
-      row = λ r h. procedure-row v p s r (sym (rule-low v p s r h) ∙ kept r (omega arith));
-      claimed = eqb-true _ _ (sym (rule-top v p s) ∙ kept (rowsOf p) (omega arith));
-    }
+    let (kept, all) = up-to-kept (procedureKept v p s) (rowsOf p) _ e in
+    record { row = λ r h. procedure-row v p s r (kept .each r (omega arith) h); claimed = eqb-true _ _ all }

@@ -1,22 +1,20 @@
 -- Laws of the loop over procedures.
-use mathlib.Core.Path.{_≡_, refl, sym, _∙_, ap}
+use mathlib.Core.Path.{_≡_, sym, _∙_}
 use mathlib.Core.Bool.{Bool, true, false}
 use mathlib.Core.List.{List}
-use mathlib.Core.Logic.{⊎-elim}
 use Prim.Native.Nat.{ℕ, zero, suc, _+_, _≤_, _<_}
 use native.Mathlib.Omega.{arith}
-use native.Mathlib.Decide.{decLt}
-use borrow.Author.Tests.{eq-eqb, ne-eqb, leb-true, lt-ltb, le-ltb}
-use lib.Dec.{eqb, ltb, leb}
-use Rattle.prelude.specs.Choice.{choose, _also_}
-use Rattle.prelude.proofs.Choice.{choose-yes, choose-no, also-true, also-yes, also-left, also-right}
+use borrow.Author.Tests.{eq-eqb, ne-eqb, leb-true}
+use lib.Dec.{eqb}
+use Rattle.prelude.specs.Choice.{choose}
+use Rattle.prelude.proofs.Choice.{also-true, also-yes, also-left, also-right}
 use Rattle.image.specs.declared.Row.{Row}
 use Rattle.image.specs.declared.Verdict.the-variants.{Kept, Fault}
 use Rattle.image.specs.Rows.{rowAt, rowsOf}
-use Rattle.image.specs.Faults.{lowestFault, KeptIn, Lowest}
-use Rattle.image.proofs.Faults.{kept-none, kept-next, kept-verdict, fault-verdict}
+use Rattle.image.specs.Faults.{KeptIn}
+use Rattle.image.proofs.Faults.{kept-none, kept-next, up-to-bad, up-to-some, up-to-end}
 use Rattle.frames.specs.Variables.{isGlobal, globalsFrom, globalsOf}
-use Rattle.frames.specs.Procedures.{claimedBy, firstFrom, firstVariable, bodyKept, ownKept, procedureKept, procedureRule, question6}
+use Rattle.frames.specs.Procedures.{claimedBy, firstFrom, firstVariable, bodyKept, ownKept, procedureKept, question6}
 
 globals-few : (v : List ℕ) (n k : ℕ) → globalsFrom v k n ≤ k + n
 unfolding globalsFrom choose
@@ -47,39 +45,26 @@ claimed-none v p s first e = record {
   few = rw e (globals-within v);
 }
 
-pub rule-low : (v p s : List ℕ) (r : ℕ) → r < rowsOf p → procedureRule v p s r ≡ procedureKept v p s r
-unfolding procedureRule
-rule-low v p s r h = choose-yes _ _ _ (lt-ltb r (rowsOf p) h)
-
-pub rule-top : (v p s : List ℕ) → procedureRule v p s (rowsOf p) ≡ eqb (firstVariable v p (rowsOf p)) (rowsOf v)
-unfolding procedureRule
-rule-top v p s = choose-no _ _ _ (le-ltb (rowsOf p) (rowsOf p) (omega arith))
-
 own-room : (v : List ℕ) (first : ℕ) (row : Row) → ownKept v first row ≡ true → first + (row .b + row .c) ≤ rowsOf v
 unfolding ownKept claimedBy
 own-room v first row e = leb-true _ _ (also-true _ _ e .0)
 
 module _ (v p s : List ℕ) (first r : ℕ) (c : Claimed v p s first r) where
-  rules-below : (j : ℕ) → j < r → procedureRule v p s j ≡ true
-  rules-below j h = let w = c .within in rule-low v p s j (omega arith) ∙ c .kept .each j (omega arith) h
-
-  faulty : procedureRule v p s r ≡ false → Fault r ≡ question6 v p s
+  faulty : r < rowsOf p → procedureKept v p s r ≡ false → Fault r ≡ question6 v p s
   unfolding question6
-  faulty bad =
-      let w = c .within in
-      sym (fault-verdict (procedureRule v p s) (rowsOf p + 1) r (record { within = omega arith; fault = bad; lower = rules-below }))
+  faulty more bad = up-to-bad (procedureKept v p s) (rowsOf p) _ r (c .kept) (c .within) more bad
 
   module _ (more : r < rowsOf p) (row : Row) (this-row : row ≡ rowAt p r) where
     pub body-bad : bodyKept p (rowsOf s) r row ≡ false → Fault r ≡ question6 v p s
     unfolding procedureKept
-    body-bad e = faulty (rule-low v p s r more ∙ also-left _ (rw this-row at e))
+    body-bad e = faulty more (also-left _ (rw this-row at e))
 
     own-same : ownKept v first row ≡ ownKept v (firstVariable v p r) (rowAt p r)
     own-same = rw (this-row, c .next)
 
     pub own-bad : ownKept v first row ≡ false → Fault r ≡ question6 v p s
     unfolding procedureKept
-    own-bad e = faulty (rule-low v p s r more ∙ also-right _ (sym own-same ∙ e))
+    own-bad e = faulty more (also-right _ (sym own-same ∙ e))
 
     pub claimed-next : bodyKept p (rowsOf s) r row ≡ true → ownKept v first row ≡ true → Claimed v p s (first + (row .b + row .c)) (r + 1)
     unfolding procedureKept firstVariable firstFrom claimedBy
@@ -94,22 +79,15 @@ module _ (v p s : List ℕ) (first r : ℕ) (c : Claimed v p s first r) where
     all-rows : r ≡ rowsOf p
     all-rows = let w = c .within in omega arith
 
-    top-rule : procedureRule v p s r ≡ eqb first (rowsOf v)
-    top-rule = rw (c .next, all-rows) (rule-top v p s)
+    all-variables : eqb (firstVariable v p (rowsOf p)) (rowsOf v) ≡ eqb first (rowsOf v)
+    all-variables = rw (c .next, all-rows)
 
     pub variables-bad : (first ≡ rowsOf v → ⊥) → Fault r ≡ question6 v p s
-    variables-bad h = faulty (top-rule ∙ ne-eqb first (rowsOf v) h)
+    unfolding question6
+    variables-bad h =
+        up-to-some (procedureKept v p s) (rowsOf p) _ r (c .kept) (c .within) done (all-variables ∙ ne-eqb first (rowsOf v) h)
 
     pub variables-all : first ≡ rowsOf v → Kept ≡ question6 v p s
     unfolding question6
-    variables-all h = sym (kept-verdict (procedureRule v p s) (rowsOf p + 1) rules)
-      where
-        rules : (j : ℕ) → j < rowsOf p + 1 → procedureRule v p s j ≡ true
-        rules j l = go (decLt j r)
-          where
-            go : Dec (j < r) → procedureRule v p s j ≡ true
-            go (yes k) = rules-below j k
-            go (no k) =
-                let full = all-rows in
-                let q : r ≡ j = omega arith in
-                rw (← q) (top-rule ∙ eq-eqb first (rowsOf v) h)
+    variables-all h =
+        up-to-end (procedureKept v p s) (rowsOf p) _ r (c .kept) (c .within) done (all-variables ∙ eq-eqb first (rowsOf v) h)

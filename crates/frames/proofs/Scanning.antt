@@ -1,22 +1,18 @@
 -- Laws of the loops over variables.
-use mathlib.Core.Path.{_≡_, refl, sym, _∙_, ap}
+use mathlib.Core.Path.{_≡_, refl, sym, _∙_}
 use mathlib.Core.Bool.{Bool, true, false}
 use mathlib.Core.List.{List}
-use mathlib.Core.Logic.{⊎-elim}
-use Prim.Native.Nat.{ℕ, zero, suc, _+_, _-_, _≤_, _<_}
+use Prim.Native.Nat.{ℕ, suc, _+_, _-_, _≤_, _<_}
 use native.Mathlib.Omega.{arith}
-use native.Mathlib.Decide.{decLt}
-use borrow.Author.Tests.{eq-eqb, ne-eqb, eqb-true, eqb-false}
-use lib.Dec.{leb, ltb, eqb}
-use Rattle.prelude.specs.Choice.{choose, _also_}
-use Rattle.prelude.proofs.Choice.{choose-yes, choose-no, choose-cases, also-true, clash}
+use borrow.Author.Tests.{eq-eqb, ne-eqb, eqb-true}
+use lib.Dec.{eqb}
+use Rattle.prelude.proofs.Choice.{choose-yes, choose-no, also-true}
 use Rattle.image.specs.declared.Row.{Row}
-use Rattle.image.specs.declared.Verdict.{Verdict}
 use Rattle.image.specs.declared.Verdict.the-variants.{Kept, Fault}
 use Rattle.image.specs.Rows.{rowAt, rowsOf}
-use Rattle.image.specs.Faults.{allFrom, lowestFault, KeptIn, Lowest}
-use Rattle.image.proofs.Faults.{kept-none, kept-next, kept-verdict, fault-verdict, all-each, each-all, not-all}
-use Rattle.frames.specs.Variables.{isGlobal, globalsFrom, globalsOf, formKept, variableKept, question5}
+use Rattle.image.specs.Faults.{allFrom, KeptIn}
+use Rattle.image.proofs.Faults.{kept-none, kept-next, scan-bad, scan-end, all-each, each-all, not-all}
+use Rattle.frames.specs.Variables.{isGlobal, globalsFrom, formKept, variableKept, question5}
 
 -- ---- question 5
 
@@ -53,9 +49,7 @@ module _ (t v : List ℕ) (r : ℕ) (lower : Bool) (p : Passed t v r lower) (mor
 
   pub variable-bad : x ≡ false → Fault r ≡ question5 t v
   unfolding question5
-  variable-bad bad =
-      sym (fault-verdict (variableKept t v) (rowsOf v) r
-      (record { within = more; fault = variable-is ∙ bad; lower = λ j h. p .kept .each j (omega arith) h }))
+  variable-bad bad = scan-bad (variableKept t v) (rowsOf v) r (p .kept) more (variable-is ∙ bad)
 
   module _ (good : x ≡ true) where
     lower-next : eqb (row .kind) 0 ≡ allFrom (isGlobal v) 0 (r + 1)
@@ -84,8 +78,7 @@ module _ (t v : List ℕ) (r : ℕ) (lower : Bool) (p : Passed t v r lower) (mor
 
 pub variables-good : (t v : List ℕ) (r : ℕ) (lower : Bool) → Passed t v r lower → rowsOf v ≤ r → Kept ≡ question5 t v
 unfolding question5
-variables-good t v r lower p done =
-    sym (kept-verdict (variableKept t v) (rowsOf v) (λ j h. p .kept .each j (omega arith) (omega arith)))
+variables-good t v r lower p done = scan-end (variableKept t v) (rowsOf v) r (p .kept) done
 
 -- ---- how many globals
 

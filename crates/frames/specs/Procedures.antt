@@ -7,7 +7,7 @@ use Rattle.prelude.specs.Choice.{choose, _also_}
 use Rattle.image.specs.declared.Row.{Row}
 use Rattle.image.specs.declared.Verdict.{Verdict}
 use Rattle.image.specs.Rows.{rowAt, rowsOf}
-use Rattle.image.specs.Faults.{allFrom, lowestFault}
+use Rattle.image.specs.Faults.{allFrom, lowestFault, ruleUpTo}
 use Rattle.frames.specs.Variables.{isLocal, isParameter, globalsOf}
 
 -- "b parameter count, c local count": how many variables a procedure row claims
@@ -49,11 +49,7 @@ ownKept v first row =
 unfoldable pub procedureKept : List ℕ → List ℕ → List ℕ → ℕ → Bool
 procedureKept v p s r = bodyKept p (rowsOf s) r (rowAt p r) also ownKept v (firstVariable v p r) (rowAt p r)
 
--- "(Empty body: its own row. Unclaimed variable: row = procedure count.)"
-unfoldable pub procedureRule : List ℕ → List ℕ → List ℕ → ℕ → Bool
-procedureRule v p s r =
-    choose (ltb r (rowsOf p)) (procedureKept v p s r) (eqb (firstVariable v p (rowsOf p)) (rowsOf v))
-
--- "6. Does each procedure row keep its rule?"
+-- "6. Does each procedure row keep its rule? (Empty body: its own row. Unclaimed variable: row = procedure count.)"
 unfoldable pub question6 : List ℕ → List ℕ → List ℕ → Verdict
-question6 v p s = lowestFault (procedureRule v p s) (rowsOf p + 1)
+question6 v p s =
+    lowestFault (ruleUpTo (procedureKept v p s) (rowsOf p) (eqb (firstVariable v p (rowsOf p)) (rowsOf v))) (rowsOf p + 1)

@@ -1,20 +1,18 @@
 -- Bytes, and what rows of bytes can hold.
-use mathlib.Core.Path.{_≡_, sym, subst, _∙_}
-use mathlib.Core.List.{List, []}
+use mathlib.Core.Path.{_≡_}
+use mathlib.Core.List.{List}
 use mathlib.Core.Bool.{Bool, true, false}
-use Prim.Native.Nat.{ℕ, _+_, _-_, _*_, _≤_, _<_}
+use Prim.Native.Nat.{ℕ, _+_, _*_, _≤_, _<_}
 use native.Mathlib.Omega.{arith}
 use native.Mathlib.Decide.{decLt}
-use borrow.Author.Tests.{le-ltb, lt-ltb}
-use lib.Dec.{ltb, leb}
-use lib.ListN.{length, getD, take, drop, length-take, List·getD-eq-default}
+use borrow.Author.Tests.{le-ltb}
+use lib.Dec.{ltb}
+use lib.ListN.{getD, take, drop, length-take, List·getD-eq-default}
 use lib.Seq.{getD-take, getD-drop}
-use Rattle.prelude.specs.Choice.{choose, _also_}
-use Rattle.prelude.proofs.Choice.{choose-yes, choose-no}
+use Rattle.prelude.specs.Choice.{choose}
+use Rattle.prelude.proofs.Choice.{choose-no}
 use Rattle.image.specs.Rows.{numberAt, rowsOf, noRow, rowAt}
-use Rattle.image.specs.Header.{partOf}
 use Rattle.image.specs.declared.Row.{Row}
-use Rattle.image.specs.declared.Table.{Table}
 
 -- a list of bytes
 pub record Bytes (s : List ℕ) : Type 0 where
@@ -53,19 +51,11 @@ row-small t h i = go (ltb i (rowsOf t))
     }
     go false = record { a = omega arith; b = omega arith; c = omega arith }
 
-slice-bytes : (s : List ℕ) → Bytes s → (n k : ℕ) → Bytes (take n (drop k s))
+-- a part of a list of bytes
+pub slice-bytes : (s : List ℕ) → Bytes s → (n k : ℕ) → Bytes (take n (drop k s))
 slice-bytes s h n k = record { each = λ i. go i (decLt i n) }
   where
     go : (i : ℕ) → Dec (i < n) → getD (take n (drop k s)) i 0 < 256
     go i (yes l) = rw (getD-take n (drop k s) i 0 l, getD-drop k s i 0) (h .each (k + i))
     go i (no l) =
         rw (List·getD-eq-default (take n (drop k s)) 0 {n = i} (simp length-take (omega arith))) (omega arith)
-
--- a table of bytes is one of bytes
-pub part-bytes : (image : List ℕ) → Bytes image → (t : Table) → Bytes (partOf image t)
-unfolding partOf choose
-part-bytes image h t = go (leb (t .start) (t .end) also leb (t .end) (length image))
-  where
-    go : (b : Bool) → Bytes (choose b (take (t .end - t .start) (drop (t .start) image)) [])
-    go true = slice-bytes image h (t .end - t .start) (t .start)
-    go false = record { each = λ i. omega arith }

@@ -1,14 +1,14 @@
 -- Laws of the lowest row at fault.
-use mathlib.Core.Path.{_≡_, refl, sym, _∙_, ap}
+use mathlib.Core.Path.{_≡_, refl, sym, _∙_}
 use mathlib.Core.Bool.{Bool, true, false}
-use mathlib.Core.Logic.{_⊎_, inl, inr, ⊎-elim}
+use mathlib.Core.Logic.{⊎-elim}
 use Prim.Native.Nat.{ℕ, zero, suc, _+_, _≤_, _<_}
 use native.Mathlib.Omega.{arith}
 use native.Mathlib.Decide.{decLe}
+use borrow.Author.Tests.{lt-ltb, le-ltb}
 use Rattle.prelude.specs.Choice.{choose, _also_}
-use Rattle.prelude.proofs.Choice.{choose-cases, also-true, also-yes, also-left, also-right}
-use Rattle.image.specs.Faults.{firstFrom, lowestFault, allFrom, KeptIn, Lowest}
-use Rattle.image.specs.declared.Verdict.{Verdict}
+use Rattle.prelude.proofs.Choice.{choose-yes, choose-no, choose-cases, also-true, also-yes, also-left, also-right}
+use Rattle.image.specs.Faults.{firstFrom, lowestFault, ruleUpTo, allFrom, KeptIn, Lowest}
 use Rattle.image.specs.declared.Verdict.the-variants.{Kept, Fault}
 
 differ : {r : ℕ} {C : Type 0} → Fault r ≡ Kept → C
@@ -101,6 +101,39 @@ module _ (keeps : ℕ → Bool) (n r : ℕ) (kept : KeptIn keeps 0 r) where
 
   pub scan-end : n ≤ r → Kept ≡ lowestFault keeps n
   scan-end h = sym (kept-verdict keeps n (λ j low. kept .each j (omega arith) (omega arith)))
+
+-- a rule for each of n rows, and one row more for what no row claims
+module _ (keeps : ℕ → Bool) (n : ℕ) (none : Bool) where
+  abbrev rule : ℕ → Bool
+  rule = ruleUpTo keeps n none
+
+  rule-low : (r : ℕ) → r < n → rule r ≡ keeps r
+  unfolding ruleUpTo
+  rule-low r h = choose-yes _ _ _ (lt-ltb r n h)
+
+  rule-top : (r : ℕ) → n ≤ r → rule r ≡ none
+  unfolding ruleUpTo
+  rule-top r h = choose-no _ _ _ (le-ltb r n h)
+
+  -- none at fault: the rows keep the rule, and nothing is unclaimed
+  pub up-to-kept : lowestFault (ruleUpTo keeps n none) (n + 1) ≡ Kept → KeptIn keeps 0 n × (none ≡ true)
+  up-to-kept e =
+      let kept = verdict-kept rule (n + 1) e in
+      (record { each = λ j low high. sym (rule-low j high) ∙ kept j (omega arith) }, sym (rule-top n (omega arith)) ∙ kept n (omega arith))
+
+  -- a loop over the rows that stops at the first fault
+  module _ (r : ℕ) (kept : KeptIn keeps 0 r) (within : r ≤ n) where
+    rules : KeptIn rule 0 r
+    rules = record { each = λ j low high. rule-low j (omega arith) ∙ kept .each j low high }
+
+    pub up-to-bad : r < n → keeps r ≡ false → Fault r ≡ lowestFault (ruleUpTo keeps n none) (n + 1)
+    up-to-bad h bad = scan-bad rule (n + 1) r rules (omega arith) (rule-low r h ∙ bad)
+
+    pub up-to-some : n ≤ r → none ≡ false → Fault r ≡ lowestFault (ruleUpTo keeps n none) (n + 1)
+    up-to-some h some = scan-bad rule (n + 1) r rules (omega arith) (rule-top r h ∙ some)
+
+    pub up-to-end : n ≤ r → none ≡ true → Kept ≡ lowestFault (ruleUpTo keeps n none) (n + 1)
+    up-to-end h e = scan-end rule (n + 1) (r + 1) (kept-next rule 0 r rules (rule-top r h ∙ e)) (omega arith)
 
 from-same : (f g : ℕ → Bool) (n k : ℕ) → ((j : ℕ) → k ≤ j → j < k + n → f j ≡ g j) → firstFrom f k n ≡ firstFrom g k n
 unfolding firstFrom

@@ -16,6 +16,10 @@ firstFrom keeps k (suc n) = choose (keeps k) (firstFrom keeps (k + 1) n) (Fault 
 unfoldable pub lowestFault : (ℕ → Bool) → ℕ → Verdict
 lowestFault keeps n = firstFrom keeps 0 n
 
+-- a rule for each of n rows, and for one row more, which stands for what no row claims: whether there is none
+unfoldable pub ruleUpTo : (ℕ → Bool) → ℕ → Bool → ℕ → Bool
+ruleUpTo keeps n none r = choose (ltb r n) (keeps r) none
+
 -- each of the n rows from k on keeps the rule
 unfoldable pub allFrom : (ℕ → Bool) → ℕ → ℕ → Bool
 allFrom keeps k zero = true

@@ -6,10 +6,11 @@ use native.Mathlib.Omega.{arith}
 use lib.ListN.{getD}
 use Rattle.image.specs.declared.Verdict.the-variants.{Kept}
 use Rattle.image.specs.Rows.{rowAt, rowsOf}
-use Rattle.types.specs.Sizes.{sizeOf}
+use Rattle.shapes.specs.Sizes.{sizeOf}
 use Rattle.types.specs.Question.{question4}
 use Rattle.types.specs.Plan.{Plan}
-use Rattle.types.proofs.Accepted.{types-kept, record-is, size-small}
+use Rattle.types.proofs.Accepted.{types-kept}
+use Rattle.shapes.proofs.Accepted.{record-is, size-small}
 use Rattle.frames.specs.Variables.{globalsOf, question5}
 use Rattle.frames.specs.Procedures.{claimedBy, firstVariable, question6}
 use Rattle.frames.proofs.Accepted.{variables-kept, procedures-kept}

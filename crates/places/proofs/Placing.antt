@@ -6,8 +6,9 @@ use native.Mathlib.Omega.{arith}
 use lib.ListN.{length, getD, set, take, drop, length-set}
 use lib.Seq.{getD-set-same, getD-set-other}
 use Rattle.image.specs.Rows.{rowAt, rowsOf}
-use Rattle.types.specs.Sizes.{sizeOf}
-use Rattle.types.proofs.Accepted.{types-kept, size-small}
+use Rattle.shapes.specs.Sizes.{sizeOf}
+use Rattle.types.proofs.Accepted.{types-kept}
+use Rattle.shapes.proofs.Accepted.{size-small}
 use Rattle.frames.specs.Variables.{globalsOf}
 use Rattle.frames.specs.Procedures.{claimedBy, firstVariable}
 use Rattle.frames.proofs.Accepted.{variables-kept}

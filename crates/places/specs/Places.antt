@@ -9,7 +9,7 @@ use lib.Dec.{eqb}
 use lib.ListN.{length, getD}
 use Rattle.prelude.specs.Choice.{choose}
 use Rattle.image.specs.Rows.{rowAt, rowsOf}
-use Rattle.types.specs.Sizes.{sizeOf}
+use Rattle.shapes.specs.Sizes.{sizeOf}
 use Rattle.frames.specs.Variables.{globalsOf}
 use Rattle.frames.specs.Procedures.{claimedBy, firstVariable}
 

@@ -36,7 +36,7 @@ fn width_at(v: &[u8], plan: &[u32], k: usize) -> u32
     if kind == 3 {
         return 2;
     }
-    types::cell(plan, a)
+    sizes::cell(plan, a)
 }
 
 // Writes the places of n variables from row k on, the first at `at`, and gives the place behind them.
@@ -70,7 +70,7 @@ fn place_frames(v: &[u8], p: &[u8], plan: &mut [u32])
         let row = image::row_at(p, q);
         let b = row.b as usize;
         let c = row.c as usize;
-        let first = types::cell(plan, 704 + q) as usize;
+        let first = sizes::cell(plan, 704 + q) as usize;
         let size = place_run(v, plan, first, b + c, 3);
         plan[640 + q] = size;
         q = q + 1;

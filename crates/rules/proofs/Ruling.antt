@@ -22,9 +22,9 @@ use Rattle.owners.specs.Owners.{Spans}
 use Rattle.owners.proofs.Owning.{span-own}
 use Rattle.owners.proofs.Spanning.{spans-known}
 use Rattle.places.specs.Places.{Firsts}
-use Rattle.values.specs.declared.KindAnswer.{KindAnswer}
-use Rattle.values.specs.declared.KindAnswer.the-variants.{Untyped, Kind}
-use Rattle.types.specs.Extends.{extends}
+use Rattle.kinds.specs.declared.KindAnswer.{KindAnswer}
+use Rattle.kinds.specs.declared.KindAnswer.the-variants.{Untyped, Kind}
+use Rattle.relations.specs.Extends.{extends}
 use Rattle.rules.specs.Rules.{isType, assignable, argumentRule, callRule, ruleBy, statementRule, FirstTable, Ready, RowsFit}
 
 pub no-type : (x : KindAnswer) (r : ℕ) → x ≡ Untyped → isType x r ≡ false

@@ -12,9 +12,9 @@ use Rattle.image.specs.declared.Verdict.the-variants.{Kept}
 use Rattle.image.specs.Rows.{rowAt, rowsOf}
 use Rattle.image.specs.Faults.{allFrom, lowestFault}
 use Rattle.values.specs.Values.{BOOLEAN, INTEGER}
-use Rattle.values.specs.declared.KindAnswer.{KindAnswer}
-use Rattle.values.specs.declared.KindAnswer.the-variants.{Untyped, Kind}
-use Rattle.types.specs.Extends.{extends}
+use Rattle.kinds.specs.declared.KindAnswer.{KindAnswer}
+use Rattle.kinds.specs.declared.KindAnswer.the-variants.{Untyped, Kind}
+use Rattle.relations.specs.Extends.{extends}
 use Rattle.frames.specs.Procedures.{firstVariable, question6}
 use Rattle.nodes.specs.Nodes.{isDesignator}
 use Rattle.statements.specs.Statements.{procedureAt}

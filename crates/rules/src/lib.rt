@@ -1,7 +1,7 @@
 // Question 11: the type and variable rules of the statements.
 use image::Row;
 use image::Verdict;
-use values::KindAnswer;
+use kinds::KindAnswer;
 ghost use mathlib.Core.Path.{_≡_};
 ghost use Prim.Native.Nat.{ℕ, _+_, _≤_, _<_};
 ghost use lib.ListN.{length, getD};
@@ -32,7 +32,7 @@ fn assignable(t: &[u8], source: KindAnswer, target: KindAnswer) -> bool
     let KindAnswer::Kind(to) = target else {
         return false;
     };
-    types::extends(t, from, to)
+    relations::extends(t, from, to)
 }
 
 fn assign_rule(
@@ -148,7 +148,7 @@ fn call_rule(
     let b = row.b;
     let called = image::row_at(p, a as usize);
     let count = called.b;
-    let parameter = types::cell(firsts, a as usize);
+    let parameter = sizes::cell(firsts, a as usize);
     arguments_rule(
         t,
         v,
@@ -250,8 +250,8 @@ fn rules_by(
     let mut r: usize = 0;
     while r < statements {
         let row = image::row_at(s, r);
-        let first = types::cell(firsts, q);
-        let next = types::cell(firsts, q + 1);
+        let first = sizes::cell(firsts, q);
+        let next = sizes::cell(firsts, q + 1);
         if !rule_by(t, v, p, n, types, least, past, firsts, first, next, row) {
             let bad = r as u16;
             return Verdict::Fault(bad);

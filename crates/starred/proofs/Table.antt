@@ -7,29 +7,31 @@ use Rattle.prelude.specs.Choice.{choose, _also_}
 use Rattle.prelude.specs.Parts.{joined, sum}
 use Rattle.prelude.specs.Rec.{below, turns, rec}
 use Rattle.image.specs.Rows.{numberAt, rowsOf, rowAt}
-use Rattle.image.specs.Faults.{firstFrom, lowestFault, allFrom}
+use Rattle.image.specs.Faults.{firstFrom, lowestFault, ruleUpTo, allFrom}
 use Rattle.image.specs.declared.Verdict.the-variants.{Kept}
 use lib.IntN.{pos, negℤ}
 use Rattle.values.specs.Values.{isInteger, trapNumber, bind}
-use Rattle.values.specs.Operators.{integerOf, divOf, modOf, dividedBy, arithmeticOf, memberOf, elementsOf}
-use Rattle.values.specs.Operators.{rangeOf, complementOf, integersOf, dyadicOf, monadicOf, decides, appliedTo}
+use Rattle.integers.specs.Integers.{integerOf, divOf, modOf, dividedBy, arithmeticOf}
+use Rattle.sets.specs.Sets.{memberOf, elementsOf, rangeOf, complementOf}
+use Rattle.operators.specs.Operators.{integersOf, dyadicOf, monadicOf, decides, appliedTo}
 use Rattle.values.specs.declared.Value.{Value}
 use Rattle.values.specs.declared.Value.the-variants as Vs
 use Rattle.values.specs.declared.Trap.the-variants as Ts
 use Rattle.values.specs.declared.Answer.the-variants as As
-use Rattle.types.specs.Forms.{formOf, form, baseOf, countOf, ofBase, ownTypes}
-use Rattle.types.specs.Sizes.{sizeBy, sizeOf, layoutBy, layoutOf, fieldsBy, fieldsOf}
-use Rattle.types.specs.Extends.{extendsTo, extends}
-use Rattle.types.specs.Question.{usedBelow, scalarKept, arrayKept, fieldKept, baseKept, recordKept, laterKept}
-use Rattle.types.specs.Question.{shapeKept, typeKept, typeRule, question4}
+use Rattle.shapes.specs.Forms.{formOf, form, baseOf, countOf, ofBase, ownTypes}
+use Rattle.shapes.specs.Sizes.{sizeBy, sizeOf, layoutBy, layoutOf, fieldsBy, fieldsOf}
+use Rattle.relations.specs.Extends.{extendsTo, extends}
+use Rattle.shapes.specs.Shapes.{usedBelow, scalarKept, arrayKept, fieldKept, baseKept, recordKept, laterKept}
+use Rattle.shapes.specs.Shapes.{shapeKept, typeKept}
+use Rattle.types.specs.Question.{question4}
 
 -- what the cases open: rows and rules, types, values
 unfoldable pub rows : Unit {0}
-unfolding choose _also_ joined sum below turns rec numberAt rowsOf rowAt firstFrom lowestFault allFrom
+unfolding choose _also_ joined sum below turns rec numberAt rowsOf rowAt firstFrom lowestFault ruleUpTo allFrom
 rows = tt
 
 unfoldable pub shapes : Unit {0}
-unfolding usedBelow scalarKept arrayKept fieldKept baseKept recordKept laterKept shapeKept typeKept typeRule question4
+unfolding usedBelow scalarKept arrayKept fieldKept baseKept recordKept laterKept shapeKept typeKept question4
 shapes = tt
 
 unfoldable pub sizes : Unit {0}

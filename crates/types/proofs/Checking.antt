@@ -1,27 +1,26 @@
 -- Laws of the loop that asks question 4, row by row.
 use mathlib.Core.Path.{_≡_, refl, sym, _∙_, ap}
-use mathlib.Core.Bool.{Bool, true, false}
+use mathlib.Core.Bool.{true, false}
 use mathlib.Core.List.{List}
-use Prim.Native.Nat.{ℕ, zero, suc, _+_, _≤_, _<_}
+use Prim.Native.Nat.{ℕ, suc, _+_, _≤_, _<_}
 use native.Mathlib.Omega.{arith}
-use native.Mathlib.Decide.{decLt}
 use borrow.Author.Tests.{eq-eqb, ne-eqb, le-leb, lt-leb}
-use lib.Dec.{leb, eqb}
+use lib.Dec.{eqb}
 use lib.ListN.{length, getD}
-use Rattle.prelude.specs.Choice.{_also_}
 use Rattle.prelude.proofs.Choice.{also-yes, also-left, also-right}
 use Rattle.image.specs.declared.Row.{Row}
 use Rattle.image.specs.declared.Verdict.{Verdict}
 use Rattle.image.specs.declared.Verdict.the-variants.{Kept, Fault}
 use Rattle.image.specs.Rows.{rowAt, rowsOf}
-use Rattle.image.specs.Faults.{lowestFault, KeptIn, Lowest}
-use Rattle.image.proofs.Faults.{kept-none, kept-next, kept-verdict, fault-verdict}
-use Rattle.types.specs.Forms.{formOf, form, countOf}
-use Rattle.types.specs.Sizes.{sizeBy, sizeOf}
-use Rattle.types.specs.Question.{usedBelow, shapeKept, typeKept, typeRule, question4}
+use Rattle.image.specs.Faults.{KeptIn}
+use Rattle.image.proofs.Faults.{kept-none, kept-next, up-to-bad, up-to-some, up-to-end}
+use Rattle.shapes.specs.Forms.{formOf, form, countOf}
+use Rattle.shapes.specs.Sizes.{sizeBy, sizeOf}
+use Rattle.shapes.specs.Shapes.{usedBelow, shapeKept, typeKept}
+use Rattle.types.specs.Question.{question4}
 use Rattle.types.specs.Plan.{Plan, Rest, passed}
 use Rattle.types.specs.Filling.{Ready}
-use Rattle.types.proofs.Accepted.{Shape, shape-of, size-agree, size-is, rule-low, rule-top}
+use Rattle.shapes.proofs.Accepted.{Shape, shape-of, size-agree, size-is}
 use Rattle.types.proofs.Planning.{used-next, used-fits, plan-none, rest-none, rest-more}
 
 -- the rows below r are passed
@@ -58,14 +57,10 @@ module _ (t f old plan : List ℕ) (r used : ℕ) (s : Sofar t f old plan r used
   pub used-small : used ≤ 256
   used-small = let fits = used-fits t f r below in omega arith
 
-  rules-below : (j : ℕ) → j < r → typeRule t f j ≡ true
-  rules-below j h = rule-low t f j (omega arith) ∙ below .each j (omega arith) h
-
   -- a row at fault
-  faulty : typeRule t f r ≡ false → Answered t f old plan (Fault r)
+  faulty : r < rowsOf t → typeKept t f r ≡ false → Answered t f old plan (Fault r)
   unfolding question4 passed
-  faulty bad =
-      (sym (fault-verdict (typeRule t f) (rowsOf t + 1) r (record { within = omega arith; fault = bad; lower = rules-below })), (planned, rest))
+  faulty more bad = (up-to-bad (typeKept t f) (rowsOf t) _ r below within more bad, (planned, rest))
 
   module _ (more : r < rowsOf t) (row : Row) (this-row : row ≡ rowAt t r) where
     shape-same : shapeKept t f used r row ≡ shapeKept t f (usedBelow t r) r (rowAt t r)
@@ -73,7 +68,7 @@ module _ (t f old plan : List ℕ) (r used : ℕ) (s : Sofar t f old plan r used
 
     pub shape-bad : shapeKept t f used r row ≡ false → Answered t f old plan (Fault r)
     unfolding typeKept
-    shape-bad e = faulty (rule-low t f r more ∙ also-left _ (sym shape-same ∙ e))
+    shape-bad e = faulty more (also-left _ (sym shape-same ∙ e))
 
     module _ (shape : shapeKept t f used r row ≡ true) (size : ℕ) (adds : size ≡ sizeBy f (λ b. getD plan b 0) (formOf row)) where
       here-shape : Shape t f used r (form t r)
@@ -90,7 +85,7 @@ module _ (t f old plan : List ℕ) (r used : ℕ) (s : Sofar t f old plan r used
 
       pub size-bad : 4096 < size → Answered t f old plan (Fault r)
       unfolding typeKept
-      size-bad h = faulty (rule-low t f r more ∙ also-right _ (lt-leb (sizeOf t f r) 4096 (let e = sized in omega arith)))
+      size-bad h = faulty more (also-right _ (lt-leb (sizeOf t f r) 4096 (let e = sized in omega arith)))
 
       module _ (small : size ≤ 4096) where
         kept-here : typeKept t f r ≡ true
@@ -129,20 +124,17 @@ module _ (t f old plan : List ℕ) (r used : ℕ) (s : Sofar t f old plan r used
     all-rows : r ≡ rowsOf t
     all-rows = omega arith
 
-    top-rule : typeRule t f r ≡ eqb used (rowsOf f)
-    top-rule = rw (claimed, all-rows) (rule-top t f)
+    all-fields : eqb (usedBelow t (rowsOf t)) (rowsOf f) ≡ eqb used (rowsOf f)
+    all-fields = rw (claimed, all-rows)
 
     pub fields-bad : (used ≡ rowsOf f → ⊥) → Answered t f old plan (Fault r)
-    fields-bad h = faulty (top-rule ∙ ne-eqb used (rowsOf f) h)
+    unfolding question4 passed
+    fields-bad h =
+        (up-to-some (typeKept t f) (rowsOf t) _ r below within done (all-fields ∙ ne-eqb used (rowsOf f) h), (planned, rest))
 
     pub fields-good : used ≡ rowsOf f → Answered t f old plan Kept
     unfolding question4 passed
-    fields-good h =
-        (sym (kept-verdict (typeRule t f) (rowsOf t + 1) rules), (rw all-rows at planned, rw all-rows at rest))
-      where
-        rules : (j : ℕ) → j < rowsOf t + 1 → typeRule t f j ≡ true
-        rules j l = go (decLt j r)
-          where
-            go : Dec (j < r) → typeRule t f j ≡ true
-            go (yes k) = rules-below j k
-            go (no k) = let q : r ≡ j = omega arith in rw (← q) (top-rule ∙ eq-eqb used (rowsOf f) h)
+    fields-good h = (
+      up-to-end (typeKept t f) (rowsOf t) _ r below within done (all-fields ∙ eq-eqb used (rowsOf f) h),
+      (rw all-rows at planned, rw all-rows at rest),
+    )

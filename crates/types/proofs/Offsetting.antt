@@ -1,15 +1,14 @@
 -- Laws of the loop that writes the places of own fields.
-use mathlib.Core.Path.{_≡_, refl, sym, _∙_, ap}
-use mathlib.Core.List.{List, [], _∷_, map}
+use mathlib.Core.Path.{_≡_, refl, _∙_}
+use mathlib.Core.List.{List, map}
 use Prim.Native.Nat.{ℕ, zero, suc, _+_, _-_, _≤_, _<_}
 use native.Mathlib.Omega.{arith}
-use native.Mathlib.Decide.{decLt, decLe}
-use native.Mathlib.Nat.{add-zero}
+use native.Mathlib.Decide.{decLt}
 use lib.ListN.{length, getD, set, length-set}
 use lib.Seq.{getD-set-same, getD-set-other}
 use Rattle.prelude.specs.Parts.{sum}
 use Rattle.image.specs.Rows.{rowAt}
-use Rattle.types.specs.Forms.{ownTypes}
+use Rattle.shapes.specs.Forms.{ownTypes}
 use Rattle.types.specs.Filling.{OffsetsFit, Offsets}
 
 -- the sizes of one own field more, at the end

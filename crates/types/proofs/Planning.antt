@@ -1,23 +1,25 @@
 -- Laws of the plan, a type row at a time.
 use mathlib.Core.Path.{_≡_, refl, sym, _∙_, ap}
-use mathlib.Core.Bool.{Bool, true, false}
-use mathlib.Core.List.{List, [], _∷_, _++_, map}
-use Prim.Native.Nat.{ℕ, zero, suc, _+_, _-_, _≤_, _<_}
+use mathlib.Core.Bool.{true}
+use mathlib.Core.List.{List, map}
+use Prim.Native.Nat.{ℕ, zero, suc, _+_, _≤_, _<_}
 use native.Mathlib.Omega.{arith}
-use native.Mathlib.Decide.{decLt, decLe}
+use native.Mathlib.Decide.{decLt}
 use lib.ListN.{length, getD, set, length-set, length-append}
 use lib.Seq.{getD-set-same, getD-set-other}
 use Rattle.prelude.specs.Parts.{sum}
 use Rattle.image.specs.declared.Row.{Row}
 use Rattle.image.specs.Rows.{rowAt, rowsOf}
 use Rattle.image.specs.Faults.{KeptIn}
-use Rattle.types.specs.Forms.{Form, Form.scalar, Form.array, Form.recordOf, Form.noForm, formOf, form, baseOf, countOf, ofBase, ownTypes}
-use Rattle.types.specs.Sizes.{sizeBy, sizeOf, fieldsBy, fieldsOf}
-use Rattle.types.specs.Question.{fieldKept, usedBelow, typeKept}
+use Rattle.shapes.specs.Forms.{Form, Form.recordOf, formOf, form, baseOf, countOf, ofBase, ownTypes}
+use Rattle.shapes.specs.Sizes.{sizeBy, sizeOf, fieldsBy, fieldsOf}
+use Rattle.shapes.specs.Shapes.{usedBelow, typeKept}
 use Rattle.types.specs.Plan.{inheritedOf, ownOffset, Plan, Rest}
 use Rattle.types.specs.Filling.{OffsetsFit, Offsets, Ready}
-use Rattle.types.proofs.Rows.{own-length, form-record}
-use Rattle.types.proofs.Accepted.{Based, Based.no-base, Based.on-base, Shape, Shape.is-scalar, Shape.is-array, Shape.is-record, RowKept, IsRecord, row-kept, record-is, field-low, size-agree, size-is, fields-are, base-agree, fields-agree}
+use Rattle.shapes.proofs.Rows.{own-length, form-record}
+use Rattle.shapes.proofs.Accepted.{Based, Based.no-base, Based.on-base, Shape, Shape.is-scalar, Shape.is-array}
+use Rattle.shapes.proofs.Accepted.{Shape.is-record, row-kept, record-is, field-low, size-agree, size-is, fields-are}
+use Rattle.shapes.proofs.Accepted.{base-agree, fields-agree}
 
 -- ---- field rows used up
 

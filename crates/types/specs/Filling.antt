@@ -8,9 +8,9 @@ use Rattle.prelude.specs.Parts.{sum}
 use Rattle.image.specs.declared.Row.{Row}
 use Rattle.image.specs.Rows.{rowAt, rowsOf}
 use Rattle.image.specs.Faults.{KeptIn}
-use Rattle.types.specs.Forms.{ownTypes}
-use Rattle.types.specs.Sizes.{sizeOf}
-use Rattle.types.specs.Question.{usedBelow, typeKept}
+use Rattle.shapes.specs.Forms.{ownTypes}
+use Rattle.shapes.specs.Sizes.{sizeOf}
+use Rattle.shapes.specs.Shapes.{usedBelow, typeKept}
 use Rattle.types.specs.Plan.{Plan}
 
 -- n field rows from row k on have types below 64, and behind `at` their sizes do not exceed 4,096

@@ -9,9 +9,9 @@ use Rattle.prelude.specs.Parts.{sum}
 use Rattle.image.specs.Rows.{rowsOf}
 use Rattle.image.specs.declared.Verdict.{Verdict}
 use Rattle.image.specs.declared.Verdict.the-variants.{Kept, Fault}
-use Rattle.types.specs.Forms.{Form, Form.recordOf, form, baseOf, ofBase, ownTypes}
-use Rattle.types.specs.Sizes.{sizeOf, fieldsOf}
-use Rattle.types.specs.Question.{usedBelow}
+use Rattle.shapes.specs.Forms.{Form.recordOf, form, baseOf, ofBase, ownTypes}
+use Rattle.shapes.specs.Sizes.{sizeOf, fieldsOf}
+use Rattle.shapes.specs.Shapes.{usedBelow}
 
 -- how many fields a type has from its base
 unfoldable pub inheritedOf : List ℕ → List ℕ → ℕ → ℕ

@@ -13,19 +13,19 @@ use Rattle.image.specs.declared.Row.{Row}
 use Rattle.image.specs.declared.Verdict.the-variants.{Kept}
 use Rattle.image.specs.Rows.{rowAt, rowsOf}
 use Rattle.image.proofs.Bytes.{row-missing}
-use Rattle.types.specs.declared.FieldAnswer.{FieldAnswer}
-use Rattle.types.specs.declared.FieldAnswer.the-variants.{Missing, Field}
-use Rattle.types.specs.Forms.{form}
-use Rattle.types.specs.Sizes.{fieldsBy, fieldsOf}
-use Rattle.types.specs.Fields.{fieldOf, plannedField}
+use Rattle.relations.specs.declared.FieldAnswer.{FieldAnswer}
+use Rattle.relations.specs.declared.FieldAnswer.the-variants.{Missing, Field}
+use Rattle.shapes.specs.Forms.{form}
+use Rattle.shapes.specs.Sizes.{fieldsBy, fieldsOf}
+use Rattle.relations.specs.Fields.{fieldOf, plannedField}
 use Rattle.types.specs.Question.{question4}
 use Rattle.types.specs.Plan.{Plan}
 use Rattle.types.proofs.Accepted.{types-kept}
-use Rattle.types.proofs.Climbing.{planned-other}
-use Rattle.types.proofs.Layouts.{other-fields}
-use Rattle.types.proofs.Fielding.{field-is}
-use Rattle.values.specs.declared.KindAnswer.{KindAnswer}
-use Rattle.values.specs.declared.KindAnswer.the-variants.{Untyped, Kind}
+use Rattle.relations.proofs.Climbing.{planned-other}
+use Rattle.shapes.proofs.Layouts.{other-fields}
+use Rattle.relations.proofs.Fielding.{field-is}
+use Rattle.kinds.specs.declared.KindAnswer.{KindAnswer}
+use Rattle.kinds.specs.declared.KindAnswer.the-variants.{Untyped, Kind}
 use Rattle.typing.specs.Typing.{typed, fieldType, elementType}
 
 pub typed-none : (x : KindAnswer) (next : ℕ → KindAnswer) → x ≡ Untyped → typed x next ≡ Untyped

@@ -17,8 +17,8 @@ use Rattle.image.specs.declared.Verdict.the-variants.{Kept, Fault}
 use Rattle.image.specs.Rows.{rowAt, rowsOf}
 use Rattle.image.specs.Faults.{KeptIn, lowestFault}
 use Rattle.image.proofs.Faults.{kept-none, kept-next, scan-bad, scan-end}
-use Rattle.values.specs.declared.KindAnswer.{KindAnswer}
-use Rattle.values.specs.declared.KindAnswer.the-variants.{Untyped, Kind}
+use Rattle.kinds.specs.declared.KindAnswer.{KindAnswer}
+use Rattle.kinds.specs.declared.KindAnswer.the-variants.{Untyped, Kind}
 use Rattle.typing.specs.Typing.{typeBy, typeOf, hasType, question10, typeIn, passed, Typed}
 
 -- a table of the lower rows' types

@@ -12,14 +12,14 @@ use Rattle.image.specs.declared.Verdict.{Verdict}
 use Rattle.image.specs.declared.Verdict.the-variants.{Kept, Fault}
 use Rattle.image.specs.Rows.{rowAt, rowsOf}
 use Rattle.image.specs.Faults.{lowestFault}
-use Rattle.types.specs.declared.FieldAnswer.{FieldAnswer}
-use Rattle.types.specs.declared.FieldAnswer.the-variants.{Missing, Field}
-use Rattle.types.specs.Extends.{extends}
-use Rattle.types.specs.Fields.{fieldOf}
+use Rattle.relations.specs.declared.FieldAnswer.{FieldAnswer}
+use Rattle.relations.specs.declared.FieldAnswer.the-variants.{Missing, Field}
+use Rattle.relations.specs.Extends.{extends}
+use Rattle.relations.specs.Fields.{fieldOf}
 use Rattle.values.specs.Values.{BOOLEAN, INTEGER}
-use Rattle.values.specs.Kinds.{dyadicKind, monadicKind}
-use Rattle.values.specs.declared.KindAnswer.{KindAnswer}
-use Rattle.values.specs.declared.KindAnswer.the-variants.{Untyped, Kind}
+use Rattle.kinds.specs.Kinds.{dyadicKind, monadicKind}
+use Rattle.kinds.specs.declared.KindAnswer.{KindAnswer}
+use Rattle.kinds.specs.declared.KindAnswer.the-variants.{Untyped, Kind}
 
 -- A type is a row of the types table. A scalar's row is its kind, so that operators give types too.
 

@@ -1,8 +1,8 @@
 // Question 10: the types of the nodes, from the low rows up.
 use image::Row;
 use image::Verdict;
-use types::FieldAnswer;
-use values::KindAnswer;
+use relations::FieldAnswer;
+use kinds::KindAnswer;
 ghost use mathlib.Core.Path.{_≡_};
 ghost use Prim.Native.Nat.{_≤_};
 ghost use lib.ListN.{length};
@@ -32,7 +32,7 @@ fn field_node(t: &[u8], f: &[u8], plan: &[u32], types: &[u16], row: Row) -> Kind
     let KindAnswer::Kind(whole) = type_at(types, a as usize) else {
         return KindAnswer::Untyped;
     };
-    match types::field(t, f, plan, whole, b) {
+    match relations::field(t, f, plan, whole, b) {
         FieldAnswer::Missing => KindAnswer::Untyped,
         FieldAnswer::Field(_, part) => KindAnswer::Kind(part),
     }
@@ -76,7 +76,7 @@ fn narrows(t: &[u8], v: &[u8], a: u16, b: u16) -> bool
     if form != 4 {
         return false;
     }
-    types::extends(t, b, declared)
+    relations::extends(t, b, declared)
 }
 
 fn narrow_node(t: &[u8], v: &[u8], row: Row, given: u16) -> KindAnswer
@@ -102,7 +102,7 @@ fn dyadic_node(types: &[u16], row: Row) -> KindAnswer
     let KindAnswer::Kind(right) = type_at(types, b as usize) else {
         return KindAnswer::Untyped;
     };
-    values::dyadic_kind(c, left, right)
+    kinds::dyadic_kind(c, left, right)
 }
 
 fn monadic_node(types: &[u16], row: Row) -> KindAnswer
@@ -113,7 +113,7 @@ fn monadic_node(types: &[u16], row: Row) -> KindAnswer
     let KindAnswer::Kind(operand) = type_at(types, a as usize) else {
         return KindAnswer::Untyped;
     };
-    values::monadic_kind(c, operand)
+    kinds::monadic_kind(c, operand)
 }
 
 fn variable_node(v: &[u8], row: Row) -> KindAnswer

@@ -9,8 +9,8 @@ use lib.Dec.{eqb}
 use lib.IntN.{ℤ, pos, negsuc}
 use Rattle.prelude.specs.Choice.{choose}
 use Rattle.prelude.proofs.Choice.{choose-cases}
-use Rattle.values.specs.Values.{BOOLEAN, INTEGER, SET, kindOf, numberOf, InRange, isInteger, isSet}
-use Rattle.values.specs.Values.{booleanCell, integerCell, setCell, cellOf}
+use Rattle.values.specs.Values.{BOOLEAN, INTEGER, SET, kindOf, numberOf, InRange, isInteger, isSet, booleanCell}
+use Rattle.values.specs.Values.{integerCell, setCell, cellOf}
 use Rattle.values.specs.Values.InRange.{boolean, integer, set}
 use Rattle.values.specs.declared.Value.{Value}
 use Rattle.values.specs.declared.Answer.the-variants as As

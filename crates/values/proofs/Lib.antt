@@ -1,9 +1,5 @@
 pub mod Numbers
-pub mod Operands
-pub mod Division
+pub mod Binding
 pub mod Cells
-pub mod Results
-pub mod Typed
+pub mod Giving
 pub mod Ranges
-pub mod Skipping
-pub mod Members

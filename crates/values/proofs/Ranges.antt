@@ -1,4 +1,4 @@
--- Each result is in its kind's range: of an operator, a cell, a constant.
+-- Each value is in its kind's range: of a cell, a constant.
 use mathlib.Core.Path.{_≡_, refl, sym}
 use mathlib.Core.Bool.{Bool, true, false}
 use mathlib.Core.Logic.{inl, inr}
@@ -11,32 +11,14 @@ use mir.Syntax.{w32}
 use mir.Val.{SFits}
 use Rattle.prelude.specs.Choice.{choose}
 use Rattle.prelude.proofs.Choice.{choose-cases}
-use Rattle.values.specs.Values.{BOOLEAN, INTEGER, SET, kindOf, InRange}
-use Rattle.values.specs.Values.{cellOf, booleanCell, signedOf, constantOf}
-use Rattle.values.specs.Operators.{dyadicOf, monadicOf}
-use Rattle.values.specs.Kinds.{Gives}
-use Rattle.values.specs.Kinds.Gives.{value}
+use Rattle.values.specs.Values.{BOOLEAN, INTEGER, SET, kindOf, InRange, cellOf, booleanCell, signedOf}
+use Rattle.values.specs.Values.{constantOf, Gives}
+use Rattle.values.specs.Values.Gives.{value}
 use Rattle.values.specs.declared.Value.{Value}
-use Rattle.values.specs.declared.Answer.{Answer}
 use Rattle.values.specs.declared.Answer.the-variants as As
-use Rattle.values.specs.declared.KindAnswer.{KindAnswer}
 use Rattle.values.proofs.Numbers.{minus-top}
 use Rattle.values.proofs.Cells.{no-value, cell-held, held-boolean}
-use Rattle.values.proofs.Results.{gives-boolean, gives-integer, gives-set, gives-one, gives-kind, gives-range}
-use Rattle.values.proofs.Typed.{Agree, dyadic-agree, monadic-agree}
-use Rattle.values.proofs.Typed.Agree.{typed, untyped}
-
--- ---- operators, typed or not
-
-agree-range : {H : Type 0} {x : KindAnswer} {a : Answer} {r : Value} → Agree H x a → H → a ≡ As.Val r → InRange r
-agree-range (typed f) h e = gives-range (rw e at (f h))
-agree-range untyped h e = no-value e
-
-pub dyadic-range : (op : ℕ) {v w r : Value} → dyadicOf op v w ≡ As.Val r → InRange v → InRange w → InRange r
-dyadic-range op {v} {w} e p q = agree-range (dyadic-agree op v w) (p, q) e
-
-pub monadic-range : (op : ℕ) {v r : Value} → monadicOf op v ≡ As.Val r → InRange v → InRange r
-monadic-range op {v} e p = agree-range (monadic-agree op v) p e
+use Rattle.values.proofs.Giving.{gives-boolean, gives-integer, gives-set, gives-one, gives-kind, gives-range}
 
 -- ---- a cell, whatever number it holds
 

@@ -103,3 +103,8 @@ unfoldable pub bind : Answer → (Value → Answer) → Answer
 bind (As.Val v) next = next v
 bind (As.Trap t) next = As.Trap t
 bind As.Stuck next = As.Stuck
+
+-- an answer that is a value of the kind, in its range, or a trap; never stuck
+pub data Gives (kind : ℕ) : Answer → Type 0 where
+  value : {v : Value} → kindOf v ≡ kind → InRange v → Gives kind (As.Val v)
+  trapped : {t : Trap} → Gives kind (As.Trap t)

@@ -1,5 +1,5 @@
-use mathlib.Core.Path.{_≡_, sym, _∙_, ap}
-use Rattle.image.proofs.Fitting.{header-fits}
+use mathlib.Core.Path.{sym, _∙_}
+use Rattle.header.proofs.Fitting.{header-fits}
 use Rattle.cases_forms.specs.Answer.{numberOf}
 use borrow.Author.Needs.{needs}
 use Rattle.cases_forms.proofs.answer.Statement.{statement}
@@ -7,8 +7,8 @@ use Rattle.cases_forms.proofs.answer.Tie as tie
 use Rattle.cases_forms.proofs.answer.Reads as reads
 use Rattle.cases_forms.proofs.answer.Lts as lts
 use Rattle.cases_forms.proofs.tables_answer.Reads as tables-answer-reads
-use Rattle.image.proofs.header.Reads as header-reads
-use Rattle.image.proofs.part.Reads as part-reads
+use Rattle.header.proofs.header.Reads as header-reads
+use Rattle.header.proofs.part.Reads as part-reads
 
 header-requires : tie.Need-header-requires
 header-requires c κs = search needs

@@ -4,7 +4,7 @@ use Rattle.cases_image.proofs.answer.Statement.{statement}
 use Rattle.cases_image.proofs.answer.Tie as tie
 use Rattle.cases_image.proofs.answer.Reads as reads
 use Rattle.cases_image.proofs.answer.Lts as lts
-use Rattle.image.proofs.header.Reads as header-reads
+use Rattle.header.proofs.header.Reads as header-reads
 
 header-requires : tie.Need-header-requires
 header-requires c κs = search needs

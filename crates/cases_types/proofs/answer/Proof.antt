@@ -1,9 +1,6 @@
-use mathlib.Core.Path.{_≡_, sym, _∙_, ap}
+use mathlib.Core.Path.{sym, _∙_}
 use native.Mathlib.Omega.{arith}
-use Prim.Native.Nat.{_≤_}
-use denote.Ref.{now}
-use Rattle.image.specs.Rows.{rowsOf}
-use Rattle.image.proofs.Fitting.{header-fits}
+use Rattle.header.proofs.Fitting.{header-fits}
 use Rattle.types.specs.Question.{question4}
 use Rattle.cases_types.specs.Answer.{fourth, numberOf}
 use borrow.Author.Needs.{needs}
@@ -11,8 +8,8 @@ use Rattle.cases_types.proofs.answer.Statement.{statement}
 use Rattle.cases_types.proofs.answer.Tie as tie
 use Rattle.cases_types.proofs.answer.Reads as reads
 use Rattle.cases_types.proofs.answer.Lts as lts
-use Rattle.image.proofs.header.Reads as header-reads
-use Rattle.image.proofs.part.Reads as part-reads
+use Rattle.header.proofs.header.Reads as header-reads
+use Rattle.header.proofs.part.Reads as part-reads
 use Rattle.types.proofs.check_types.Reads as check-types-reads
 
 header-requires : tie.Need-header-requires

@@ -4,7 +4,7 @@ use mir.Syntax.{w32}
 use mir.Val.{SFits}
 use Rattle.values.specs.Values.{bind}
 use Rattle.values.proofs.Numbers.{plain32, plain64}
-use Rattle.values.proofs.Operands.{bind-value, bind-other}
+use Rattle.values.proofs.Binding.{bind-value, bind-other}
 use Rattle.cases_values.specs.Cases.{cellCase, cellWith}
 use Rattle.cases_values.proofs.Laws.{no-integer}
 use borrow.Author.Needs.{needs}

@@ -2,8 +2,8 @@
 use mathlib.Core.Path.{_≡_, sym, _∙_}
 use lib.ListN.{getD}
 use Rattle.values.specs.Values.{bind}
-use Rattle.values.specs.Operators.{monadicOf}
-use Rattle.values.proofs.Operands.{bind-value, bind-other}
+use Rattle.operators.specs.Operators.{monadicOf}
+use Rattle.values.proofs.Binding.{bind-value, bind-other}
 use Rattle.cases_values.specs.Cases.{monadicCase}
 use borrow.Author.Needs.{needs}
 use Rattle.cases_values.proofs.monadic_case.Statement.{statement}

@@ -3,7 +3,7 @@ use mathlib.Core.Path.{_≡_, sym, _∙_}
 use lib.ListN.{getD}
 use Rattle.values.specs.Values.{bind, cellOf, numberOf}
 use Rattle.values.proofs.Numbers.{plain64}
-use Rattle.values.proofs.Operands.{bind-value, bind-other}
+use Rattle.values.proofs.Binding.{bind-value, bind-other}
 use Rattle.cases_values.specs.Cases.{numberCase}
 use borrow.Author.Needs.{needs}
 use Rattle.cases_values.proofs.number_case.Statement.{statement}

@@ -1,6 +1,6 @@
 -- `cases_values::same_value` meets its contract: by the kinds of the two values.
 use mathlib.Core.Path.{sym}
-use Rattle.values.proofs.Numbers.{eq-bits}
+use Rattle.operators.proofs.Comparing.{eq-bits}
 use Rattle.cases_values.specs.Cases.{sameValue}
 use Rattle.cases_values.proofs.Laws.{other-boolean, other-integer, other-set}
 use borrow.Author.Needs.{needs}

@@ -13,7 +13,7 @@ use Rattle.places.proofs.place_frames.Lts as lts
 use Rattle.image.proofs.row_at.Reads as row-at-reads
 use Rattle.image.proofs.rows_of.Reads as rows-of-reads
 use Rattle.places.proofs.place_run.Reads as place-run-reads
-use Rattle.types.proofs.cell.Reads as cell-reads
+use Rattle.sizes.proofs.cell.Reads as cell-reads
 
 abbrev Inv-loop : tie.InvT-loop
 Inv-loop v p plan₀ n q₀ plan q = (q ≤ rowsOf p) × Framed (held plan₀) v p q plan₀ plan

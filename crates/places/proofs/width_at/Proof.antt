@@ -9,7 +9,7 @@ use Rattle.places.proofs.width_at.Tie as tie
 use Rattle.places.proofs.width_at.Reads as reads
 use Rattle.places.proofs.width_at.Lts as lts
 use Rattle.image.proofs.row_at.Reads as row-at-reads
-use Rattle.types.proofs.cell.Reads as cell-reads
+use Rattle.sizes.proofs.cell.Reads as cell-reads
 
 row-at-requires : tie.Need-row-at-requires
 row-at-requires c κs = search needs

@@ -5,7 +5,7 @@ use Rattle.rules.proofs.assignable.Statement.{statement}
 use Rattle.rules.proofs.assignable.Tie as tie
 use Rattle.rules.proofs.assignable.Reads as reads
 use Rattle.rules.proofs.assignable.Lts as lts
-use Rattle.types.proofs.extends.Reads as extends-reads
+use Rattle.relations.proofs.extends.Reads as extends-reads
 
 enum-known-source : tie.Need-enum-known-source
 enum-known-source c = search needs

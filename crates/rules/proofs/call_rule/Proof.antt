@@ -7,7 +7,7 @@ use Rattle.rules.proofs.call_rule.Reads as reads
 use Rattle.rules.proofs.call_rule.Lts as lts
 use Rattle.image.proofs.row_at.Reads as row-at-reads
 use Rattle.rules.proofs.arguments_rule.Reads as arguments-rule-reads
-use Rattle.types.proofs.cell.Reads as cell-reads
+use Rattle.sizes.proofs.cell.Reads as cell-reads
 
 cast-row-at : tie.Need-cast-row-at
 cast-row-at c = search needs

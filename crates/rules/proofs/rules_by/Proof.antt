@@ -20,7 +20,7 @@ use Rattle.image.proofs.row_at.Reads as row-at-reads
 use Rattle.image.proofs.rows_of.Reads as rows-of-reads
 use Rattle.rules.proofs.rule_by.Reads as rule-by-reads
 use Rattle.statements.proofs.next_procedure.Reads as next-procedure-reads
-use Rattle.types.proofs.cell.Reads as cell-reads
+use Rattle.sizes.proofs.cell.Reads as cell-reads
 
 abbrev Inv-loop : tie.InvT-loop
 Inv-loop t v p n s types least past firsts statements q₀ r₀ q r = (r ≤ rowsOf s) × (q ≡ procedureAt p r) × KeptIn (statementRule t v p n s (typeIn types)) 0 r

@@ -1,19 +1,20 @@
-use mathlib.Core.Path.{_≡_, refl, sym, _∙_, ap}
+use mathlib.Core.Path.{sym, _∙_}
 use native.Mathlib.Omega.{arith}
-use Prim.Native.Nat.{ℕ, _+_, _-_, _≤_}
+use Prim.Native.Nat.{_-_}
 use borrow.Author.Needs.{needs}
 use borrow.Author.Tests.{not-true, not-false}
-use Rattle.types.proofs.Checking.{Sofar, sofar-none, used-small, shape-bad, size-bad, ready, sofar-next, fields-bad, fields-good}
+use Rattle.types.proofs.Checking.{Sofar, sofar-none, used-small, shape-bad, size-bad, ready, sofar-next}
+use Rattle.types.proofs.Checking.{fields-bad, fields-good}
 use Rattle.types.proofs.check_types.Statement.{statement}
 use Rattle.types.proofs.check_types.Tie as tie
 use Rattle.types.proofs.check_types.Reads as reads
 use Rattle.types.proofs.check_types.Lts as lts
 use Rattle.image.proofs.row_at.Reads as row-at-reads
 use Rattle.image.proofs.rows_of.Reads as rows-of-reads
-use Rattle.types.proofs.claimed.Reads as claimed-reads
+use Rattle.shapes.proofs.claimed.Reads as claimed-reads
 use Rattle.types.proofs.plan_row.Reads as plan-row-reads
-use Rattle.types.proofs.shape_kept.Reads as shape-kept-reads
-use Rattle.types.proofs.type_size.Reads as type-size-reads
+use Rattle.shapes.proofs.shape_kept.Reads as shape-kept-reads
+use Rattle.sizes.proofs.type_size.Reads as type-size-reads
 
 abbrev Inv-loop : tie.InvT-loop
 Inv-loop t f plan₀ n fields r₀ used₀ plan r used = Sofar t f plan₀ plan r used

@@ -2,9 +2,9 @@ use Rattle.image.specs.declared.Row.{Row}
 use Rattle.image.specs.Rows.{rowAt}
 use denote.Ref.{now}
 use lib.ListN.{getD}
-use Prim.Native.Nat.{ℕ, _+_, _-_}
-use mathlib.Core.Path.{_≡_, refl, sym, _∙_, ap}
-use Rattle.types.proofs.Rows.{of-no-base, of-base}
+use Prim.Native.Nat.{_+_}
+use mathlib.Core.Path.{sym, _∙_, ap}
+use Rattle.shapes.proofs.Rows.{of-no-base, of-base}
 use native.Mathlib.Omega.{arith}
 use borrow.Author.Needs.{needs}
 use Rattle.types.proofs.inherited.Statement.{statement}
@@ -12,7 +12,7 @@ use Rattle.types.proofs.inherited.Tie as tie
 use Rattle.types.proofs.inherited.Reads as reads
 use Rattle.types.proofs.inherited.Lts as lts
 use Rattle.image.proofs.row_at.Reads as row-at-reads
-use Rattle.types.proofs.cell.Reads as cell-reads
+use Rattle.sizes.proofs.cell.Reads as cell-reads
 
 returns : tie.Need-returns
 returns c = sym (of-no-base _ _ _ (c .if1 .taken))

@@ -1,14 +1,12 @@
 use mathlib.Core.List.{map}
-use lib.ListN.{length, getD}
+use lib.ListN.{getD}
 use Rattle.prelude.specs.Parts.{sum}
 use Rattle.image.specs.declared.Row.{Row}
-use Rattle.types.specs.Forms.{ownTypes}
+use Rattle.shapes.specs.Forms.{ownTypes}
 use Rattle.types.specs.Filling.{Offsets}
 use Rattle.types.proofs.Offsetting.{Turn, at-turn, offsets-none, offsets-next}
-use native.Mathlib.Nat.{sub-self}
-use Rattle.image.specs.Rows.{rowAt}
-use mathlib.Core.Path.{_≡_, refl, sym, _∙_, ap}
-use Prim.Native.Nat.{ℕ, suc, _+_, _-_, _*_, _≤_, _<_}
+use mathlib.Core.Path.{_≡_, _∙_, ap}
+use Prim.Native.Nat.{_+_, _-_, _≤_}
 use native.Mathlib.Omega.{arith}
 use borrow.Author.Needs.{needs}
 use denote.Ref.{now}
@@ -17,7 +15,7 @@ use Rattle.types.proofs.plan_offsets.Tie as tie
 use Rattle.types.proofs.plan_offsets.Reads as reads
 use Rattle.types.proofs.plan_offsets.Lts as lts
 use Rattle.image.proofs.row_at.Reads as row-at-reads
-use Rattle.types.proofs.cell.Reads as cell-reads
+use Rattle.sizes.proofs.cell.Reads as cell-reads
 
 abbrev Inv-loop : tie.InvT-loop
 Inv-loop f plan₀ k n at end i₀ place₀ plan i place = (k ≤ i)

@@ -1,20 +1,20 @@
 use Rattle.image.specs.Rows.{rowAt}
-use mathlib.Core.Path.{_≡_, refl, sym, _∙_, ap}
+use mathlib.Core.Path.{_∙_, ap}
 use native.Mathlib.Omega.{arith}
-use Prim.Native.Nat.{ℕ, _+_, _≤_}
+use Prim.Native.Nat.{_+_, _≤_}
 use denote.Ref.{now}
-use lib.ListN.{getD, length, length-set}
-use Rattle.types.specs.Forms.{formOf, baseOf, countOf, ofBase}
-use Rattle.types.specs.Filling.{OffsetsFit, Offsets}
+use lib.ListN.{getD, length-set}
+use Rattle.shapes.specs.Forms.{ofBase}
+use Rattle.types.specs.Filling.{OffsetsFit}
 use Rattle.types.proofs.Planning.{few-inherited, inherited-is, offsets-fit, plan-next, rest-next}
 use borrow.Author.Needs.{needs}
 use Rattle.types.proofs.plan_row.Statement.{statement}
 use Rattle.types.proofs.plan_row.Tie as tie
 use Rattle.types.proofs.plan_row.Reads as reads
 use Rattle.types.proofs.plan_row.Lts as lts
-use Rattle.types.proofs.base_of.Reads as base-of-reads
-use Rattle.types.proofs.base_size.Reads as base-size-reads
-use Rattle.types.proofs.claimed.Reads as claimed-reads
+use Rattle.shapes.proofs.base_of.Reads as base-of-reads
+use Rattle.sizes.proofs.base_size.Reads as base-size-reads
+use Rattle.shapes.proofs.claimed.Reads as claimed-reads
 use Rattle.types.proofs.inherited.Reads as inherited-reads
 use Rattle.types.proofs.plan_offsets.Reads as plan-offsets-reads
 

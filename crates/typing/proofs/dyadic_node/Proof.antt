@@ -7,7 +7,7 @@ use Rattle.typing.proofs.dyadic_node.Tie as tie
 use Rattle.typing.proofs.dyadic_node.Reads as reads
 use Rattle.typing.proofs.dyadic_node.Lts as lts
 use Rattle.typing.proofs.type_at.Reads as type-at-reads
-use Rattle.values.proofs.dyadic_kind.Reads as dyadic-kind-reads
+use Rattle.kinds.proofs.dyadic_kind.Reads as dyadic-kind-reads
 
 cast-type-at : tie.Need-cast-type-at
 cast-type-at c = search needs

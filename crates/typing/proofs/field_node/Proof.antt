@@ -6,7 +6,7 @@ use Rattle.typing.proofs.field_node.Statement.{statement}
 use Rattle.typing.proofs.field_node.Tie as tie
 use Rattle.typing.proofs.field_node.Reads as reads
 use Rattle.typing.proofs.field_node.Lts as lts
-use Rattle.types.proofs.field.Reads as field-reads
+use Rattle.relations.proofs.field.Reads as field-reads
 use Rattle.typing.proofs.type_at.Reads as type-at-reads
 
 cast-type-at : tie.Need-cast-type-at

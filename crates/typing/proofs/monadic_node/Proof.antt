@@ -7,7 +7,7 @@ use Rattle.typing.proofs.monadic_node.Tie as tie
 use Rattle.typing.proofs.monadic_node.Reads as reads
 use Rattle.typing.proofs.monadic_node.Lts as lts
 use Rattle.typing.proofs.type_at.Reads as type-at-reads
-use Rattle.values.proofs.monadic_kind.Reads as monadic-kind-reads
+use Rattle.kinds.proofs.monadic_kind.Reads as monadic-kind-reads
 
 cast-type-at : tie.Need-cast-type-at
 cast-type-at c = search needs

@@ -8,7 +8,7 @@ use Rattle.typing.proofs.narrows.Tie as tie
 use Rattle.typing.proofs.narrows.Reads as reads
 use Rattle.typing.proofs.narrows.Lts as lts
 use Rattle.image.proofs.row_at.Reads as row-at-reads
-use Rattle.types.proofs.extends.Reads as extends-reads
+use Rattle.relations.proofs.extends.Reads as extends-reads
 
 row-at-requires : tie.Need-row-at-requires
 row-at-requires c κs = search needs

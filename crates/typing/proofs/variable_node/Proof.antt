@@ -1,4 +1,4 @@
-use Rattle.values.specs.declared.KindAnswer.the-variants.{Kind}
+use Rattle.kinds.specs.declared.KindAnswer.the-variants.{Kind}
 use Prim.Native.Nat.{ℕ}
 use Rattle.image.specs.declared.Row.{Row}
 use Rattle.typing.specs.Typing.{variableNode}

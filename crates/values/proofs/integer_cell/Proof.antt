@@ -2,8 +2,7 @@
 use mathlib.Core.Path.{_≡_, sym, ap, _∙_}
 use mathlib.Core.Bool.{true}
 use Rattle.prelude.specs.Choice.{choose}
-use Rattle.values.specs.Values.{isInteger}
-use Rattle.values.specs.Values.{integerCell}
+use Rattle.values.specs.Values.{isInteger, integerCell}
 use Rattle.values.specs.declared.Value.the-variants as Vs
 use Rattle.values.specs.declared.Answer.the-variants as As
 use Rattle.values.proofs.Numbers.{plain32, plain64, integer-fits}

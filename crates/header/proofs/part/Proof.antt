@@ -1,0 +1,44 @@
+use Rattle.header.specs.Header.{partOf}
+use Rattle.prelude.proofs.Choice.{tests}
+use Rattle.prelude.specs.Choice.{choose, _also_}
+use borrow.Author.Needs.{needs}
+use Rattle.header.proofs.part.Statement.{statement}
+use Rattle.header.proofs.part.Tie as tie
+use Rattle.header.proofs.part.Reads as reads
+use Rattle.header.proofs.part.Lts as lts
+
+slice-aggregate-result : tie.Need-slice-aggregate-result
+slice-aggregate-result c = search needs
+
+returns : tie.Need-returns
+unfolding partOf choose _also_
+returns c = search tests
+
+slice-aggregate-result-2 : tie.Need-slice-aggregate-result-2
+slice-aggregate-result-2 c = search needs
+
+returns-2 : tie.Need-returns-2
+unfolding partOf choose _also_
+returns-2 c = search tests
+
+part-result-start : tie.Need-part-result-start
+part-result-start c = search needs
+
+part-result-end : tie.Need-part-result-end
+part-result-end c = search needs
+
+returns-3 : tie.Need-returns-3
+unfolding partOf choose _also_
+returns-3 c = search tests
+
+pub part-spec : {M : Type 1} → statement M
+part-spec =
+    tie.close
+    (tie.spec
+    slice-aggregate-result
+    returns
+    slice-aggregate-result-2
+    returns-2
+    part-result-start
+    part-result-end
+    returns-3)

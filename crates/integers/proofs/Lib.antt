@@ -1,0 +1,4 @@
+pub mod Signs
+pub mod Holding
+pub mod Division
+pub mod Results

@@ -1,0 +1,5 @@
+pub mod Comparing
+pub mod Operands
+pub mod Typed
+pub mod Ranges
+pub mod Skipping

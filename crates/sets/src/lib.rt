@@ -1,0 +1,61 @@
+// Elements of a SET: IN, a range, a complement.
+use values::Answer;
+use values::Trap;
+use values::Value;
+ghost use mathlib.Core.Path.{_≡_};
+ghost use Prim.Native.Nat.{_<_};
+ghost use Rattle.sets.specs.Sets.{memberOf, elementsOf, rangeOf, complementOf};
+
+// Whether x is an element of s.
+pub fn member(x: i32, s: u32) -> bool
+    ensures { λ r. ⌜ r ≡ memberOf x s ⌝ }
+{
+    if x < 0 {
+        return false;
+    }
+    let i = x as u32;
+    if 32 <= i {
+        return false;
+    }
+    (s >> i) % 2 == 1
+}
+
+// The elements a to b.
+fn elements(a: u32, b: u32) -> u32
+    requires { ⌜ (a < 32) × (b < 32) ⌝ }
+    ensures { λ r. ⌜ r ≡ elementsOf a b ⌝ }
+{
+    if b < a {
+        return 0;
+    }
+    let above: u64 = 2u64 << (b as u64);
+    let below: u64 = 1u64 << (a as u64);
+    (above - below) as u32
+}
+
+// The set a..b, or trap 6 where a bound is outside 0 to 31.
+pub fn range(x: i32, y: i32) -> Answer
+    ensures { λ r. ⌜ r ≡ rangeOf x y ⌝ }
+{
+    if x < 0 {
+        return Answer::Trap(Trap::Bound);
+    }
+    let a = x as u32;
+    if 32 <= a {
+        return Answer::Trap(Trap::Bound);
+    }
+    if y < 0 {
+        return Answer::Trap(Trap::Bound);
+    }
+    let b = y as u32;
+    if 32 <= b {
+        return Answer::Trap(Trap::Bound);
+    }
+    Answer::Val(Value::Set(elements(a, b)))
+}
+
+pub fn complement(s: u32) -> u32
+    ensures { λ r. ⌜ r ≡ complementOf s ⌝ }
+{
+    !s
+}

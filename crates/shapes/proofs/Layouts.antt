@@ -1,0 +1,137 @@
+-- Laws of layouts: as long as the size, and made of the parts' layouts.
+use mathlib.Core.Path.{_≡_, refl, sym, _∙_, ap}
+use mathlib.Core.Bool.{Bool, true, false}
+use mathlib.Core.Logic.{_⊎_, inl, inr}
+use mathlib.Core.List.{List, [], _∷_, map}
+use Prim.Native.Nat.{ℕ, zero, suc, _*_, _≤_, _<_}
+use native.Mathlib.Nat.{zero-mul, suc-mul}
+use native.Mathlib.Omega.{arith}
+use native.Mathlib.Decide.{decLt}
+use borrow.Author.Tests.{eqb-true, eqb-false}
+use lib.Dec.{eqb}
+use lib.ListN.{length, take, replicate, length-append}
+use Rattle.prelude.specs.Parts.{joined, sum, Nth, Part}
+use Rattle.prelude.proofs.Parts.{nth-nil, nth-map, nth-replicate, part-joined, joined-replicate, joined-map-append, take-map}
+use Rattle.prelude.proofs.Rec.{rec-rel}
+use Rattle.image.specs.declared.Row.{Row}
+use Rattle.image.specs.Rows.{rowAt, rowsOf}
+use Rattle.shapes.specs.Forms.{Form, Form.scalar, Form.array, Form.recordOf, Form.noForm, formOf, form, ofBase}
+use Rattle.shapes.specs.Forms.{ownTypes}
+use Rattle.shapes.specs.Sizes.{sizeBy, sizeOf, layoutBy, layoutOf, fieldsBy, fieldsOf, offsetOf}
+use Rattle.shapes.proofs.Rows.{form-record, by-form}
+use Rattle.shapes.proofs.Accepted.{Based, Based.no-base, Based.on-base, TypesKept, record-is, layout-is}
+use Rattle.shapes.proofs.Accepted.{fields-are}
+
+-- ---- a layout is as long as the size
+
+length-replicated : {X : Type 0} (n : ℕ) (x : List X) → length (joined (replicate n x)) ≡ n * length x
+unfolding joined
+length-replicated zero x = sym (zero-mul (length x))
+length-replicated (suc n) x =
+    omega (arith, length-append x (joined (replicate n x)), length-replicated n x, suc-mul n (length x))
+
+pub length-joined : {X : Type 0} (size : ℕ → ℕ) (layout : ℕ → List X) → ((k : ℕ) → length (layout k) ≡ size k) → (l : List ℕ)
+    → length (joined (map layout l)) ≡ sum (map size l)
+unfolding joined sum
+length-joined size layout h [] = refl
+length-joined size layout h (k ∷ l) =
+    omega (arith, length-append (layout k) (joined (map layout l)), h k, length-joined size layout h l)
+
+length-based : {X : Type 0} (size : ℕ → ℕ) (layout : ℕ → List X) → ((k : ℕ) → length (layout k) ≡ size k) → (a : ℕ)
+    → length (ofBase [] layout a) ≡ ofBase 0 size a
+unfolding ofBase
+length-based size layout h zero = refl
+length-based size layout h (suc b) = h b
+
+length-by : (f : List ℕ) (size : ℕ → ℕ) (layout : ℕ → List ℕ) → ((k : ℕ) → length (layout k) ≡ size k) → (x : Form)
+    → length (layoutBy f layout x) ≡ sizeBy f size x
+unfolding layoutBy sizeBy
+length-by f size layout h (scalar kind) = refl
+length-by f size layout h (array element n) = length-replicated n (layout element) ∙ rw (h element)
+length-by f size layout h (recordOf base first count) =
+    omega (arith, length-append (ofBase [] layout base) (joined (map layout (ownTypes f first count))), length-based size layout h base, length-joined size layout h (ownTypes f first count))
+length-by f size layout h noForm = refl
+
+pub layout-length : (t f : List ℕ) (r : ℕ) → length (layoutOf t f r) ≡ sizeOf t f r
+unfolding layoutOf sizeOf
+layout-length t f r =
+    rec-rel [] 0 (λ layout r. layoutBy f layout (form t r)) (λ size r. sizeBy f size (form t r)) (λ k x y. length x ≡ y)
+    (λ k g g′ low high. length-by f g′ g (λ j. both g g′ k low high j (decLt j k)) (form t k)) r
+  where
+    both : (g : ℕ → List ℕ) (g′ : ℕ → ℕ) (k : ℕ) → ((j : ℕ) → j < k → length (g j) ≡ g′ j)
+        → ((j : ℕ) → k ≤ j → (g j ≡ []) × (g′ j ≡ 0)) → (j : ℕ) → Dec (j < k) → length (g j) ≡ g′ j
+    both g g′ k low high j (yes h) = low j h
+    both g g′ k low high j (no h) = let (p, q) = high j (omega arith) in rw (p, q)
+
+-- ---- parts of an accepted table's layouts
+
+record-whole : (f : List ℕ) (layout fields : ℕ → List ℕ) (b c : ℕ) {t : List ℕ} {r a : ℕ} → Based t r a
+    → ((k : ℕ) → k < r → rowAt t k .kind ≡ 4 → layout k ≡ joined (map layout (fields k)))
+    → layoutBy f layout (recordOf a b c) ≡ joined (map layout (fieldsBy f fields (recordOf a b c)))
+unfolding layoutBy fieldsBy ofBase
+record-whole f layout fields b c no-base ih = refl
+record-whole f layout fields b c (on-base {b = k} low kind) ih =
+    rw (ih k low kind) (sym (joined-map-append layout (fields k) (ownTypes f b c)))
+
+array-whole : (f : List ℕ) (layout : ℕ → List ℕ) {x : Form} {element n : ℕ} → x ≡ array element n → layoutBy f layout x ≡ joined (replicate n (layout element))
+unfolding layoutBy
+array-whole f layout e = rw e
+
+pub other-fields : (f : List ℕ) (fields : ℕ → List ℕ) (row : Row) → (row .kind ≡ 4 → ⊥) → fieldsBy f fields (formOf row) ≡ []
+unfolding fieldsBy
+other-fields f fields row other = by-form row (λ x. fieldsBy f fields x ≡ []) (λ k. refl) (λ e n. refl) refl other
+
+pub decide : (a b : ℕ) → (a ≡ b) ⊎ (a ≡ b → ⊥)
+decide a b = go (eqb a b) refl
+  where
+    go : (x : Bool) → eqb a b ≡ x → (a ≡ b) ⊎ (a ≡ b → ⊥)
+    go true e = inl (eqb-true a b e)
+    go false e = inr (eqb-false a b e)
+
+module _ (t f : List ℕ) (kept : TypesKept t f) where
+  -- a record's layout is its fields' layouts, one after the other
+  pub record-layout : (n r : ℕ) → r < n → r < rowsOf t → rowAt t r .kind ≡ 4 → layoutOf t f r ≡ joined (map (layoutOf t f) (fieldsOf t f r))
+  unfolding form
+  record-layout zero r h low kind = absurd (omega arith)
+  record-layout (suc n) r h low kind =
+      let shape = kept .row r low .shape in
+      let is = record-is shape (form-record (rowAt t r) kind) in
+      layout-is t f r shape
+      ∙ whole (rowAt t r .a) (rowAt t r .b) (rowAt t r .c) (is .on) (form-record (rowAt t r) kind)
+      (λ b l k. record-layout n b (omega arith) (omega arith) k)
+      ∙ ap (λ l. joined (map (layoutOf t f) l)) (sym (fields-are t f r shape))
+    where
+      whole : (a b c : ℕ) → Based t r a → formOf (rowAt t r) ≡ recordOf a b c
+          → ((k : ℕ) → k < r → rowAt t k .kind ≡ 4 → layoutOf t f k ≡ joined (map (layoutOf t f) (fieldsOf t f k)))
+          → layoutBy f (layoutOf t f) (form t r) ≡ joined (map (layoutOf t f) (fieldsBy f (fieldsOf t f) (form t r)))
+      whole a b c on e ih = rw e (record-whole f (layoutOf t f) (fieldsOf t f) b c on ih)
+
+  not-field : (r n u : ℕ) → r < rowsOf t → (rowAt t r .kind ≡ 4 → ⊥) → Nth (fieldsOf t f r) n u → ⊥
+  unfolding form
+  not-field r n u low other h =
+      let none : fieldsOf t f r ≡ [] = fields-are t f r (kept .row r low .shape) ∙ other-fields f (fieldsOf t f) (rowAt t r) other in
+      nth-nil (rw none at h)
+
+  -- a field's layout is the part of its record's layout at the field's offset
+  pub field-layout : (r n u : ℕ) → r < rowsOf t → Nth (fieldsOf t f r) n u → Part (layoutOf t f r) (offsetOf t f r n) (layoutOf t f u)
+  unfolding offsetOf
+  field-layout r n u low h = go (decide (rowAt t r .kind) 4)
+    where
+      go : (rowAt t r .kind ≡ 4) ⊎ (rowAt t r .kind ≡ 4 → ⊥) → Part (layoutOf t f r) (sum (map (sizeOf t f) (take n (fieldsOf t f r)))) (layoutOf t f u)
+      go (inl kind) =
+          rw (
+            record-layout (suc r) r (omega arith) low kind,
+            ← length-joined (sizeOf t f) (layoutOf t f) (layout-length t f) (take n (fieldsOf t f r)),
+            ← take-map (layoutOf t f) n (fieldsOf t f r),
+          )
+          (part-joined (nth-map (layoutOf t f) h))
+      go (inr other) = absurd (not-field r n u low other h)
+
+  -- an element's layout is the part of its array's layout at the element's place
+  pub element-layout : (r element n i : ℕ) → r < rowsOf t → form t r ≡ array element n → i < n
+      → Part (layoutOf t f r) (i * sizeOf t f element) (layoutOf t f element)
+  element-layout r element n i low e h =
+      let whole : layoutOf t f r ≡ joined (replicate n (layoutOf t f element)) = layout-is t f r (kept .row r low .shape) ∙ array-whole f (layoutOf t f) e in
+      let place : length (joined (take i (replicate n (layoutOf t f element)))) ≡ i * sizeOf t f element =
+      joined-replicate i n (layoutOf t f element) (omega arith) ∙ ap (λ k. i * k) (layout-length t f element) in
+      rw (whole, ← place) (part-joined (nth-replicate n i (layoutOf t f element) h))

@@ -1,0 +1,98 @@
+-- Laws of bases and own fields, a row at a time.
+use mathlib.Core.Path.{_≡_, refl, ap}
+use mathlib.Core.List.{List, [], _∷_, map}
+use Prim.Native.Nat.{ℕ, zero, suc, _+_, _-_, _*_, _^_, _≤_, _<_}
+use native.Mathlib.Omega.{arith}
+use native.Mathlib.Decide.{decLt}
+use borrow.Author.Tests.{le-leb, lt-leb, eq-eqb, ne-eqb}
+use lib.Dec.{ltb, eqb}
+use lib.ListN.{length}
+use lib.Pow.{pow-pos, pow-add}
+use native.Mathlib.Nat.{le-of-lt, lt-of-le-of-lt, mul-le-mul-left, mul-lt-mul-of-pos-right}
+use Rattle.prelude.specs.Choice.{choose, _also_}
+use Rattle.prelude.specs.Parts.{sum}
+use Rattle.image.specs.declared.Row.{Row}
+use Rattle.image.specs.Rows.{rowAt}
+use Rattle.shapes.specs.Forms.{Form, Form.scalar, Form.array, Form.recordOf, Form.noForm, formOf, baseOf}
+use Rattle.shapes.specs.Forms.{countOf, ofBase, ownTypes}
+use Rattle.shapes.specs.Shapes.{baseKept}
+
+-- the product of a number of j bits and one of k bits has at most j + k
+pub product-below : (j k : ℕ) {a b : ℕ} → a < 2 ^ j → b < 2 ^ k → a * b < 2 ^ (j + k)
+product-below j k {a} {b} ha hb =
+    rw (pow-add 2 j k) (lt-of-le-of-lt (mul-le-mul-left a (le-of-lt hb)) (mul-lt-mul-of-pos-right ha (pow-pos k)))
+
+-- ---- the form of a row by its kind
+
+module _ (r : Row) where
+  pub form-scalar : r .kind < 3 → formOf r ≡ scalar (r .kind)
+  unfolding formOf choose
+  form-scalar h = rw (le-leb (r .kind) 2 (omega arith))
+
+  pub form-array : r .kind ≡ 3 → formOf r ≡ array (r .a) (r .b)
+  unfolding formOf choose
+  form-array h = rw (lt-leb (r .kind) 2 (omega arith), eq-eqb (r .kind) 3 h)
+
+  pub form-record : r .kind ≡ 4 → formOf r ≡ recordOf (r .a) (r .b) (r .c)
+  unfolding formOf choose
+  form-record h = rw (lt-leb (r .kind) 2 (omega arith), ne-eqb (r .kind) 3 (omega arith), eq-eqb (r .kind) 4 h)
+
+  pub form-none : 4 < r .kind → formOf r ≡ noForm
+  unfolding formOf choose
+  form-none h = rw (lt-leb (r .kind) 2 (omega arith), ne-eqb (r .kind) 3 (omega arith), ne-eqb (r .kind) 4 (omega arith))
+
+  -- what holds of every other form holds of a row that is no record
+  pub by-form : (P : Form → Type 0) → ((k : ℕ) → P (scalar k)) → ((e n : ℕ) → P (array e n)) → P noForm → (r .kind ≡ 4 → ⊥) → P (formOf r)
+  by-form P s a n h = go (decLt (r .kind) 3) (decLt 4 (r .kind))
+    where
+      go : Dec (r .kind < 3) → Dec (4 < r .kind) → P (formOf r)
+      go (yes l) d = rw (form-scalar l) (s (r .kind))
+      go (no l) (yes m) = rw (form-none m) n
+      go (no l) (no m) = rw (form-array (omega arith)) (a (r .a) (r .b))
+
+  -- it has no base and no fields
+  pub no-record : (r .kind ≡ 4 → ⊥) → (baseOf (formOf r) ≡ 0) × (countOf (formOf r) ≡ 0)
+  unfolding baseOf countOf
+  no-record h = by-form (λ x. (baseOf x ≡ 0) × (countOf x ≡ 0)) (λ k. (refl, refl)) (λ e n. (refl, refl)) (refl, refl) h
+
+-- ---- bases and own fields
+
+pub less-one : (b : ℕ) → suc b - 1 ≡ b
+less-one b = omega arith
+
+pub of-no-base : {X : Type 0} (none : X) (g : ℕ → X) (a : ℕ) → a ≡ 0 → ofBase none g a ≡ none
+unfolding ofBase
+of-no-base none g a e = rw e
+
+pub of-base : {X : Type 0} (none : X) (g : ℕ → X) (a : ℕ) → 0 < a → ofBase none g a ≡ g (a - 1)
+unfolding ofBase
+of-base none g zero h = absurd (omega arith)
+of-base none g (suc b) h = rw (less-one b)
+
+pub kept-base : (t : List ℕ) (r a : ℕ) → 0 < a → baseKept t r a ≡ (ltb (a - 1) r also eqb (rowAt t (a - 1) .kind) 4)
+unfolding baseKept
+kept-base t r zero h = absurd (omega arith)
+kept-base t r (suc b) h = rw (less-one b)
+
+-- a loop over the field rows below e, at row k
+module _ (f : List ℕ) (k e : ℕ) where
+  pub own-step : k < e → ownTypes f k (e - k) ≡ rowAt f k .a ∷ ownTypes f (k + 1) (e - (k + 1))
+  unfolding ownTypes
+  own-step h = let one : e - k ≡ suc (e - (k + 1)) = omega arith in rw one
+
+  pub own-end : e ≤ k → ownTypes f k (e - k) ≡ []
+  unfolding ownTypes
+  own-end h = let none : e - k ≡ 0 = omega arith in rw none
+
+  pub sum-step : (g : ℕ → ℕ) → k < e → sum (map g (ownTypes f k (e - k))) ≡ g (rowAt f k .a) + sum (map g (ownTypes f (k + 1) (e - (k + 1))))
+  unfolding sum
+  sum-step g h = rw (own-step h)
+
+  pub sum-end : (g : ℕ → ℕ) → e ≤ k → sum (map g (ownTypes f k (e - k))) ≡ 0
+  unfolding sum
+  sum-end g h = rw (own-end h)
+
+pub own-length : (f : List ℕ) (k n : ℕ) → length (ownTypes f k n) ≡ n
+unfolding ownTypes
+own-length f k zero = refl
+own-length f k (suc n) = ap suc (own-length f (k + 1) n)
