@@ -12,8 +12,13 @@ use lib.Seq.{take-append-le, take-append-add, getD-append-add}
 use Rattle.prelude.specs.Choice.{choose}
 use Rattle.prelude.specs.Parts.{sum}
 use Rattle.prelude.proofs.Choice.{choose-yes, choose-no}
+use Rattle.prelude.proofs.Rec.{rec-eq}
 use Rattle.prelude.proofs.Parts.{map-append}
+use Rattle.image.specs.declared.Verdict.the-variants.{Kept}
 use Rattle.image.specs.Rows.{rowAt, rowsOf}
+use Rattle.image.proofs.Bytes.{row-missing}
+use Rattle.types.specs.Question.{question4}
+use Rattle.types.proofs.Accepted.{types-kept}
 use Rattle.relations.specs.declared.FieldAnswer.{FieldAnswer}
 use Rattle.relations.specs.declared.FieldAnswer.the-variants.{Missing, Field}
 use Rattle.shapes.specs.Forms.{Form.recordOf, form, baseOf, ofBase, ownTypes}
@@ -161,3 +166,24 @@ module _ (t f plan : List ℕ) (kept : TypesKept t f) (p : Plan t f (rowsOf t) p
   pub field-is : (r n : ℕ) → r < rowsOf t → plannedField t f plan n r ≡ fieldOf t f r n
   unfolding fieldOf offsetOf
   field-is r n low = field-by (suc r) n r (omega arith) low
+
+-- ---- every type
+
+-- a type that is no row has no field
+no-field : (t f : List ℕ) (r n : ℕ) → rowsOf t ≤ r → fieldOf t f r n ≡ Missing
+unfolding fieldOf fieldsOf form
+no-field t f r n h =
+    let other : rowAt t r .kind ≡ 4 → ⊥ = rw (row-missing t r h) (λ e. absurd (omega arith)) in
+    let none : fieldsOf t f r ≡ [] = rec-eq [] (λ fields k. fieldsBy f fields (form t k)) r ∙ other-fields f _ (rowAt t r) other in
+    rw none (choose-no _ _ _ (le-ltb n 0 (omega arith)))
+
+-- in a plan that question 4 filled, `field` finds just the fields that there are
+pub field-known : (t f plan : List ℕ) → question4 t f ≡ Kept → Plan t f (rowsOf t) plan → (r n : ℕ) → plannedField t f plan n r ≡ fieldOf t f r n
+field-known t f plan kept p r n = go (decLt r (rowsOf t))
+  where
+    go : Dec (r < rowsOf t) → plannedField t f plan n r ≡ fieldOf t f r n
+    go (yes h) = field-is t f plan (types-kept t f kept) p r n h
+    go (no h) =
+        let past : rowsOf t ≤ r = omega arith in
+        let other : rowAt t r .kind ≡ 4 → ⊥ = rw (row-missing t r past) (λ e. absurd (omega arith)) in
+        planned-other t f plan n r refl other ∙ sym (no-field t f r n past)

@@ -1,5 +1,6 @@
+use Rattle.relations.proofs.Fielding.{field-known}
 use Rattle.typing.specs.Typing.{fieldNode}
-use Rattle.typing.proofs.Giving.{typed-none, typed-known, field-known, missing-type, field-type}
+use Rattle.typing.proofs.Giving.{typed-none, typed-known, missing-type, field-type}
 use mathlib.Core.Path.{_≡_, refl, sym, _∙_, ap}
 use borrow.Author.Needs.{needs}
 use Rattle.typing.proofs.field_node.Statement.{statement}
