@@ -14,7 +14,8 @@ use Rattle.image.specs.Rows.{rowAt, rowsOf}
 use Rattle.image.specs.Faults.{KeptIn}
 use Rattle.image.proofs.Faults.{kept-none, kept-next, up-to-bad, up-to-some, up-to-end}
 use Rattle.frames.specs.Variables.{isGlobal, globalsFrom, globalsOf}
-use Rattle.frames.specs.Procedures.{claimedBy, firstFrom, firstVariable, bodyKept, ownKept, procedureKept, question6}
+use Rattle.frames.specs.Procedures.{claimedBy, firstFrom, firstVariable, bodyKept, ownKept}
+use Rattle.frames.specs.Procedures.{procedureKept, question6}
 
 globals-few : (v : List ℕ) (n k : ℕ) → globalsFrom v k n ≤ k + n
 unfolding globalsFrom choose
@@ -85,9 +86,11 @@ module _ (v p s : List ℕ) (first r : ℕ) (c : Claimed v p s first r) where
     pub variables-bad : (first ≡ rowsOf v → ⊥) → Fault r ≡ question6 v p s
     unfolding question6
     variables-bad h =
-        up-to-some (procedureKept v p s) (rowsOf p) _ r (c .kept) (c .within) done (all-variables ∙ ne-eqb first (rowsOf v) h)
+        up-to-some (procedureKept v p s) (rowsOf p) _ r (c .kept) (c .within) done
+        (all-variables ∙ ne-eqb first (rowsOf v) h)
 
     pub variables-all : first ≡ rowsOf v → Kept ≡ question6 v p s
     unfolding question6
     variables-all h =
-        up-to-end (procedureKept v p s) (rowsOf p) _ r (c .kept) (c .within) done (all-variables ∙ eq-eqb first (rowsOf v) h)
+        up-to-end (procedureKept v p s) (rowsOf p) _ r (c .kept) (c .within) done
+        (all-variables ∙ eq-eqb first (rowsOf v) h)

@@ -52,4 +52,5 @@ procedureKept v p s r = bodyKept p (rowsOf s) r (rowAt p r) also ownKept v (firs
 -- "6. Does each procedure row keep its rule? (Empty body: its own row. Unclaimed variable: row = procedure count.)"
 unfoldable pub question6 : List ℕ → List ℕ → List ℕ → Verdict
 question6 v p s =
-    lowestFault (ruleUpTo (procedureKept v p s) (rowsOf p) (eqb (firstVariable v p (rowsOf p)) (rowsOf v))) (rowsOf p + 1)
+    lowestFault (ruleUpTo (procedureKept v p s) (rowsOf p) (eqb (firstVariable v p (rowsOf p)) (rowsOf v)))
+    (rowsOf p + 1)

@@ -119,7 +119,8 @@ module _ (keeps : ℕ → Bool) (n : ℕ) (none : Bool) where
   pub up-to-kept : lowestFault (ruleUpTo keeps n none) (n + 1) ≡ Kept → KeptIn keeps 0 n × (none ≡ true)
   up-to-kept e =
       let kept = verdict-kept rule (n + 1) e in
-      (record { each = λ j low high. sym (rule-low j high) ∙ kept j (omega arith) }, sym (rule-top n (omega arith)) ∙ kept n (omega arith))
+      let rows : KeptIn keeps 0 n = record { each = λ j low high. sym (rule-low j high) ∙ kept j (omega arith) } in
+      (rows, sym (rule-top n (omega arith)) ∙ kept n (omega arith))
 
   -- a loop over the rows that stops at the first fault
   module _ (r : ℕ) (kept : KeptIn keeps 0 r) (within : r ≤ n) where

@@ -26,6 +26,7 @@ fn add(x: i32, y: i32) -> Answer
     integer((x as i64) + (y as i64))
 }
 
+// The difference, or trap 4 where it is out of range.
 pub fn subtract(x: i32, y: i32) -> Answer
     ensures { λ r. ⌜ r ≡ integerOf (x -ℤ y) ⌝ }
 {

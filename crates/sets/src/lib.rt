@@ -54,6 +54,7 @@ pub fn range(x: i32, y: i32) -> Answer
     Answer::Val(Value::Set(elements(a, b)))
 }
 
+// The elements that s does not have.
 pub fn complement(s: u32) -> u32
     ensures { λ r. ⌜ r ≡ complementOf s ⌝ }
 {

@@ -131,6 +131,7 @@ fn later_kept(t: &[u8], f: &[u8], used: usize, r: usize, row: Row) -> bool
     }
 }
 
+// Whether a row is what a type row may be, where `used` field rows are claimed by the rows below it.
 pub fn shape_kept(t: &[u8], f: &[u8], used: usize, r: usize, row: Row) -> bool
     requires { ⌜ (used < 65536) × (rowsOf (now f) ≤ 256) ⌝ }
     ensures { λ x. ⌜ x ≡ shapeKept (now (t .entry)) (now (f .entry)) used r row ⌝ }

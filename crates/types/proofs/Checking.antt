@@ -130,7 +130,8 @@ module _ (t f old plan : List ℕ) (r used : ℕ) (s : Sofar t f old plan r used
     pub fields-bad : (used ≡ rowsOf f → ⊥) → Answered t f old plan (Fault r)
     unfolding question4 passed
     fields-bad h =
-        (up-to-some (typeKept t f) (rowsOf t) _ r below within done (all-fields ∙ ne-eqb used (rowsOf f) h), (planned, rest))
+        let bad = all-fields ∙ ne-eqb used (rowsOf f) h in
+        (up-to-some (typeKept t f) (rowsOf t) _ r below within done bad, (planned, rest))
 
     pub fields-good : used ≡ rowsOf f → Answered t f old plan Kept
     unfolding question4 passed
