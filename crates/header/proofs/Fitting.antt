@@ -14,7 +14,8 @@ use Rattle.prelude.proofs.Choice.{choose-cases, choose-yes, also-true, also-yes
 use Rattle.image.specs.Rows.{numberAt, wordAt, rowsOf}
 use Rattle.image.proofs.Bytes.{Bytes, slice-bytes}
 use Rattle.header.specs.Header.{question1, question2, tableFrom, thenTable, tablesOf, thirdAnswer, headerOf}
-use Rattle.header.specs.Header.{partOf}
+use Rattle.header.specs.Header.{partOf, question3, areSix, sixOf, tablesIn}
+use Rattle.header.specs.declared.HeaderAnswer.{HeaderAnswer}
 use Rattle.header.specs.declared.Table.{Table}
 use Rattle.header.specs.declared.Tables.{Tables}
 use Rattle.header.specs.declared.TableAnswer.{TableAnswer}
@@ -182,3 +183,28 @@ part-bytes image h t = go (leb (t .start) (t .end) also leb (t .end) (length ima
     go : (b : Bool) → Bytes (choose b (take (t .end - t .start) (drop (t .start) image)) [])
     go true = slice-bytes image h (t .end - t .start) (t .start)
     go false = record { each = λ i. omega arith }
+
+-- ---- which answer the header gives, and why
+
+pub data HeaderCase (image : List ℕ) : HeaderAnswer → Type 0 where
+  first-no : question1 image ≡ false → HeaderCase image (No 1)
+  second-no : question1 image ≡ true → question2 image ≡ false → HeaderCase image (No 2)
+  third-no : question1 image ≡ true → question2 image ≡ true → question3 image ≡ false → HeaderCase image (No 3)
+  all-yes : {ts : Tables} → question1 image ≡ true → question2 image ≡ true → question3 image ≡ true → tablesIn image ≡ ts
+      → HeaderCase image (Yes ts)
+
+third-case : (image : List ℕ) → question1 image ≡ true → question2 image ≡ true → (x : TablesAnswer) → tablesOf image ≡ x
+    → HeaderCase image (thirdAnswer x)
+unfolding thirdAnswer question3 tablesIn areSix sixOf
+third-case image p q Amiss e = third-no p q (rw e)
+third-case image p q (Six t) e = all-yes {ts = t} p q (rw e) (rw e)
+
+pub header-case : (image : List ℕ) → HeaderCase image (headerOf image)
+unfolding headerOf choose
+header-case image = go (question1 image) (question2 image) refl refl
+  where
+    go : (a b : Bool) → question1 image ≡ a → question2 image ≡ b
+        → HeaderCase image (choose a (choose b (thirdAnswer (tablesOf image)) (No 2)) (No 1))
+    go false b p q = first-no p
+    go true false p q = second-no p q
+    go true true p q = third-case image p q (tablesOf image) refl

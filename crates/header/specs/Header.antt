@@ -1,12 +1,13 @@
 -- Questions 1 to 3 of the check: the version, the length, and the six tables.
 use Prim.Native.Nat.{ℕ, _+_, _-_, _*_}
 use mathlib.Core.List.{List, []}
-use mathlib.Core.Bool.{Bool}
+use mathlib.Core.Bool.{Bool, true, false}
 use lib.Dec.{ltb, leb, eqb}
 use lib.ListN.{length, getD, take, drop}
 use Rattle.prelude.specs.Choice.{choose, _also_}
 use Rattle.image.specs.Rows.{numberAt, wordAt}
 use Rattle.header.specs.declared.Table.{Table}
+use Rattle.header.specs.declared.Tables.{Tables}
 use Rattle.header.specs.declared.TableAnswer.{TableAnswer}
 use Rattle.header.specs.declared.TableAnswer.the-variants.{Unfit, Found}
 use Rattle.header.specs.declared.TablesAnswer.{TablesAnswer}
@@ -57,6 +58,25 @@ tablesOf image =
       statements = statements;
     }))
     Amiss
+
+-- a table without rows
+abbrev none : Table
+none = record { start = 0; end = 0 }
+
+unfoldable pub areSix : TablesAnswer → Bool
+areSix Amiss = false
+areSix (Six t) = true
+
+unfoldable pub question3 : List ℕ → Bool
+question3 image = areSix (tablesOf image)
+
+-- the six tables; where question 3 fails, none has a row
+unfoldable pub sixOf : TablesAnswer → Tables
+sixOf Amiss = record { types = none; fields = none; variables = none; procedures = none; nodes = none; statements = none }
+sixOf (Six t) = t
+
+unfoldable pub tablesIn : List ℕ → Tables
+tablesIn image = sixOf (tablesOf image)
 
 unfoldable pub thirdAnswer : TablesAnswer → HeaderAnswer
 thirdAnswer Amiss = No 3

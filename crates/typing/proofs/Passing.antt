@@ -9,12 +9,14 @@ use borrow.Author.Tests.{lt-ltb, le-ltb}
 use lib.ListN.{length, getD, take, set, length-set}
 use lib.Seq.{length-take-le, getD-take, getD-set-same, getD-set-other}
 use Rattle.prelude.proofs.Choice.{choose-yes, choose-no}
+use Rattle.prelude.specs.Choice.{choose}
 use Rattle.prelude.specs.Rec.{below, rec}
 use Rattle.prelude.proofs.Rec.{below-low, below-high, rec-eq}
 use Rattle.image.specs.declared.Row.{Row}
 use Rattle.image.specs.declared.Verdict.{Verdict}
 use Rattle.image.specs.declared.Verdict.the-variants.{Kept, Fault}
 use Rattle.image.specs.Rows.{rowAt, rowsOf}
+use Rattle.image.proofs.Bytes.{row-missing}
 use Rattle.image.specs.Faults.{KeptIn, lowestFault}
 use Rattle.image.proofs.Faults.{kept-none, kept-next, scan-bad, scan-end}
 use Rattle.kinds.specs.declared.KindAnswer.{KindAnswer}
@@ -101,3 +103,21 @@ module _ (t f v n old types : List ℕ) (r : ℕ) (p : Filled t f v n old types 
 
   pub filled-all : rowsOf n ≤ r → Typed (typeOf t f v n) (rowsOf n) old types
   filled-all done = let w = p .within in let q : r ≡ rowsOf n = omega arith in rw q at (p .table)
+
+-- ---- the whole table
+
+-- a node that is not there has no type
+type-missing : (t f v n : List ℕ) (k : ℕ) → rowsOf n ≤ k → typeOf t f v n k ≡ Untyped
+unfolding typeOf typeBy choose
+type-missing t f v n k h =
+    rec-eq Untyped (λ type r. typeBy t f v type (rowAt n r .kind) (rowAt n r)) k ∙ rw (row-missing n k h)
+
+pub types-known : (t f v n old types : List ℕ) → Typed (typeOf t f v n) (rowsOf n) old types → rowsOf n ≤ length types
+    → typeIn (take (rowsOf n) types) ≡ typeOf t f v n
+types-known t f v n old types table room = table-below (typeOf t f v n) (rowsOf n) old types table room ∙ fun-ext (λ k. go k (decLt k (rowsOf n)))
+  where
+    go : (k : ℕ) → Dec (k < rowsOf n) → below Untyped (rowsOf n) (typeOf t f v n) k ≡ typeOf t f v n k
+    go k (yes h) = below-low Untyped (rowsOf n) (typeOf t f v n) k h
+    go k (no h) =
+        let missing : rowsOf n ≤ k = omega arith in
+        below-high Untyped (rowsOf n) (typeOf t f v n) k missing ∙ sym (type-missing t f v n k missing)

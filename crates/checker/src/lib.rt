@@ -1,0 +1,74 @@
+// The check of an image: questions 1 to 11, exported to C.
+use header::HeaderAnswer;
+use image::Verdict;
+ghost use mathlib.Core.Path.{_≡_};
+ghost use Prim.Native.Nat.{_≤_};
+ghost use lib.ListN.{length};
+ghost use Rattle.image.specs.declared.Verdict.the-variants.{Kept};
+ghost use Rattle.image.specs.Rows.{rowsOf};
+ghost use Rattle.types.specs.Question.{question4};
+ghost use Rattle.types.specs.Plan.{Plan};
+ghost use Rattle.frames.specs.Variables.{question5};
+ghost use Rattle.frames.specs.Procedures.{question6};
+ghost use Rattle.checker.specs.declared.CheckAnswer.the-variants.{Accepted};
+ghost use Rattle.checker.specs.Check.{tableQuestion, asked, firstNo, checkOf, numberOf};
+ghost use Rattle.checker.specs.Prepared.{CountsFit, Leaves, Prepared};
+
+// Accepted, or the number of the question that fails and its lowest row at fault.
+pub enum CheckAnswer {
+    Accepted,
+    Refused(u8, u16),
+}
+
+// What question q alone answers.
+fn answer_of(q: u8, v: Verdict) -> CheckAnswer
+    ensures { λ x. ⌜ x ≡ asked q v Accepted ⌝ }
+{
+    match v {
+        Verdict::Kept => CheckAnswer::Accepted,
+        Verdict::Fault(row) => CheckAnswer::Refused(q, row),
+    }
+}
+
+// Questions 10 and 11.
+fn check_meaning(t: &[u8], f: &[u8], v: &[u8], p: &[u8], n: &[u8], s: &[u8], plan: &[u32]) -> CheckAnswer
+    requires { ⌜ CountsFit (now t) (now f) (now v) (now p) (now n) (now s) × (question4 (now t) (now f) ≡ Kept) × (question6 (now v) (now p) (now s) ≡ Kept) × Plan (now t) (now f) (rowsOf (now t)) (now plan) ⌝ }
+    ensures { λ x. ⌜ x ≡ firstNo (tableQuestion (now (t .entry)) (now (f .entry)) (now (v .entry)) (now (p .entry)) (now (n .entry)) (now (s .entry))) 10 2 ⌝ }
+{
+    let nodes = image::rows_of(n);
+    let mut types = [0u16; 2048];
+    let typed = typing::check_typing(t, f, plan, v, n, &mut types);
+    let Verdict::Kept = typed else {
+        return answer_of(10, typed);
+    };
+    let ruled = rules::check_rules(t, v, p, n, s, &types[..nodes]);
+    answer_of(11, ruled)
+}
+
+// Questions 5 to 9, and then 10 and 11.
+fn check_rows(t: &[u8], f: &[u8], v: &[u8], p: &[u8], n: &[u8], s: &[u8], plan: &[u32]) -> CheckAnswer
+    requires { ⌜ CountsFit (now t) (now f) (now v) (now p) (now n) (now s) × (question4 (now t) (now f) ≡ Kept) × Plan (now t) (now f) (rowsOf (now t)) (now plan) ⌝ }
+    ensures { λ x. ⌜ x ≡ firstNo (tableQuestion (now (t .entry)) (now (f .entry)) (now (v .entry)) (now (p .entry)) (now (n .entry)) (now (s .entry))) 5 7 ⌝ }
+{
+    let variables = frames::check_variables(t, v);
+    let Verdict::Kept = variables else {
+        return answer_of(5, variables);
+    };
+    let procedures = frames::check_procedures(v, p, s);
+    let Verdict::Kept = procedures else {
+        return answer_of(6, procedures);
+    };
+    let nodes = nodes::check_nodes(t, v, n);
+    let Verdict::Kept = nodes else {
+        return answer_of(7, nodes);
+    };
+    let statements = statements::check_statements(n, p, s);
+    let Verdict::Kept = statements else {
+        return answer_of(8, statements);
+    };
+    let names = names::check_names(n, p, s);
+    let Verdict::Kept = names else {
+        return answer_of(9, names);
+    };
+    check_meaning(t, f, v, p, n, s, plan)
+}
