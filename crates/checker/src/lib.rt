@@ -31,7 +31,15 @@ fn answer_of(q: u8, v: Verdict) -> CheckAnswer
 }
 
 // Questions 10 and 11.
-fn check_meaning(t: &[u8], f: &[u8], v: &[u8], p: &[u8], n: &[u8], s: &[u8], plan: &[u32]) -> CheckAnswer
+fn check_meaning(
+    t: &[u8],
+    f: &[u8],
+    v: &[u8],
+    p: &[u8],
+    n: &[u8],
+    s: &[u8],
+    plan: &[u32],
+) -> CheckAnswer
     requires { ⌜ CountsFit (now t) (now f) (now v) (now p) (now n) (now s) × (question4 (now t) (now f) ≡ Kept) × (question6 (now v) (now p) (now s) ≡ Kept) × Plan (now t) (now f) (rowsOf (now t)) (now plan) ⌝ }
     ensures { λ x. ⌜ x ≡ firstNo (tableQuestion (now (t .entry)) (now (f .entry)) (now (v .entry)) (now (p .entry)) (now (n .entry)) (now (s .entry))) 10 2 ⌝ }
 {
@@ -46,7 +54,15 @@ fn check_meaning(t: &[u8], f: &[u8], v: &[u8], p: &[u8], n: &[u8], s: &[u8], pla
 }
 
 // Questions 5 to 9, and then 10 and 11.
-fn check_rows(t: &[u8], f: &[u8], v: &[u8], p: &[u8], n: &[u8], s: &[u8], plan: &[u32]) -> CheckAnswer
+fn check_rows(
+    t: &[u8],
+    f: &[u8],
+    v: &[u8],
+    p: &[u8],
+    n: &[u8],
+    s: &[u8],
+    plan: &[u32],
+) -> CheckAnswer
     requires { ⌜ CountsFit (now t) (now f) (now v) (now p) (now n) (now s) × (question4 (now t) (now f) ≡ Kept) × Plan (now t) (now f) (rowsOf (now t)) (now plan) ⌝ }
     ensures { λ x. ⌜ x ≡ firstNo (tableQuestion (now (t .entry)) (now (f .entry)) (now (v .entry)) (now (p .entry)) (now (n .entry)) (now (s .entry))) 5 7 ⌝ }
 {
@@ -71,4 +87,75 @@ fn check_rows(t: &[u8], f: &[u8], v: &[u8], p: &[u8], n: &[u8], s: &[u8], plan: 
         return answer_of(9, names);
     };
     check_meaning(t, f, v, p, n, s, plan)
+}
+
+// Questions 4 to 11. What question 4 finds goes into the plan, and with acceptance the places and frame sizes too.
+fn check_tables(
+    t: &[u8],
+    f: &[u8],
+    v: &[u8],
+    p: &[u8],
+    n: &[u8],
+    s: &[u8],
+    plan: &mut [u32],
+) -> CheckAnswer
+    requires { ⌜ CountsFit (now t) (now f) (now v) (now p) (now n) (now s) × (770 ≤ length (now plan)) ⌝ }
+    ensures { λ x. ⌜ x ≡ firstNo (tableQuestion (now (t .entry)) (now (f .entry)) (now (v .entry)) (now (p .entry)) (now (n .entry)) (now (s .entry))) 4 8 ⌝ }
+    ensures plan { λ x. ⌜ Leaves (now (t .entry)) (now (f .entry)) (now (v .entry)) (now (p .entry)) (now (plan .entry)) x (now (plan .exit)) ⌝ }
+{
+    let types = types::check_types(t, f, plan);
+    let Verdict::Kept = types else {
+        return answer_of(4, types);
+    };
+    let answer = check_rows(t, f, v, p, n, s, plan);
+    let CheckAnswer::Accepted = answer else {
+        return answer;
+    };
+    places::fill_places(t, f, v, p, plan);
+    CheckAnswer::Accepted
+}
+
+// The check, which leaves sizes, offsets, places and frame sizes in a lent plan.
+pub fn prepare(image: &[u8], plan: &mut [u32]) -> CheckAnswer
+    requires { ⌜ 770 ≤ length (now plan) ⌝ }
+    ensures { λ x. ⌜ x ≡ checkOf (now (image .entry)) ⌝ }
+    ensures plan { λ x. ⌜ Prepared (now (image .entry)) (now (plan .entry)) x (now (plan .exit)) ⌝ }
+{
+    match header::header(image) {
+        HeaderAnswer::No(question) => CheckAnswer::Refused(question, 0),
+        HeaderAnswer::Yes(tables) => {
+            let types = tables.types;
+            let fields = tables.fields;
+            let variables = tables.variables;
+            let procedures = tables.procedures;
+            let nodes = tables.nodes;
+            let statements = tables.statements;
+            let t = header::part(image, types);
+            let f = header::part(image, fields);
+            let v = header::part(image, variables);
+            let p = header::part(image, procedures);
+            let n = header::part(image, nodes);
+            let s = header::part(image, statements);
+            check_tables(t, f, v, p, n, s, plan)
+        }
+    }
+}
+
+// The check alone.
+pub fn check(image: &[u8]) -> CheckAnswer
+    ensures { λ x. ⌜ x ≡ checkOf (now (image .entry)) ⌝ }
+{
+    let mut plan = [0u32; 770];
+    prepare(image, &mut plan)
+}
+
+// Refusal times 65,536 plus row; 0 is acceptance.
+#[no_mangle]
+pub extern "C" fn door_check(image: &[u8]) -> u32
+    ensures { λ x. ⌜ x ≡ numberOf (checkOf (now (image .entry))) ⌝ }
+{
+    match check(image) {
+        CheckAnswer::Accepted => 0,
+        CheckAnswer::Refused(question, row) => (question as u32) * 65536 + (row as u32),
+    }
 }

@@ -1,3 +1,7 @@
+use Rattle.checker.proofs.Chain.{asked-fault, chain-next, chain-stop}
+use Rattle.checker.specs.Check.{tableQuestion}
+use Rattle.prelude.specs.Choice.{choose}
+use mathlib.Core.Path.{_≡_, refl, sym, _∙_, ap}
 use borrow.Author.Needs.{needs}
 use Rattle.checker.proofs.check_rows.Statement.{statement}
 use Rattle.checker.proofs.check_rows.Tie as tie
@@ -24,7 +28,9 @@ answer-of-requires : tie.Need-answer-of-requires
 answer-of-requires c κs = search needs
 
 returns : tie.Need-returns
-returns c = ?
+unfolding tableQuestion choose
+returns c = c .answer-of .ensures ∙ asked-fault _ _ _ (c .before .enum-told2 .given .1)
+    ∙ sym (chain-stop _ 5 6 (c .before .before .before .check-variables .ensures) (c .before .enum-told2 .given .1))
 
 check-procedures-requires : tie.Need-check-procedures-requires
 check-procedures-requires c κs = search needs
@@ -39,7 +45,10 @@ answer-of-requires-2 : tie.Need-answer-of-requires-2
 answer-of-requires-2 c κs = search needs
 
 returns-2 : tie.Need-returns-2
-returns-2 c = ?
+unfolding tableQuestion choose
+returns-2 c = c .answer-of2 .ensures ∙ asked-fault _ _ _ (c .before .enum-told4 .given .1)
+    ∙ sym (chain-next _ 5 6 (c .before .before .before .before .before .before .check-variables .ensures) (c .before .before .before .before .enum-told .given .1)
+    ∙ chain-stop _ 6 5 (c .before .before .before .check-procedures .ensures) (c .before .enum-told4 .given .1))
 
 check-nodes-requires : tie.Need-check-nodes-requires
 check-nodes-requires c κs = search needs
@@ -54,7 +63,11 @@ answer-of-requires-3 : tie.Need-answer-of-requires-3
 answer-of-requires-3 c κs = search needs
 
 returns-3 : tie.Need-returns-3
-returns-3 c = ?
+unfolding tableQuestion choose
+returns-3 c = c .answer-of3 .ensures ∙ asked-fault _ _ _ (c .before .enum-told6 .given .1)
+    ∙ sym (chain-next _ 5 6 (c .before .before .before .before .before .before .before .before .before .check-variables .ensures) (c .before .before .before .before .before .before .before .enum-told .given .1)
+    ∙ chain-next _ 6 5 (c .before .before .before .before .before .before .check-procedures .ensures) (c .before .before .before .before .enum-told3 .given .1)
+    ∙ chain-stop _ 7 4 (c .before .before .before .check-nodes .ensures) (c .before .enum-told6 .given .1))
 
 check-statements-requires : tie.Need-check-statements-requires
 check-statements-requires c κs = search needs
@@ -69,7 +82,12 @@ answer-of-requires-4 : tie.Need-answer-of-requires-4
 answer-of-requires-4 c κs = search needs
 
 returns-4 : tie.Need-returns-4
-returns-4 c = ?
+unfolding tableQuestion choose
+returns-4 c = c .answer-of4 .ensures ∙ asked-fault _ _ _ (c .before .enum-told8 .given .1)
+    ∙ sym (chain-next _ 5 6 (c .before .before .before .before .before .before .before .before .before .before .before .before .check-variables .ensures) (c .before .before .before .before .before .before .before .before .before .before .enum-told .given .1)
+    ∙ chain-next _ 6 5 (c .before .before .before .before .before .before .before .before .before .check-procedures .ensures) (c .before .before .before .before .before .before .before .enum-told3 .given .1)
+    ∙ chain-next _ 7 4 (c .before .before .before .before .before .before .check-nodes .ensures) (c .before .before .before .before .enum-told5 .given .1)
+    ∙ chain-stop _ 8 3 (c .before .before .before .check-statements .ensures) (c .before .enum-told8 .given .1))
 
 check-names-requires : tie.Need-check-names-requires
 check-names-requires c κs = search needs
@@ -84,13 +102,25 @@ answer-of-requires-5 : tie.Need-answer-of-requires-5
 answer-of-requires-5 c κs = search needs
 
 returns-5 : tie.Need-returns-5
-returns-5 c = ?
+unfolding tableQuestion choose
+returns-5 c = c .answer-of5 .ensures ∙ asked-fault _ _ _ (c .before .enum-told10 .given .1)
+    ∙ sym (chain-next _ 5 6 (c .before .before .before .before .before .before .before .before .before .before .before .before .before .before .before .check-variables .ensures) (c .before .before .before .before .before .before .before .before .before .before .before .before .before .enum-told .given .1)
+    ∙ chain-next _ 6 5 (c .before .before .before .before .before .before .before .before .before .before .before .before .check-procedures .ensures) (c .before .before .before .before .before .before .before .before .before .before .enum-told3 .given .1)
+    ∙ chain-next _ 7 4 (c .before .before .before .before .before .before .before .before .before .check-nodes .ensures) (c .before .before .before .before .before .before .before .enum-told5 .given .1)
+    ∙ chain-next _ 8 3 (c .before .before .before .before .before .before .check-statements .ensures) (c .before .before .before .before .enum-told7 .given .1)
+    ∙ chain-stop _ 9 2 (c .before .before .before .check-names .ensures) (c .before .enum-told10 .given .1))
 
 check-meaning-requires : tie.Need-check-meaning-requires
-check-meaning-requires c κs = ?
+check-meaning-requires c κs = let (fit, four, plan) = c .before .before .before .before .before .before .before .before .before .before .before .before .before .before .before .before .before .before .before .before .before .before .pre in (fit, four, sym (c .before .before .before .before .before .before .before .before .before .before .before .check-procedures .ensures) ∙ c .before .before .before .before .before .before .before .before .before .enum-told3 .given .1, plan)
 
 returns-6 : tie.Need-returns-6
-returns-6 c = ?
+unfolding tableQuestion choose
+returns-6 c = c .check-meaning .ensures
+    ∙ sym (chain-next _ 5 6 (c .before .before .before .before .before .before .before .before .before .before .before .before .before .before .before .check-variables .ensures) (c .before .before .before .before .before .before .before .before .before .before .before .before .before .enum-told .given .1)
+    ∙ chain-next _ 6 5 (c .before .before .before .before .before .before .before .before .before .before .before .before .check-procedures .ensures) (c .before .before .before .before .before .before .before .before .before .before .enum-told3 .given .1)
+    ∙ chain-next _ 7 4 (c .before .before .before .before .before .before .before .before .before .check-nodes .ensures) (c .before .before .before .before .before .before .before .enum-told5 .given .1)
+    ∙ chain-next _ 8 3 (c .before .before .before .before .before .before .check-statements .ensures) (c .before .before .before .before .enum-told7 .given .1)
+    ∙ chain-next _ 9 2 (c .before .before .before .check-names .ensures) (c .before .enum-told9 .given .1))
 
 pub check-rows-spec : {M : Type 1} → statement M
 check-rows-spec =
