@@ -24,6 +24,21 @@ use Rattle.relations.specs.Extends.{extendsTo, extends}
 use Rattle.shapes.specs.Shapes.{usedBelow, scalarKept, arrayKept, fieldKept, baseKept, recordKept, laterKept}
 use Rattle.shapes.specs.Shapes.{shapeKept, typeKept}
 use Rattle.types.specs.Question.{question4}
+use Rattle.image.specs.Rows.{wordAt}
+use Rattle.header.specs.Header.{question1, question2, question3, tableFrom, thenTable, tablesOf, areSix, sixOf, tablesIn}
+use Rattle.header.specs.Header.{partOf}
+use Rattle.frames.specs.Variables.{isGlobal, kindWithin, globalsFrom, globalsOf, formKept as variableForm}
+use Rattle.frames.specs.Variables.{variableKept, question5}
+use Rattle.frames.specs.Procedures.{claimedBy, firstFrom as firstVariableFrom, firstVariable, bodyEnd, moduleKept, bodyKept}
+use Rattle.frames.specs.Procedures.{ownKept, procedureKept, question6}
+use Rattle.nodes.specs.Nodes.{question7}
+use Rattle.statements.specs.Statements.{beginsAt, nextProcedure, procedureAt, returnKept, formKept as statementForm}
+use Rattle.statements.specs.Statements.{lastKept, statementIn, statementKept, question8}
+use Rattle.names.specs.Names.{question9}
+use Rattle.typing.specs.Typing.{question10}
+use Rattle.rules.specs.Rules.{ruleBy, statementRule, rulesBy, question11}
+use Rattle.checker.specs.declared.CheckAnswer.the-variants.{Accepted}
+use Rattle.checker.specs.Check.{yesOrNo, tableQuestion, questionOf, asked, firstNo, checkOf, refusalOf, rowOf, numberOf}
 
 -- what the cases open: rows and rules, types, values
 unfoldable pub rows : Unit {0}
@@ -45,6 +60,22 @@ integers = tt
 unfoldable pub operators : Unit {0}
 unfolding bind memberOf elementsOf complementOf dyadicOf monadicOf decides appliedTo
 operators = tt
+
+unfoldable pub tables : Unit {0}
+unfolding wordAt question1 question2 question3 tableFrom thenTable tablesOf areSix sixOf tablesIn partOf
+tables = tt
+
+unfoldable pub bodies : Unit {0}
+unfolding isGlobal kindWithin globalsFrom globalsOf variableForm variableKept question5 claimedBy firstVariableFrom firstVariable bodyEnd moduleKept bodyKept ownKept procedureKept question6
+bodies = tt
+
+unfoldable pub questions : Unit {0}
+unfolding question7 beginsAt nextProcedure procedureAt returnKept statementForm lastKept statementIn statementKept question8 question9 question10 ruleBy statementRule rulesBy question11
+questions = tt
+
+unfoldable pub check : Unit {0}
+unfolding yesOrNo tableQuestion questionOf asked firstNo checkOf refusalOf rowOf numberOf
+check = tt
 
 -- ---- values: dyadic 4 DIV, 5 MOD, 7 =, 13 &, 15 IN, 16 range; monadic 1 -
 
@@ -130,3 +161,28 @@ pub case-7 :
     × (extends types 3 4 ≡ false)
 unfolding rows shapes sizes
 case-7 = (refl, refl, refl, refl, refl, refl)
+
+-- ---- a whole image
+
+-- "Hexadecimal 01 00000039 0003, rows 0000000000000000, 0100000000000000, 0200000000000000, then 0000 0000 0001,
+-- row 0000000000000000, 0000 0001, row 0400000000000000"
+abbrev pub smallest : List ℕ
+smallest =
+    1 ∷
+    0 ∷ 0 ∷ 0 ∷ 57 ∷
+    0 ∷ 3 ∷
+    0 ∷ 0 ∷ 0 ∷ 0 ∷ 0 ∷ 0 ∷ 0 ∷ 0 ∷
+    1 ∷ 0 ∷ 0 ∷ 0 ∷ 0 ∷ 0 ∷ 0 ∷ 0 ∷
+    2 ∷ 0 ∷ 0 ∷ 0 ∷ 0 ∷ 0 ∷ 0 ∷ 0 ∷
+    0 ∷ 0 ∷
+    0 ∷ 0 ∷
+    0 ∷ 1 ∷
+    0 ∷ 0 ∷ 0 ∷ 0 ∷ 0 ∷ 0 ∷ 0 ∷ 0 ∷
+    0 ∷ 0 ∷
+    0 ∷ 1 ∷
+    4 ∷ 0 ∷ 0 ∷ 0 ∷ 0 ∷ 0 ∷ 0 ∷ 0 ∷ []
+
+-- 10. What the check says of it: accepted, the number 0.
+pub case-10 : (checkOf smallest ≡ Accepted) × (numberOf (checkOf smallest) ≡ 0)
+unfolding rows shapes sizes tables bodies questions check
+case-10 = (refl, refl)
