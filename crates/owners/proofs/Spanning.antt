@@ -2,17 +2,18 @@
 use mathlib.Core.Path.{_≡_, refl, sym, _∙_, ap, fun-ext}
 use mathlib.Core.Bool.{Bool, true, false}
 use mathlib.Core.List.{List}
-use Prim.Native.Nat.{ℕ, _+_, _≤_, _<_}
+use Prim.Native.Nat.{ℕ, suc, _+_, _≤_, _<_}
 use native.Mathlib.Omega.{arith}
 use native.Mathlib.Decide.{decLt}
 use borrow.Author.Tests.{lt-ltb, le-ltb, ne-eqb}
 use lib.Dec.{eqb}
 use lib.ListN.{length, getD, take, set, length-set}
-use lib.Seq.{length-take-le, getD-take, getD-set-same, getD-set-other}
+use lib.Seq.{length-take-le, getD-take}
 use Rattle.prelude.specs.Choice.{choose}
 use Rattle.prelude.proofs.Choice.{choose-yes, choose-no, also-yes, also-left}
 use Rattle.prelude.specs.Rec.{below, rec}
 use Rattle.prelude.proofs.Rec.{below-low, below-high, rec-eq}
+use Rattle.prelude.proofs.Cells.{filled-none, filled-next, filled-at}
 use Rattle.image.specs.declared.Row.{Row}
 use Rattle.image.specs.Rows.{rowAt, rowsOf}
 use Rattle.image.proofs.Bytes.{row-missing}
@@ -31,7 +32,7 @@ module _ (span : ℕ → Span) (m : ℕ) (old-least old-past least past : List �
   unfolding spanIn
   span-low k h =
       choose-yes _ _ _ (also-yes (lt-ltb k (length (take m least)) (rw long h)) (lt-ltb k (length (take m past)) (rw long-past h)))
-      ∙ rw (getD-take m least k 0 h, getD-take m past k 0 h, tables .low k h, tables .high k h)
+      ∙ rw (getD-take m least k 0 h, getD-take m past k 0 h, filled-at (tables .low) k h, filled-at (tables .high) k h)
 
   span-high : (k : ℕ) → m ≤ k → spanIn (take m least) (take m past) k ≡ noSpan
   unfolding spanIn
@@ -60,12 +61,8 @@ spanned-none v n old-least old-past few room room-past = record {
   room = room;
   room-past = room-past;
   tables = record {
-    cells = refl;
-    cells-past = refl;
-    low = λ k h. absurd (omega arith);
-    high = λ k h. absurd (omega arith);
-    rest = λ k h. refl;
-    rest-past = λ k h. refl;
+    low = filled-none 0 (λ k. spanOf v n k .least) old-least;
+    high = filled-none 0 (λ k. spanOf v n k .past) old-past;
   };
 }
 
@@ -82,18 +79,6 @@ span-here v n old-least old-past least past r p more row this-row x given =
     (tables-below (spanOf v n) r old-least old-past least past (p .tables) (omega arith) (omega arith))
     ∙ sym (rec-eq noSpan (λ child k. gather noSpan (variableSpan v) joinSpan child (rowAt n k .kind) (rowAt n k)) r)
 
--- a table with one number more, which is `value` at r
-module _ (old table : List ℕ) (r here : ℕ) (value : ℕ → ℕ) (is : here ≡ value r) (room : r < length table) where
-  more-low : ((k : ℕ) → k < r → getD table k 0 ≡ value k) → (k : ℕ) → k < r + 1 → getD (set table r here) k 0 ≡ value k
-  more-low low k h = go (decLt k r)
-    where
-      go : Dec (k < r) → getD (set table r here) k 0 ≡ value k
-      go (yes l) = getD-set-other table r k here 0 (omega arith) ∙ low k l
-      go (no l) = let q : r ≡ k = omega arith in rw (← q) (getD-set-same table r here 0 room ∙ is)
-
-  more-rest : ((k : ℕ) → r ≤ k → getD table k 0 ≡ getD old k 0) → (k : ℕ) → r + 1 ≤ k → getD (set table r here) k 0 ≡ getD old k 0
-  more-rest rest k h = getD-set-other table r k here 0 (omega arith) ∙ rest k (omega arith)
-
 module _ (v n old-least old-past least past : List ℕ) (r : ℕ) (p : Spanned v n old-least old-past least past r) where
   pub spanned-next : r < rowsOf n → (row : Row) → row ≡ rowAt n r → (x : Span)
       → x ≡ gather noSpan (variableSpan v) joinSpan (spanIn (take r least) (take r past)) (row .kind) row
@@ -104,15 +89,14 @@ module _ (v n old-least old-past least past : List ℕ) (r : ℕ) (p : Spanned v
     room = rw (length-set least r (x .least)) (p .room);
     room-past = rw (length-set past r (x .past)) (p .room-past);
     tables = record {
-      cells = length-set least r (x .least) ∙ p .tables .cells;
-      cells-past = length-set past r (x .past) ∙ p .tables .cells-past;
-      low = more-low old-least least r (x .least) (λ k. spanOf v n k .least) (ap (λ (y : Span). y .least) is) (omega (arith, p .room)) (p .tables .low);
-      high = more-low old-past past r (x .past) (λ k. spanOf v n k .past) (ap (λ (y : Span). y .past) is) (omega (arith, p .room-past)) (p .tables .high);
-      rest = more-rest old-least least r (x .least) (λ k. spanOf v n k .least) (ap (λ (y : Span). y .least) is) (omega (arith, p .room)) (p .tables .rest);
-      rest-past = more-rest old-past past r (x .past) (λ k. spanOf v n k .past) (ap (λ (y : Span). y .past) is) (omega (arith, p .room-past)) (p .tables .rest-past);
+      low = rw one (filled-next 0 r (λ k. spanOf v n k .least) old-least least r (x .least) (p .tables .low) (omega arith) (omega (arith, p .room)) (ap (λ (y : Span). y .least) is));
+      high = rw one (filled-next 0 r (λ k. spanOf v n k .past) old-past past r (x .past) (p .tables .high) (omega arith) (omega (arith, p .room-past)) (ap (λ (y : Span). y .past) is));
     };
   }
     where
+      one : r + 1 ≡ suc r
+      one = omega arith
+
       is : x ≡ spanOf v n r
       is = span-here v n old-least old-past least past r p more row this-row x given
 

@@ -7,6 +7,7 @@ use lib.Dec.{ltb, leb, eqb}
 use lib.ListN.{length, getD}
 use Rattle.prelude.specs.Choice.{choose, _also_}
 use Rattle.prelude.specs.Rec.{rec}
+use Rattle.prelude.specs.Cells.{Filled}
 use Rattle.image.specs.declared.Row.{Row}
 use Rattle.image.specs.Rows.{rowAt, rowsOf}
 use Rattle.frames.specs.Variables.{isGlobal}
@@ -74,9 +75,5 @@ spanIn least past k =
 
 -- the tables hold the spans of the first m nodes; every other cell is as it was
 pub record Spans (span : ℕ → Span) (m : ℕ) (old-least old-past least past : List ℕ) : Type 0 where
-  pub cells : length least ≡ length old-least
-  pub cells-past : length past ≡ length old-past
-  pub low : (k : ℕ) → k < m → getD least k 0 ≡ span k .least
-  pub high : (k : ℕ) → k < m → getD past k 0 ≡ span k .past
-  pub rest : (k : ℕ) → m ≤ k → getD least k 0 ≡ getD old-least k 0
-  pub rest-past : (k : ℕ) → m ≤ k → getD past k 0 ≡ getD old-past k 0
+  pub low : Filled 0 m (λ k. span k .least) old-least least
+  pub high : Filled 0 m (λ k. span k .past) old-past past

@@ -11,8 +11,8 @@ use Rattle.frames.specs.Variables.{globalsOf}
 use Rattle.frames.specs.Procedures.{claimedBy, firstFrom, firstVariable}
 use Rattle.frames.proofs.Claiming.{globals-within}
 use Rattle.places.specs.Places.{Firsts}
-use Rattle.places.specs.Filling.{Filled}
-use Rattle.places.proofs.Cells.{filled-none, filled-next}
+use Rattle.prelude.specs.Cells.{Filled}
+use Rattle.prelude.proofs.Cells.{filled-none, filled-next}
 
 -- ---- first variables
 

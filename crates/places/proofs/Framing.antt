@@ -11,7 +11,8 @@ use Rattle.image.specs.Rows.{rowAt, rowsOf}
 use Rattle.frames.specs.Procedures.{claimedBy, firstVariable}
 use Rattle.frames.proofs.Claiming.{globals-within}
 use Rattle.places.specs.Places.{roomBy}
-use Rattle.places.specs.Filling.{held, Filled, VariablesFit, FramesFit, Framed}
+use Rattle.places.specs.Filling.{held, VariablesFit, FramesFit, Framed}
+use Rattle.prelude.specs.Cells.{Filled}
 use Rattle.places.proofs.Rooms.{room-agree}
 use Rattle.places.proofs.Counting.{first-none, first-next, first-grows, first-up}
 

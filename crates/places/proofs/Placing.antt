@@ -14,7 +14,8 @@ use Rattle.frames.specs.Procedures.{claimedBy, firstVariable}
 use Rattle.frames.proofs.Accepted.{variables-kept}
 use Rattle.frames.proofs.Claiming.{globals-within}
 use Rattle.places.specs.Places.{roomBy, roomFrom, globalCells, frameSize, Firsts, Places}
-use Rattle.places.specs.Filling.{held, Filled, VariablesFit, FramesFit, Framed, PlacesFit}
+use Rattle.places.specs.Filling.{held, VariablesFit, FramesFit, Framed, PlacesFit}
+use Rattle.prelude.specs.Cells.{Filled}
 use Rattle.places.proofs.Cells.{lent-cell, put-length, put-below, put-cell}
 use Rattle.places.proofs.Counting.{first-none, first-grows}
 use Rattle.places.proofs.Framing.{fit-same, room-same}

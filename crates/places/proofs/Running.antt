@@ -6,8 +6,9 @@ use native.Mathlib.Omega.{arith}
 use lib.ListN.{length, set}
 use Rattle.image.specs.Rows.{rowAt, rowsOf}
 use Rattle.places.specs.Places.{widthBy, roomBy}
-use Rattle.places.specs.Filling.{held, Filled, VariablesFit}
-use Rattle.places.proofs.Cells.{filled-none, filled-next}
+use Rattle.places.specs.Filling.{held, VariablesFit}
+use Rattle.prelude.specs.Cells.{Filled}
+use Rattle.prelude.proofs.Cells.{filled-none, filled-next}
 use Rattle.places.proofs.Rooms.{width-small, width-agree, room-more, room-small}
 
 -- the places of j variables are written

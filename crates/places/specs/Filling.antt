@@ -15,13 +15,6 @@ use Rattle.places.specs.Places.{roomBy}
 abbrev pub held : List ℕ → ℕ → ℕ
 held plan r = getD plan r 0
 
--- n cells from cell `from` on hold g 0, g 1 and so on, and nothing else is written
-pub record Filled (from n : ℕ) (g : ℕ → ℕ) (old plan : List ℕ) : Type 0 where
-  pub cells : length plan ≡ length old
-  pub cell : (j : ℕ) → j < n → getD plan (from + j) 0 ≡ g j
-  pub below : (i : ℕ) → i < from → getD plan i 0 ≡ getD old i 0
-  pub above : (i : ℕ) → from + n ≤ i → getD plan i 0 ≡ getD old i 0
-
 -- the variables have types below 64, whose sizes in the plan do not exceed 4,096
 pub record VariablesFit (v plan : List ℕ) : Type 0 where
   pub few : rowsOf v ≤ 256

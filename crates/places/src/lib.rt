@@ -4,7 +4,8 @@ ghost use Prim.Native.Nat.{_+_, _≤_, _<_};
 ghost use lib.ListN.{length};
 ghost use Rattle.image.specs.Rows.{rowsOf};
 ghost use Rattle.places.specs.Places.{widthBy, roomBy, Firsts, Places};
-ghost use Rattle.places.specs.Filling.{held, Filled, VariablesFit, FramesFit, Framed, PlacesFit};
+ghost use Rattle.places.specs.Filling.{held, VariablesFit, FramesFit, Framed, PlacesFit};
+ghost use Rattle.prelude.specs.Cells.{Filled};
 
 // The first variable of each procedure, and the row behind the last procedure's variables.
 pub fn first_variables(v: &[u8], p: &[u8], firsts: &mut [u32])

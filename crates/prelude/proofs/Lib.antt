@@ -1,3 +1,4 @@
 pub mod Choice
 pub mod Rec
 pub mod Parts
+pub mod Cells

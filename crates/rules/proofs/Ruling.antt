@@ -114,8 +114,8 @@ zeros n = length-replicate {A = ℕ} n 0
 pub room : (span : ℕ → Span) (m nodes : ℕ) (old-least old-past least past : List ℕ) → Spans span m old-least old-past least past
     → length old-least ≡ 2048 → length old-past ≡ 2048 → nodes ≤ 2048 → (nodes ≤ length least) × (nodes ≤ length past)
 room span m nodes old-least old-past least past tables a b h =
-    let c = tables .cells in
-    let d = tables .cells-past in
+    let c = tables .low .cells in
+    let d = tables .high .cells in
     (omega arith, omega arith)
 
 pub ready : (v p n s old-least old-past least past old firsts : List ℕ) (nodes : ℕ) → RowsFit v p n s → nodes ≡ rowsOf n

@@ -5,8 +5,8 @@ use Prim.Native.Nat.{ℕ, zero, suc, _+_, _-_, _≤_, _<_}
 use native.Mathlib.Omega.{arith}
 use native.Mathlib.Decide.{decLt}
 use lib.ListN.{length, getD, set, length-set}
-use lib.Seq.{getD-set-same, getD-set-other}
 use Rattle.prelude.specs.Parts.{sum}
+use Rattle.prelude.proofs.Cells.{filled-none, filled-next}
 use Rattle.image.specs.Rows.{rowAt}
 use Rattle.shapes.specs.Forms.{ownTypes}
 use Rattle.types.specs.Filling.{OffsetsFit, Offsets}
@@ -30,25 +30,18 @@ module _ (f : List ℕ) (k at : ℕ) (old : List ℕ) where
   abbrev held : ℕ → ℕ
   held r = getD old r 0
 
+  abbrev places : ℕ → ℕ
+  places j = at + sum (map held (ownTypes f k j))
+
   pub offsets-none : Offsets f k 0 at old old
-  offsets-none = record { cells = refl; place = λ j h. absurd (omega arith); below = λ i h. refl; above = λ i h. refl }
+  offsets-none = filled-none (128 + k) places old
 
   -- one place more, at field row i
   pub offsets-next : (i place : ℕ) (plan : List ℕ) → k ≤ i → Offsets f k (i - k) at old plan → 128 + i < length plan
       → place ≡ at + sum (map held (ownTypes f k (i - k))) → Offsets f k (i + 1 - k) at old (set plan (128 + i) place)
-  offsets-next i place plan low o room e = record {
-    cells = length-set plan (128 + i) place ∙ o .cells;
-    place = λ j h. go j (decLt j (i - k)) h;
-    below = λ x h. getD-set-other plan (128 + i) x place 0 (omega arith) ∙ o .below x h;
-    above = λ x h. getD-set-other plan (128 + i) x place 0 (omega arith) ∙ o .above x (omega arith);
-  }
-    where
-      go : (j : ℕ) → Dec (j < i - k) → j < i + 1 - k → getD (set plan (128 + i) place) (128 + (k + j)) 0 ≡ at + sum (map held (ownTypes f k j))
-      go j (yes l) h = getD-set-other plan (128 + i) (128 + (k + j)) place 0 (omega arith) ∙ o .place j l
-      go j (no l) h =
-          let q : i - k ≡ j = omega arith in
-          let here : 128 + (k + j) ≡ 128 + i = omega arith in
-          rw here (getD-set-same plan (128 + i) place 0 room ∙ rw q at e)
+  offsets-next i place plan low o room e =
+      let one : i + 1 - k ≡ suc (i - k) = omega arith in
+      rw one (filled-next (128 + k) (i - k) places old plan (128 + i) place o (omega arith) room e)
 
 -- what a turn of the loop has: room for the place, and the next place, which is small
 pub record Turn (f : List ℕ) (k at : ℕ) (old : List ℕ) (i place size : ℕ) (plan : List ℕ) : Type 0 where

@@ -221,6 +221,10 @@ module _ (t f plan : List ℕ) (used r : ℕ) (row : Row) (size : ℕ) (ready : 
             let same = o .cells in
             rw e (getD-set-other (set q (64 + r) above) r (64 + r) size 0 (omega arith) ∙ getD-set-same q (64 + r) above 0 (omega arith) ∙ count)
 
+    field-place : (j : ℕ) → j < countOf (formOf row)
+        → getD q (128 + (used + j)) 0 ≡ ofBase 0 held (baseOf (formOf row)) + sum (map held (ownTypes f used j))
+    field-place j h = let at : 128 + used + j ≡ 128 + (used + j) = omega arith in rw at at (o .cell j h)
+
     own-place : (base first n j : ℕ) → form t r ≡ recordOf base first n → j < n → getD next (128 + (first + j)) 0 ≡ ownOffset t f base first j
     unfolding ownOffset baseOf countOf
     own-place base first n j e h =
@@ -230,7 +234,7 @@ module _ (t f plan : List ℕ) (used r : ℕ) (row : Row) (size : ℕ) (ready : 
         let own = fields-agree f held (sizeOf t f) r first j (record { each = λ k low high. is .own .each k low (omega arith) }) held-is in
         let base-size : ofBase 0 held (baseOf (formOf row)) ≡ ofBase 0 (sizeOf t f) base = base-is ∙ ap (λ x. ofBase 0 (sizeOf t f) (baseOf x)) e in
         other (128 + (first + j)) (omega arith) (omega arith)
-        ∙ rw (is .claims) (o .place j few ∙ rw (base-size, ← is .claims, own))
+        ∙ rw (is .claims) (field-place j few ∙ rw (base-size, ← is .claims, own))
 
     next-offset : (x base first n j : ℕ) → x < r + 1 → form t x ≡ recordOf base first n → j < n
         → getD next (128 + (first + j)) 0 ≡ ownOffset t f base first j
@@ -257,7 +261,7 @@ module _ (t f plan : List ℕ) (used r : ℕ) (row : Row) (size : ℕ) (ready : 
       cells = simp length-set (o .cells);
       sizes = λ i low high. other i (omega arith) (omega arith) ∙ o .below i (omega arith);
       inherited = λ i low high. other i (omega arith) (omega arith) ∙ o .below i (omega arith);
-      offsets = λ i low. other i (beyond i low) (beyond-too i low) ∙ o .above i (far i low);
+      offsets = λ i low. other i (beyond i low) (beyond-too i low) ∙ o .above i (let up = far i low in omega arith);
     }
       where
         far : (i : ℕ) → 128 + usedBelow t (r + 1) ≤ i → 128 + (used + countOf (formOf row)) ≤ i

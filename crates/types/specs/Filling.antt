@@ -5,6 +5,7 @@ use mathlib.Core.Bool.{true}
 use mathlib.Core.List.{List, map}
 use lib.ListN.{length, getD}
 use Rattle.prelude.specs.Parts.{sum}
+use Rattle.prelude.specs.Cells.{Filled}
 use Rattle.image.specs.declared.Row.{Row}
 use Rattle.image.specs.Rows.{rowAt, rowsOf}
 use Rattle.image.specs.Faults.{KeptIn}
@@ -20,11 +21,8 @@ pub record OffsetsFit (f plan : List ℕ) (k n at : ℕ) : Type 0 where
   pub total : at + sum (map (λ r. getD plan r 0) (ownTypes f k n)) ≤ 4096
 
 -- their places are written, and nothing else
-pub record Offsets (f : List ℕ) (k n at : ℕ) (old plan : List ℕ) : Type 0 where
-  pub cells : length plan ≡ length old
-  pub place : (j : ℕ) → j < n → getD plan (128 + (k + j)) 0 ≡ at + sum (map (λ r. getD old r 0) (ownTypes f k j))
-  pub below : (i : ℕ) → i < 128 + k → getD plan i 0 ≡ getD old i 0
-  pub above : (i : ℕ) → 128 + (k + n) ≤ i → getD plan i 0 ≡ getD old i 0
+abbrev pub Offsets : List ℕ → ℕ → ℕ → ℕ → List ℕ → List ℕ → Type 0
+Offsets f k n at old plan = Filled (128 + k) n (λ j. at + sum (map (λ r. getD old r 0) (ownTypes f k j))) old plan
 
 -- type row r keeps its rule, and the plan holds what it does of the rows below
 pub record Ready (t f plan : List ℕ) (used r : ℕ) (row : Row) (size : ℕ) : Type 0 where

@@ -70,10 +70,10 @@ loop-again c = let l = c .before .before .before .before .before .loop in
     spanned-next _ _ _ _ _ _ _ (l .inv) more _ (c .before .before .before .row-at .ensures) _ (c .node-span .ensures)
 
 same-length : tie.Need-same-length Inv-loop μ-loop
-same-length c = c .before .loop .inv .tables .cells
+same-length c = c .before .loop .inv .tables .low .cells
 
 same-length-2 : tie.Need-same-length-2 Inv-loop μ-loop
-same-length-2 c = c .before .loop .inv .tables .cells-past
+same-length-2 c = c .before .loop .inv .tables .high .cells
 
 returns : tie.Need-returns Inv-loop μ-loop
 returns c = spanned-all _ _ _ _ _ _ _ (c .before .loop .inv) (rw (c .before .before .rows-of .ensures) at (c .loop-test .left))
