@@ -2,8 +2,9 @@
 use mathlib.Core.Path.{_≡_, refl, sym, _∙_, ap}
 use mathlib.Core.Bool.{Bool, true, false}
 use mathlib.Core.List.{List}
-use Prim.Native.Nat.{ℕ, _<_}
+use Prim.Native.Nat.{ℕ, zero, suc, _≤_, _<_}
 use native.Mathlib.Omega.{arith}
+use native.Mathlib.Decide.{decLt}
 use borrow.Author.Tests.{eqb-true}
 use lib.Dec.{eqb}
 use Rattle.prelude.specs.Choice.{choose}
@@ -24,9 +25,16 @@ use Rattle.relations.specs.Fields.{fieldOf}
 use Rattle.nodes.specs.Nodes.{question7}
 use Rattle.nodes.proofs.Accepted.{NodeRow, NodeRow.is-constant, NodeRow.is-variable, NodeRow.is-field, NodeRow.is-element}
 use Rattle.nodes.proofs.Accepted.{NodeRow.is-guard, NodeRow.is-dyadic, NodeRow.is-monadic, NodeRow.is-test, NodeRow.is-argument}
-use Rattle.nodes.proofs.Accepted.{nodes-kept}
+use Rattle.nodes.proofs.Accepted.{nodes-kept, constant-is, variable-is, field-is, element-is, guard-is, argument-is}
+use Rattle.types.specs.Question.{question4}
+use Rattle.types.proofs.Accepted.{types-kept}
+use Rattle.shapes.proofs.Accepted.{TypesKept}
+use Rattle.frames.specs.Variables.{question5}
+use Rattle.frames.proofs.Accepted.{variables-kept}
 use Rattle.typing.specs.Typing.{typed, variableNode, fieldType, fieldNode, elementType, elementNode, narrows, narrowNode}
 use Rattle.typing.specs.Typing.{dyadicNode, monadicNode, typeBy, typeOf, hasType, question10}
+use Rattle.typing.proofs.Passing.{type-missing}
+use Rattle.typing.proofs.Lower.{dyadic-low, monadic-low, field-row, element-row}
 
 -- ---- the types that the kinds ask for
 
@@ -229,3 +237,34 @@ nodes-typed t f v n e r h = has-type (typeOf t f v n r) (verdict-kept _ (rowsOf 
 pub node-typed : (t f v n : List ℕ) → question7 t v n ≡ Kept → question10 t f v n ≡ Kept → (r : ℕ) → r < rowsOf n
     → (x : ℕ) × NodeTyped t f v n r x × (typeOf t f v n r ≡ Kind x)
 node-typed t f v n formed e r h = let (x, type) = nodes-typed t f v n e r h in (x, typed-node t f v n formed r h type, type)
+
+-- ---- a node's type is a type row
+
+module _ (t f v n : List ℕ) (types : TypesKept t f) (scalars : 3 ≤ rowsOf t) (variables : question5 t v ≡ Kept) (nodes : question7 t v n ≡ Kept) where
+  low-node : (r x : ℕ) → r < rowsOf n → ((k : ℕ) → k < r → (y : ℕ) → typeOf t f v n k ≡ Kind y → y < rowsOf t) → NodeTyped t f v n r x
+      → x < rowsOf t
+  low-node r x h ih (by-constant k e) = let low = constant-is t v n nodes r h k .typed in omega arith
+  low-node r x h ih (by-variable k e) = rw e (variables-kept t v variables (rowAt n r .a) (variable-is t v n nodes r h k .variable) .typed)
+  low-node r x h ih (by-field k e) =
+      field-row t f types (e .whole) (rowAt n r .b) (e .at) x (ih (rowAt n r .a) (field-is t v n nodes r h k .whole .low) (e .whole) (e .whole-type)) (e .field)
+  low-node r x h ih (by-element k e) =
+      rw (e .element)
+      (element-row t f types (e .whole) (ih (rowAt n r .a) (element-is t v n nodes r h k .whole .low) (e .whole) (e .whole-type)) (e .array))
+  low-node r x h ih (by-guard k e) = rw (e .guarded) (guard-is t v n nodes r h k .typed)
+  low-node r x h ih (by-dyadic k e) = let low = dyadic-low (rowAt n r .c) (e .left) (e .right) x (e .result) in omega arith
+  low-node r x h ih (by-monadic k e) = let low = monadic-low (rowAt n r .c) (e .operand) x (e .result) in omega arith
+  low-node r x h ih (by-test k e) = let zero-row = e .boolean in omega arith
+  low-node r x h ih (by-argument k e) = ih (rowAt n r .a) (argument-is t v n nodes r h k .holds .low) x e
+
+  low-by : (m r : ℕ) → r < m → (x : ℕ) → typeOf t f v n r ≡ Kind x → x < rowsOf t
+  low-by zero r less x type = absurd (omega arith)
+  low-by (suc m) r less x type = go (decLt r (rowsOf n)) (λ k low. low-by m k (omega arith))
+    where
+      go : Dec (r < rowsOf n) → ((k : ℕ) → k < r → (y : ℕ) → typeOf t f v n k ≡ Kind y → y < rowsOf t) → x < rowsOf t
+      go (yes h) ih = low-node r x h ih (typed-node t f v n nodes r h type)
+      go (no h) ih = no-kind (sym (type-missing t f v n r (omega arith)) ∙ type)
+
+pub type-low : (t f v n : List ℕ) → question4 t f ≡ Kept → 3 ≤ rowsOf t → question5 t v ≡ Kept → question7 t v n ≡ Kept
+    → (r x : ℕ) → typeOf t f v n r ≡ Kind x → x < rowsOf t
+type-low t f v n types scalars variables nodes r x =
+    low-by t f v n (types-kept t f types) scalars variables nodes (suc r) r (omega arith) x
