@@ -1,6 +1,6 @@
 -- What question 11 says of an accepted statement row.
 use mathlib.Core.Path.{_≡_, refl, sym, _∙_, ap}
-use mathlib.Core.Bool.{Bool, true, false}
+use mathlib.Core.Bool.{Bool, true}
 use mathlib.Core.List.{List}
 use Prim.Native.Nat.{ℕ, _+_, _<_}
 use native.Mathlib.Omega.{arith}
@@ -18,13 +18,14 @@ use Rattle.relations.specs.Extends.{extends}
 use Rattle.frames.specs.Procedures.{firstVariable}
 use Rattle.nodes.specs.Nodes.{isDesignator}
 use Rattle.statements.specs.Statements.{procedureAt, question8}
-use Rattle.statements.proofs.Accepted.{StatementRow, StatementRow.is-assign, StatementRow.is-call, StatementRow.is-jump}
-use Rattle.statements.proofs.Accepted.{StatementRow.is-goto, StatementRow.is-return, StatementRow.is-read, StatementRow.is-write}
-use Rattle.statements.proofs.Accepted.{StatementRow.is-halt, statements-kept}
+use Rattle.statements.proofs.Accepted.{StatementRow, StatementRow.is-assign, StatementRow.is-call}
+use Rattle.statements.proofs.Accepted.{StatementRow.is-jump, StatementRow.is-goto, StatementRow.is-return}
+use Rattle.statements.proofs.Accepted.{StatementRow.is-read, StatementRow.is-write, StatementRow.is-halt}
+use Rattle.statements.proofs.Accepted.{statements-kept}
 use Rattle.typing.specs.Typing.{typeOf}
 use Rattle.owners.specs.Owners.{ownBelow}
-use Rattle.rules.specs.Rules.{isType, assignable, assignRule, formRule, argumentRule, callRule, typeRule, haltRule}
-use Rattle.rules.specs.Rules.{ruleBy, statementRule, rulesBy, question11}
+use Rattle.rules.specs.Rules.{isType, assignable, assignRule, formRule, argumentRule, callRule, typeRule}
+use Rattle.rules.specs.Rules.{haltRule, ruleBy, statementRule, rulesBy, question11}
 
 -- ---- a row of each kind, in the body of procedure q
 
@@ -142,7 +143,9 @@ module _ (t f v p n : List ℕ) (q : ℕ) where
 
   value-there : (row : Row) (x : ℕ) → typeRule types own row x ≡ true → ValueRuled t f v p n q row x
   unfolding typeRule
-  value-there row x e = let (type, mine) = also-true _ _ e in record { type = type-there (types (row .a)) x type; own = mine }
+  value-there row x e =
+      let (type, mine) = also-true _ _ e in
+      record { type = type-there (types (row .a)) x type; own = mine }
 
   halt-there : (row : Row) → haltRule n types own row ≡ true → HaltRuled t f v p n q row
   unfolding haltRule

@@ -23,16 +23,17 @@ use Rattle.relations.specs.declared.FieldAnswer.the-variants.{Missing, Field}
 use Rattle.relations.specs.Extends.{extends}
 use Rattle.relations.specs.Fields.{fieldOf}
 use Rattle.nodes.specs.Nodes.{question7}
-use Rattle.nodes.proofs.Accepted.{NodeRow, NodeRow.is-constant, NodeRow.is-variable, NodeRow.is-field, NodeRow.is-element}
-use Rattle.nodes.proofs.Accepted.{NodeRow.is-guard, NodeRow.is-dyadic, NodeRow.is-monadic, NodeRow.is-test, NodeRow.is-argument}
+use Rattle.nodes.proofs.Accepted.{NodeRow, NodeRow.is-constant, NodeRow.is-variable, NodeRow.is-field}
+use Rattle.nodes.proofs.Accepted.{NodeRow.is-element, NodeRow.is-guard, NodeRow.is-dyadic, NodeRow.is-monadic}
+use Rattle.nodes.proofs.Accepted.{NodeRow.is-test, NodeRow.is-argument}
 use Rattle.nodes.proofs.Accepted.{nodes-kept, constant-is, variable-is, field-is, element-is, guard-is, argument-is}
 use Rattle.types.specs.Question.{question4}
 use Rattle.types.proofs.Accepted.{types-kept}
 use Rattle.shapes.proofs.Accepted.{TypesKept}
 use Rattle.frames.specs.Variables.{question5}
 use Rattle.frames.proofs.Accepted.{variables-kept}
-use Rattle.typing.specs.Typing.{typed, variableNode, fieldType, fieldNode, elementType, elementNode, narrows, narrowNode}
-use Rattle.typing.specs.Typing.{dyadicNode, monadicNode, typeBy, typeOf, hasType, question10}
+use Rattle.typing.specs.Typing.{typed, variableNode, fieldType, fieldNode, elementType, elementNode, narrows}
+use Rattle.typing.specs.Typing.{narrowNode, dyadicNode, monadicNode, typeBy, typeOf, hasType, question10}
 use Rattle.typing.proofs.Passing.{type-missing}
 use Rattle.typing.proofs.Lower.{dyadic-low, monadic-low, field-row, element-row}
 
@@ -102,7 +103,8 @@ unfolding hasType
 has-type Untyped e = clash (sym e)
 has-type (Kind x) e = (x, refl)
 
-typed-is : (a : KindAnswer) (next : ℕ → KindAnswer) {x : ℕ} → typed a next ≡ Kind x → (k : ℕ) × (a ≡ Kind k) × (next k ≡ Kind x)
+typed-is : (a : KindAnswer) (next : ℕ → KindAnswer) {x : ℕ} → typed a next ≡ Kind x
+    → (k : ℕ) × (a ≡ Kind k) × (next k ≡ Kind x)
 unfolding typed
 typed-is Untyped next e = no-kind e
 typed-is (Kind k) next e = (k, refl, e)
@@ -142,7 +144,8 @@ narrow-there t v row given e =
 -- ---- a node's type from its children's, which stand in lower rows
 
 module _ (t f v n : List ℕ) (r : ℕ) (g h : ℕ → KindAnswer) (same : (k : ℕ) → k < r → g k ≡ h k) where
-  type-agree : NodeRow t v n r → typeBy t f v g (rowAt n r .kind) (rowAt n r) ≡ typeBy t f v h (rowAt n r .kind) (rowAt n r)
+  type-agree : NodeRow t v n r
+      → typeBy t f v g (rowAt n r .kind) (rowAt n r) ≡ typeBy t f v h (rowAt n r .kind) (rowAt n r)
   unfolding typeBy choose fieldNode elementNode dyadicNode monadicNode
   type-agree (is-constant z k c) = rw k
   type-agree (is-variable z k c) = rw k
@@ -187,11 +190,14 @@ module _ (t f v n : List ℕ) (kept : question7 t v n ≡ Kept) (r : ℕ) (h : r
         let (w, whole, e) = typed-is (typeOf t f v n (rowAt n r .a)) _ (given 3 k) in
         let (i, index, e₁) = typed-is (typeOf t f v n (rowAt n r .b)) _ e in
         let (array, integer, element) = element-there (rowAt t w) i e₁ in
-        record { whole = w; whole-type = whole; array = array; element = element; index-type = index ∙ ap Kind integer }
+        let integer-index = index ∙ ap Kind integer in
+        record { whole = w; whole-type = whole; array = array; element = element; index-type = integer-index }
 
     pub guard-typed : rowAt n r .kind ≡ 4 → GuardTyped t v n r x
     unfolding typeBy choose
-    guard-typed k = let (narrowing, guarded) = narrow-there t v (rowAt n r) _ (given 4 k) in record { narrowing = narrowing; guarded = guarded }
+    guard-typed k =
+        let (narrowing, guarded) = narrow-there t v (rowAt n r) _ (given 4 k) in
+        record { narrowing = narrowing; guarded = guarded }
 
     pub dyadic-typed : rowAt n r .kind ≡ 5 → DyadicTyped t f v n r x
     unfolding typeBy choose dyadicNode
@@ -208,7 +214,9 @@ module _ (t f v n : List ℕ) (kept : question7 t v n ≡ Kept) (r : ℕ) (h : r
 
     pub test-typed : rowAt n r .kind ≡ 7 → TestTyped t v n r x
     unfolding typeBy choose
-    test-typed k = let (narrowing, boolean) = narrow-there t v (rowAt n r) _ (given 7 k) in record { narrowing = narrowing; boolean = boolean }
+    test-typed k =
+        let (narrowing, boolean) = narrow-there t v (rowAt n r) _ (given 7 k) in
+        record { narrowing = narrowing; boolean = boolean }
 
     pub argument-typed : rowAt n r .kind ≡ 8 → typeOf t f v n (rowAt n r .a) ≡ Kind x
     unfolding typeBy choose
@@ -230,28 +238,40 @@ module _ (t f v n : List ℕ) (kept : question7 t v n ≡ Kept) (r : ℕ) (h : r
 
 -- ---- the whole table
 
-pub nodes-typed : (t f v n : List ℕ) → question10 t f v n ≡ Kept → (r : ℕ) → r < rowsOf n → (x : ℕ) × (typeOf t f v n r ≡ Kind x)
+pub nodes-typed : (t f v n : List ℕ) → question10 t f v n ≡ Kept → (r : ℕ) → r < rowsOf n
+    → (x : ℕ) × (typeOf t f v n r ≡ Kind x)
 unfolding question10
 nodes-typed t f v n e r h = has-type (typeOf t f v n r) (verdict-kept _ (rowsOf n) e r h)
 
 pub node-typed : (t f v n : List ℕ) → question7 t v n ≡ Kept → question10 t f v n ≡ Kept → (r : ℕ) → r < rowsOf n
     → (x : ℕ) × NodeTyped t f v n r x × (typeOf t f v n r ≡ Kind x)
-node-typed t f v n formed e r h = let (x, type) = nodes-typed t f v n e r h in (x, typed-node t f v n formed r h type, type)
+node-typed t f v n formed e r h =
+    let (x, type) = nodes-typed t f v n e r h in
+    (x, typed-node t f v n formed r h type, type)
 
 -- ---- a node's type is a type row
 
-module _ (t f v n : List ℕ) (types : TypesKept t f) (scalars : 3 ≤ rowsOf t) (variables : question5 t v ≡ Kept) (nodes : question7 t v n ≡ Kept) where
-  low-node : (r x : ℕ) → r < rowsOf n → ((k : ℕ) → k < r → (y : ℕ) → typeOf t f v n k ≡ Kind y → y < rowsOf t) → NodeTyped t f v n r x
-      → x < rowsOf t
+module _ (t f v n : List ℕ) (types : TypesKept t f) (scalars : 3 ≤ rowsOf t) (variables : question5 t v ≡ Kept)
+    (nodes : question7 t v n ≡ Kept) where
+  low-node : (r x : ℕ) → r < rowsOf n
+      → ((k : ℕ) → k < r → (y : ℕ) → typeOf t f v n k ≡ Kind y → y < rowsOf t)
+      → NodeTyped t f v n r x → x < rowsOf t
   low-node r x h ih (by-constant k e) = let low = constant-is t v n nodes r h k .typed in omega arith
-  low-node r x h ih (by-variable k e) = rw e (variables-kept t v variables (rowAt n r .a) (variable-is t v n nodes r h k .variable) .typed)
+  low-node r x h ih (by-variable k e) =
+      let there = variable-is t v n nodes r h k .variable in
+      rw e (variables-kept t v variables (rowAt n r .a) there .typed)
   low-node r x h ih (by-field k e) =
-      field-row t f types (e .whole) (rowAt n r .b) (e .at) x (ih (rowAt n r .a) (field-is t v n nodes r h k .whole .low) (e .whole) (e .whole-type)) (e .field)
+      let low = field-is t v n nodes r h k .whole .low in
+      let whole = ih (rowAt n r .a) low (e .whole) (e .whole-type) in
+      field-row t f types (e .whole) (rowAt n r .b) (e .at) x whole (e .field)
   low-node r x h ih (by-element k e) =
-      rw (e .element)
-      (element-row t f types (e .whole) (ih (rowAt n r .a) (element-is t v n nodes r h k .whole .low) (e .whole) (e .whole-type)) (e .array))
+      let low = element-is t v n nodes r h k .whole .low in
+      let whole = ih (rowAt n r .a) low (e .whole) (e .whole-type) in
+      rw (e .element) (element-row t f types (e .whole) whole (e .array))
   low-node r x h ih (by-guard k e) = rw (e .guarded) (guard-is t v n nodes r h k .typed)
-  low-node r x h ih (by-dyadic k e) = let low = dyadic-low (rowAt n r .c) (e .left) (e .right) x (e .result) in omega arith
+  low-node r x h ih (by-dyadic k e) =
+      let low = dyadic-low (rowAt n r .c) (e .left) (e .right) x (e .result) in
+      omega arith
   low-node r x h ih (by-monadic k e) = let low = monadic-low (rowAt n r .c) (e .operand) x (e .result) in omega arith
   low-node r x h ih (by-test k e) = let zero-row = e .boolean in omega arith
   low-node r x h ih (by-argument k e) = ih (rowAt n r .a) (argument-is t v n nodes r h k .holds .low) x e

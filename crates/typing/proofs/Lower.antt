@@ -1,5 +1,5 @@
 -- The types of fields and elements and those that operators give are rows of the types table.
-use mathlib.Core.Path.{_≡_, refl, sym, _∙_, ap}
+use mathlib.Core.Path.{_≡_, refl, sym}
 use mathlib.Core.Bool.{Bool, true, false, _&&_}
 use mathlib.Core.List.{List, [], _∷_, _++_}
 use Prim.Native.Nat.{ℕ, zero, suc, _+_, _≤_, _<_}
@@ -14,12 +14,11 @@ use Rattle.values.specs.Values.{BOOLEAN, INTEGER, SET}
 use Rattle.kinds.specs.Kinds.{integersKind, setsKind, booleansKind, dyadicKind, monadicKind}
 use Rattle.kinds.specs.declared.KindAnswer.{KindAnswer}
 use Rattle.kinds.specs.declared.KindAnswer.the-variants.{Untyped, Kind}
-use Rattle.shapes.specs.Forms.{Form, form, formOf, ofBase, ownTypes}
+use Rattle.shapes.specs.Forms.{Form, form, ofBase, ownTypes}
 use Rattle.shapes.specs.Sizes.{fieldsBy, fieldsOf}
 use Rattle.shapes.proofs.Rows.{form-array}
-use Rattle.shapes.proofs.Accepted.{Based, Based.no-base, Based.on-base, Shape, Shape.is-scalar, Shape.is-array, Shape.is-record}
-use Rattle.shapes.proofs.Accepted.{TypesKept, field-low, array-is, fields-are}
-use Rattle.relations.specs.declared.FieldAnswer.{FieldAnswer}
+use Rattle.shapes.proofs.Accepted.{Based, Based.no-base, Based.on-base, Shape, Shape.is-scalar, Shape.is-array}
+use Rattle.shapes.proofs.Accepted.{Shape.is-record, TypesKept, field-low, array-is, fields-are}
 use Rattle.relations.specs.declared.FieldAnswer.the-variants.{Missing, Field}
 use Rattle.relations.specs.Fields.{fieldOf}
 
@@ -46,7 +45,9 @@ module _ {m : ℕ} where
 
 booleans-low : (op : ℕ) → Low 3 (booleansKind op)
 unfolding booleansKind
-booleans-low op = either _ (low-kind 3 BOOLEAN (omega arith)) (either _ (low-kind 3 BOOLEAN (omega arith)) (low-none 3))
+booleans-low op =
+    either _ (low-kind 3 BOOLEAN (omega arith))
+    (either _ (low-kind 3 BOOLEAN (omega arith)) (low-none 3))
 
 integers-low : (op : ℕ) → Low 3 (integersKind op)
 unfolding integersKind
@@ -103,7 +104,9 @@ below-at (more p q) (suc k) h = below-at q k (omega arith)
 own-below : (f : List ℕ) (m n k : ℕ) → ((j : ℕ) → k ≤ j → j < k + n → rowAt f j .a < m) → Below m (ownTypes f k n)
 unfolding ownTypes
 own-below f m zero k h = none
-own-below f m (suc n) k h = more (h k (omega arith) (omega arith)) (own-below f m n (k + 1) (λ j low high. h j (omega arith) (omega arith)))
+own-below f m (suc n) k h =
+    more (h k (omega arith) (omega arith))
+    (own-below f m n (k + 1) (λ j low high. h j (omega arith) (omega arith)))
 
 module _ (t f : List ℕ) (m r : ℕ) (room : r < m) (ih : (b : ℕ) → b < r → Below m (fieldsOf t f b)) where
   base-below : {a : ℕ} → Based t r a → Below m (ofBase [] (fieldsOf t f) a)
@@ -119,6 +122,11 @@ module _ (t f : List ℕ) (m r : ℕ) (room : r < m) (ih : (b : ℕ) → b < r �
       below-append (base-below base)
       (own-below f m c used (λ j low high. let h = field-low f r j (kept .each j low high) in omega arith))
 
+field-known : (b : Bool) (at type at′ x : ℕ) → choose b (Field at type) Missing ≡ Field at′ x → (b ≡ true) × (x ≡ type)
+unfolding choose
+field-known true at type at′ x e = let q : x ≡ type = cc in (refl, q)
+field-known false at type at′ x e = let z : _≡_ {A = ℕ} 0 1 = cc in absurd (omega arith)
+
 module _ (t f : List ℕ) (kept : TypesKept t f) where
   fields-below : (n r : ℕ) → r < n → r < rowsOf t → Below (rowsOf t) (fieldsOf t f r)
   fields-below zero r h low = absurd (omega arith)
@@ -127,20 +135,16 @@ module _ (t f : List ℕ) (kept : TypesKept t f) where
       rw (fields-are t f r shape)
       (shape-below t f (rowsOf t) r low (λ b less. fields-below n b (omega arith) (omega arith)) shape)
 
-  field-type : (at type : ℕ) → (b : Bool) (l : List ℕ) (n at′ : ℕ) → choose b (Field at′ (getD l n 0)) Missing ≡ Field at type
-      → (b ≡ true) × (type ≡ getD l n 0)
-  unfolding choose
-  field-type at type true l n at′ e = let q : type ≡ getD l n 0 = cc in (refl, q)
-  field-type at type false l n at′ e = let z : _≡_ {A = ℕ} 0 1 = cc in absurd (omega arith)
-
   -- a field's type is a row
   pub field-row : (r n at x : ℕ) → r < rowsOf t → fieldOf t f r n ≡ Field at x → x < rowsOf t
   unfolding fieldOf
   field-row r n at x low e =
-      let (less, type) = field-type at x (ltb n (length (fieldsOf t f r))) (fieldsOf t f r) n _ e in
+      let (less, type) = field-known (ltb n (length (fieldsOf t f r))) _ (getD (fieldsOf t f r) n 0) at x e in
       rw type (below-at (fields-below (suc r) r (omega arith) low) n (ltb-true _ _ less))
 
   -- an element's type is a row
   pub element-row : (r : ℕ) → r < rowsOf t → rowAt t r .kind ≡ 3 → rowAt t r .a < rowsOf t
   unfolding form
-  element-row r low kind = let is = array-is (kept .row r low .shape) (form-array (rowAt t r) kind) .low in omega arith
+  element-row r low kind =
+      let lower = array-is (kept .row r low .shape) (form-array (rowAt t r) kind) .low in
+      omega arith

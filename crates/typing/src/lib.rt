@@ -1,8 +1,8 @@
 // Question 10: the types of the nodes, from the low rows up.
 use image::Row;
 use image::Verdict;
-use relations::FieldAnswer;
 use kinds::KindAnswer;
+use relations::FieldAnswer;
 ghost use mathlib.Core.Path.{_≡_};
 ghost use Prim.Native.Nat.{_≤_};
 ghost use lib.ListN.{length};
