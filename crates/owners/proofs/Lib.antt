@@ -1,2 +1,3 @@
 pub mod Spanning
 pub mod Owning
+pub mod Accepted

@@ -1,2 +1,4 @@
 pub mod Giving
 pub mod Passing
+pub mod Lower
+pub mod Accepted

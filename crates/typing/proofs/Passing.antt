@@ -107,7 +107,7 @@ module _ (t f v n old types : List ℕ) (r : ℕ) (p : Filled t f v n old types 
 -- ---- the whole table
 
 -- a node that is not there has no type
-type-missing : (t f v n : List ℕ) (k : ℕ) → rowsOf n ≤ k → typeOf t f v n k ≡ Untyped
+pub type-missing : (t f v n : List ℕ) (k : ℕ) → rowsOf n ≤ k → typeOf t f v n k ≡ Untyped
 unfolding typeOf typeBy choose
 type-missing t f v n k h =
     rec-eq Untyped (λ type r. typeBy t f v type (rowAt n r .kind) (rowAt n r)) k ∙ rw (row-missing n k h)
