@@ -1,3 +1,4 @@
 pub mod Chain
 pub mod Asking
 pub mod Exactly
+pub mod Accepted
