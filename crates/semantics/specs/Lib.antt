@@ -1,0 +1,5 @@
+pub mod Memory
+pub mod Layout
+pub mod Finding
+pub mod Stepping
+pub mod Running

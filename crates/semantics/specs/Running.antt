@@ -1,0 +1,134 @@
+-- The run of an image and its nine results.
+use Prim.Native.Nat.{ℕ, zero, suc, _+_, _*_}
+use mathlib.Core.Bool.{Bool, true, false}
+use mathlib.Core.List.{List, [], _∷_, _++_, map}
+use lib.Dec.{ltb, leb, eqb}
+use lib.IntN.{ℤ, pos}
+use lib.ListN.{length, drop, replicate}
+use Rattle.prelude.specs.Choice.{choose}
+use Rattle.image.specs.Rows.{rowAt}
+use Rattle.frames.specs.Variables.{globalsOf}
+use Rattle.frames.specs.Procedures.{firstVariable, claimedBy}
+use Rattle.places.specs.Places.{globalCells, frameSize}
+use Rattle.values.specs.Values.{trapNumber}
+use Rattle.checker.specs.Check.{typesIn, fieldsIn, variablesIn, proceduresIn, nodesIn, statementsIn}
+use Rattle.checker.specs.Check.{checkOf, refusalOf, rowOf}
+use Rattle.values.specs.declared.Trap.{Trap}
+use Rattle.semantics.specs.declared.RunResult.{RunResult}
+use Rattle.semantics.specs.Memory.{LINK, Cell, Memory, tagged}
+use Rattle.semantics.specs.Layout.{Program, kindsFrom}
+use Rattle.semantics.specs.Stepping.{State, Next, Next.goes, Next.finished, Next.trapped, Next.stuck, stepOf}
+
+-- the program of an image
+unfoldable pub programOf : List ℕ → Program
+programOf image = record {
+  types = typesIn image;
+  fields = fieldsIn image;
+  variables = variablesIn image;
+  procedures = proceduresIn image;
+  nodes = nodesIn image;
+  statements = statementsIn image;
+}
+
+-- ---- "Fresh: globals and procedure 0's frame zero, base G, top G + F0, row 0, counts 0."
+
+-- G
+unfoldable pub globalRoom : Program → ℕ
+globalRoom g = globalCells (g .types) (g .fields) (g .variables)
+
+-- G + F0
+unfoldable pub firstTop : Program → ℕ
+firstTop g = globalRoom g + frameSize (g .types) (g .fields) (g .variables) (g .procedures) 0
+
+-- "A zeroed cell has the kind that its place gives": globals, three links, procedure 0's variables. "Cells above top keep the
+-- last number put there."
+unfoldable pub freshCells : {X : Type 0} → Memory X → Program → List ℤ → List X
+freshCells m g store =
+    map (m .blank) (kindsFrom g 0 (globalsOf (g .variables)))
+    ++ (replicate 3 (m .mark LINK 0)
+    ++ (map (m .blank) (kindsFrom g (firstVariable (g .variables) (g .procedures) 0) (claimedBy (rowAt (g .procedures) 0)))
+    ++ map (m .loose) (drop (firstTop g) store)))
+
+unfoldable pub fresh : {X : Type 0} → Memory X → Program → List ℤ → List ℤ → State X
+fresh m g store output = record {
+  at = record { row = 0; base = globalRoom g; top = firstTop g; read = 0; written = 0 };
+  cells = freshCells m g store;
+  output = output;
+}
+
+-- ---- "A run takes image, input, store, output and 0 to 4294967295 steps."
+
+-- where a run ended: "outcome (0 steps used up, 1 finished, 2 trapped)", 3 stuck
+pub record Ended (X : Type 0) : Type 0 where
+  pub outcome : ℕ
+  pub trap : ℕ
+  pub halt : ℤ
+  pub steps : ℕ
+  pub state : State X
+
+-- "A step that finishes or traps counts and is the last."
+unfoldable pub onward : {X : Type 0} → Next X → State X → ℕ → (State X → Ended X) → Ended X
+onward (goes s′) s k next = next s′
+onward finished s k next = record { outcome = 1; trap = 0; halt = pos 0; steps = k; state = s }
+onward (trapped t z s′) s k next = record { outcome = 2; trap = trapNumber t; halt = z; steps = k; state = s′ }
+onward stuck s k next = record { outcome = 3; trap = 0; halt = pos 0; steps = k; state = s }
+
+-- n steps more, where k were done before
+unfoldable pub runFrom : {X : Type 0} → Memory X → Program → List ℤ → ℕ → ℕ → State X → Ended X
+runFrom m g input zero k s = record { outcome = 0; trap = 0; halt = pos 0; steps = k; state = s }
+runFrom m g input (suc n) k s = onward (stepOf m g input s) s (k + 1) (λ s′. runFrom m g input n (k + 1) s′)
+
+-- ---- refusals
+
+-- "12. Has the store at most 65,536 cells? 13. Has it at least G + F0?", after the check
+unfoldable pub refusal : List ℕ → List ℤ → ℕ
+refusal image store =
+    choose (eqb (refusalOf (checkOf image)) 0)
+    (choose (leb (length store) 65536) (choose (leb (firstTop (programOf image)) (length store)) 0 13) 12)
+    (refusalOf (checkOf image))
+
+-- ---- the results
+
+unfoldable pub ranOf : List ℕ → List ℤ → List ℤ → List ℤ → ℕ → Ended Cell
+ranOf image input store output steps = runFrom tagged (programOf image) input steps 0 (fresh tagged (programOf image) store output)
+
+-- "refusal, row of refusal, outcome, trap, HALT number, statement row, steps, read, written"
+unfoldable pub numbersOf : Ended Cell → RunResult
+numbersOf e = record {
+  refusal = 0;
+  refusal-row = 0;
+  outcome = e .outcome;
+  trap = e .trap;
+  halt = e .halt;
+  row = e .state .at .row;
+  steps = e .steps;
+  read = e .state .at .read;
+  written = e .state .at .written;
+}
+
+-- "a refusal leaves store and output untouched, other results 0"
+unfoldable pub refusedWith : ℕ → ℕ → RunResult
+refusedWith q row = record {
+  refusal = q;
+  refusal-row = row;
+  outcome = 0;
+  trap = 0;
+  halt = pos 0;
+  row = 0;
+  steps = 0;
+  read = 0;
+  written = 0;
+}
+
+unfoldable pub resultOf : List ℕ → List ℤ → List ℤ → List ℤ → ℕ → RunResult
+resultOf image input store output steps =
+    choose (eqb (refusal image store) 0) (numbersOf (ranOf image input store output steps))
+    (refusedWith (refusal image store) (rowOf (checkOf image)))
+
+unfoldable pub storeAfter : List ℕ → List ℤ → List ℤ → List ℤ → ℕ → List ℤ
+storeAfter image input store output steps =
+    choose (eqb (refusal image store) 0) (map (tagged .number) (ranOf image input store output steps .state .cells)) store
+
+unfoldable pub outputAfter : List ℕ → List ℤ → List ℤ → List ℤ → ℕ → List ℤ
+outputAfter image input store output steps =
+    choose (eqb (refusal image store) 0) (ranOf image input store output steps .state .output) output
