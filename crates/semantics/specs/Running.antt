@@ -96,7 +96,7 @@ ranOf image input store output steps = runFrom tagged (programOf image) input st
 unfoldable pub numbersOf : Ended Cell → RunResult
 numbersOf e = record {
   refusal = 0;
-  refusal-row = 0;
+  fault = 0;
   outcome = e .outcome;
   trap = e .trap;
   halt = e .halt;
@@ -110,7 +110,7 @@ numbersOf e = record {
 unfoldable pub refusedWith : ℕ → ℕ → RunResult
 refusedWith q row = record {
   refusal = q;
-  refusal-row = row;
+  fault = row;
   outcome = 0;
   trap = 0;
   halt = pos 0;

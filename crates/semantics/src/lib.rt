@@ -30,10 +30,10 @@ pub enum Mark {
     Nothing,
 }
 
-// The nine numbers of a run.
+// The nine numbers of a run; `fault` is the row of refusal.
 pub struct RunResult {
     pub refusal: u32,
-    pub refusal_row: u32,
+    pub fault: u32,
     pub outcome: u32,
     pub trap: u32,
     pub halt: i32,
