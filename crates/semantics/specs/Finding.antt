@@ -125,7 +125,7 @@ meaningBy m g base top cells child kind row =
     choose (eqb kind 0) (expression (constantOf (row .a) (row .b) (row .c)))
     (choose (eqb kind 1) (designator m top cells variable)
     (choose (eqb kind 2) (designator m top cells (reach (child (row .a) .place) λ whole.
-      fieldPlace whole (fieldOf (g .types) (g .fields) (whole .declared) (row .b))))
+    fieldPlace whole (fieldOf (g .types) (g .fields) (whole .declared) (row .b))))
     (choose (eqb kind 3) (designator m top cells (reach (child (row .a) .place) λ whole. arrayPlace g whole (child (row .b) .value)))
     (choose (eqb kind 4) (designator m top cells (reach variable (guardPlace g (row .b))))
     (choose (eqb kind 5) (expression (bind (child (row .a) .value) λ left. appliedTo (row .c) left (child (row .b) .value)))
