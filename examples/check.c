@@ -1,4 +1,4 @@
-/* Calls the check from C: check LONGEST.img, where tests/bench/images.py writes that image.
+/* Calls the check from C: check vectors/large/longest.img
  * Prints each answer and what document 01 makes of the image; exits 1 where the two differ. */
 #include <stdio.h>
 #include <stdlib.h>

@@ -1,4 +1,4 @@
-//! Calls the check from Rust: check LONGEST.img, where tests/bench/images.py writes that image.
+//! Calls the check from Rust: check vectors/large/longest.img
 //! Prints each answer and what document 01 makes of the image; exits 1 where the two differ.
 use std::process::ExitCode;
 
