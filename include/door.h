@@ -1,5 +1,5 @@
 /* The check of a door program's image, as document 01 asks for it. Link libchecker.a, which `rt staticlib checker`
- * writes to target/staticlib/, for x86-64; it needs nothing else. */
+ * writes to target/staticlib/, for x86-64; of other libraries it needs memset alone. */
 #ifndef DOOR_H
 #define DOOR_H
 
@@ -33,8 +33,9 @@ extern "C" {
  * where `length` is 0. No more than these bytes are read, and nothing is written but the stack. The check takes images
  * of any length; the longest that is accepted has 29,713 bytes.
  *
- * Stack: TO BE MEASURED (`bash tests/bench/run` prints it). There is no heap and no state between calls, so several
- * threads may check at once. */
+ * Stack: 20,480 bytes. `bash tests/bench/run` measures it, by painting the stack, for the longest image and all of
+ * vectors/: 20,344 bytes at most. No function calls itself. It is no proven bound, and holds for the library that this
+ * kit builds. There is no heap and no state between calls, so several threads may check at once. */
 uint32_t door_check(const uint8_t *image, size_t length);
 
 /* The two parts of an answer. */
