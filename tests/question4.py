@@ -9,7 +9,8 @@ None where it has nothing to report. The answers are by hand. All else in an ima
 one procedure, no nodes, one RETURN. So an image is either refused by question 4 or accepted, and run.
 
 Both ways also compare the answers with `refusal` below, a second reading of document 01, and `refusal` with the
-answers in vectors/special/ and vectors/damaged/. Nothing here comes from the crates.
+answers in vectors/special/, vectors/doorrun/ and vectors/runs/, as far as questions 1 to 4 decide them. Nothing here
+comes from the crates.
 """
 import pathlib
 import re
@@ -324,6 +325,17 @@ def lowest_at_fault(types, fields):
     return None if used == len(fields) else len(types)
 
 
+def answers(folder):
+    """The name, refusal and row of each image of a folder."""
+    if (folder / 'runs.txt').exists():
+        lines = (folder / 'runs.txt').read_text(encoding='ascii').splitlines()[1:]
+        pairs = [(line.split(' ')[0], line.split('|')[2]) for line in lines]
+    else:
+        lines = (folder / 'expect.txt').read_text(encoding='ascii').splitlines()
+        pairs = [pair for pair in zip(lines, lines[1:]) if pair[0].endswith('.img')]
+    return [(name, *(int(word) for word in numbers.split()[:2])) for name, numbers in pairs]
+
+
 def disagreements():
     """Where the second reading answers otherwise than the cases, or than the other images; and how many these are."""
     wrong, others = [], 0
@@ -331,15 +343,12 @@ def disagreements():
         by_hand, second = (0, 0) if row is None else (4, row), refusal(image(types, fields))
         if by_hand != second:
             wrong.append(f'{name}: by hand {by_hand}, by the second reading {second}')
-    for folder in (VECTORS / 'special', VECTORS / 'damaged'):
-        lines = (folder / 'expect.txt').read_text(encoding='ascii').splitlines()
-        for name, numbers in zip(lines, lines[1:]):
-            if name.endswith('.img'):
-                others += 1
-                first, row = [int(word) for word in numbers.split()[:2]]
-                given, second = (first, row) if first <= 4 else (0, 0), refusal((folder / name).read_bytes()[:LENT])
-                if given != second:
-                    wrong.append(f'{folder.name}/{name}: given {given}, by the second reading {second}')
+    for folder in (VECTORS / 'special', VECTORS / 'doorrun', VECTORS / 'runs'):
+        for name, first, row in answers(folder):
+            others += 1
+            given, second = (first, row) if first <= 4 else (0, 0), refusal((folder / name).read_bytes()[:LENT])
+            if given != second:
+                wrong.append(f'{folder.name}/{name}: given {given}, by the second reading {second}')
     if image(SCALARS, []) != (VECTORS / 'special/smallest.img').read_bytes():
         wrong.append('the image of the scalars only is not special/smallest.img')
     return wrong, others
