@@ -3,3 +3,4 @@ pub mod Layout
 pub mod Finding
 pub mod Stepping
 pub mod Running
+pub mod Sound
