@@ -125,3 +125,4 @@ module _ (g : Program) where
     pub begins : s .at .base ≡ room others
     pub ends : s .at .top ≡ room (newest ∷ others)
     pub stored : s .at .top ≤ length (s .cells)
+    pub lent : length (s .cells) ≤ 65536
