@@ -1,7 +1,7 @@
 -- Laws of the tables of counts.
 use mathlib.Core.Path.{_≡_, refl, sym, _∙_, ap}
 use mathlib.Core.List.{List, [], _∷_, _++_}
-use mathlib.Core.Bool.{true, false}
+use mathlib.Core.Bool.{Bool, true, false}
 use Prim.Native.Nat.{ℕ, zero, suc, _+_, _*_, _≤_, _<_}
 use native.Mathlib.Omega.{arith}
 use native.Mathlib.Numerals.{add-one}
@@ -16,13 +16,19 @@ use Rattle.image.specs.Rows.{rowsOf}
 use Rattle.image.specs.Faults.{lowestFault}
 use Rattle.image.proofs.Faults.{verdict-same}
 use Rattle.names.specs.Names.{namesFrom, namesIn, countIn, namedOnce, question9}
-use Rattle.names.specs.Spans.{allBegins, nodesPast, bodiesPast, counted, countAll, Within, inOne}
-use Rattle.names.proofs.Spanning.{below, names-next, Pairs, pairs-length, Balanced, names-balanced}
+use Rattle.names.specs.Spans.{spanBegins, spanPasts, nodesBegin, nodesPast, bodiesBegin, bodiesPast}
+use Rattle.names.specs.Spans.{counted, countAll, Within, inOne}
+use Rattle.names.proofs.Spanning.{below, names-next, one-most, Pairs, pairs-length, Balanced, names-balanced}
 
 pub count-append : (t xs ys : List ℕ) → countAll t (xs ++ ys) ≡ countAll (countAll t xs) ys
 unfolding countAll
 count-append t [] ys = refl
 count-append t (x ∷ xs) ys = count-append (counted t x) xs ys
+
+-- a table that counted one list and then another
+pub count-then : (t xs ys : List ℕ) {t′ t″ : List ℕ} → t′ ≡ countAll t xs → t″ ≡ countAll t′ ys
+    → t″ ≡ countAll t (xs ++ ys)
+count-then t xs ys e f = f ∙ ap (λ (l : List ℕ). countAll l ys) e ∙ sym (count-append t xs ys)
 
 pub length-count : (t xs : List ℕ) → length (countAll t xs) ≡ length t
 unfolding countAll counted
@@ -91,19 +97,25 @@ pub sum-below : (n : ℕ) (xs : List ℕ) (m : ℕ) → m ≤ n → sum (take m 
 sum-below n xs m h =
     omega (arith, sum-count (replicate n 0) xs m (rw (length-replicate {A = ℕ} n 0) h), sum-zeros n m)
 
--- ---- two counts
+-- ---- a row's two spans
 
 module _ (t : List ℕ) (w : Within t 65000) where
   pub room : (x : ℕ) → getD t x 0 < 65535
   room x = let l = w .each x in omega arith
 
-  pub room-next : (x y : ℕ) {t′ : List ℕ} → t′ ≡ counted t x → getD t′ y 0 < 65535
-  room-next x y {t′} e = let l = within-counted t 65000 x w .each y in rw e (omega arith)
+  -- after the first span, which adds at most one
+  room-after : (b : Bool) (x y : ℕ) {t′ : List ℕ} → t′ ≡ countAll t (choose b [] (x ∷ [])) → getD t′ y 0 < 65535
+  room-after b x y e =
+      let l = within-count t (choose b [] (x ∷ [])) 65000 w .each y in
+      rw e (omega (arith, one-most b x))
 
-pub count-two : (t : List ℕ) (x y : ℕ) {t′ t″ : List ℕ} → t′ ≡ counted t x → t″ ≡ counted t′ y
-    → t″ ≡ countAll t (x ∷ y ∷ [])
-unfolding countAll
-count-two t x y e f = rw (f, e)
+  pub room-begins : (x n y : ℕ) {t′ : List ℕ} → t′ ≡ countAll t (spanBegins x n) → getD t′ y 0 < 65535
+  unfolding spanBegins
+  room-begins x n y e = room-after _ _ y e
+
+  pub room-pasts : (x n y : ℕ) {t′ : List ℕ} → t′ ≡ countAll t (spanPasts x n) → getD t′ y 0 < 65535
+  unfolding spanPasts
+  room-pasts x n y e = room-after _ _ y e
 
 -- ---- the loops over a table's rows
 
@@ -119,8 +131,8 @@ module _ (t : List ℕ) (f : ℕ → List ℕ) (i : ℕ) {t′ : List ℕ} (so-f
 
   pub rows-next : {xs t″ : List ℕ} → t″ ≡ countAll t′ xs → xs ≡ f i → t″ ≡ countAll t (namesFrom f 0 (i + 1))
   rows-next {xs} {t″} e q =
-      rw (names-next f i) (e ∙ ap (λ (l : List ℕ). countAll t′ l) q ∙ ap (λ (l : List ℕ). countAll l (f i)) so-far
-      ∙ sym (count-append t (namesFrom f 0 i) (f i)))
+      rw (names-next f i)
+      (count-then t (namesFrom f 0 i) (f i) so-far (e ∙ ap (λ (l : List ℕ). countAll t′ l) q))
 
 -- ---- the walk
 
@@ -166,16 +178,14 @@ module _ (size : ℕ) (names xs ys : List ℕ) (balanced : Balanced names xs ys)
 
 -- one span for each row, where both tables have counted all nodes and then all statements, is question 9's answer
 pub spans-verdict : (size : ℕ) (n p s : List ℕ) → rowsOf n ≤ size → {b e b′ e′ : List ℕ}
-    → b ≡ countAll (replicate size 0) (allBegins n)
+    → b ≡ countAll (replicate size 0) (nodesBegin n)
     → e ≡ countAll (replicate size 0) (nodesPast n)
-    → b′ ≡ countAll b (allBegins s)
+    → b′ ≡ countAll b (bodiesBegin p s)
     → e′ ≡ countAll e (bodiesPast p s)
     → lowestFault (inOne b′ e′) (rowsOf n) ≡ question9 n p s
 unfolding question9
 spans-verdict size n p s few x y z w =
+    let starts = count-then _ _ _ x z in
+    let ends = count-then _ _ _ y w in
     verdict-same _ _ (rowsOf n)
-    (λ k h. in-one-once size (namesIn n p s) _ _ (names-balanced n p s) (both _ _ x z) (both _ _ y w) k (omega arith))
-  where
-    both : (xs ys : List ℕ) {t t′ : List ℕ} → t ≡ countAll (replicate size 0) xs → t′ ≡ countAll t ys
-        → t′ ≡ countAll (replicate size 0) (xs ++ ys)
-    both xs ys e f = f ∙ ap (λ (l : List ℕ). countAll l ys) e ∙ sym (count-append (replicate size 0) xs ys)
+    (λ k h. in-one-once size (namesIn n p s) _ _ (names-balanced n p s) starts ends k (omega arith))

@@ -2,7 +2,7 @@
 use mathlib.Core.Path.{_≡_, refl, sym, _∙_, ap}
 use mathlib.Core.List.{List, [], _∷_, _++_, append-assoc, append-nil}
 use mathlib.Core.Bool.{Bool, true, false}
-use Prim.Native.Nat.{ℕ, zero, suc, _+_, _*_, _<_}
+use Prim.Native.Nat.{ℕ, zero, suc, _+_, _*_, _≤_, _<_}
 use native.Mathlib.Omega.{arith}
 use native.Mathlib.Decide.{decLt}
 use native.Mathlib.Nat.{add-zero}
@@ -15,8 +15,9 @@ use Rattle.image.specs.declared.Row.{Row}
 use Rattle.image.specs.Rows.{rowAt, rowsOf}
 use Rattle.names.specs.declared.Reach.{Reach}
 use Rattle.names.specs.Names.{namesOfNode, namesOfStatement, rowsFrom, namesFrom, namesIn, countIn}
-use Rattle.names.specs.Spans.{nodeReach, statementReach, begins, pasts}
-use Rattle.names.specs.Spans.{beginsIn, nodePasts, statementPasts, allBegins, nodesPast, bodiesPast}
+use Rattle.names.specs.Spans.{nodeReach, statementReach, spanBegins, spanPasts, begins, pasts}
+use Rattle.names.specs.Spans.{nodeBegins, nodePasts, statementBegins, statementPasts}
+use Rattle.names.specs.Spans.{nodesBegin, nodesPast, bodiesBegin, bodiesPast}
 
 -- ---- rows one after the other
 
@@ -32,43 +33,53 @@ names-snoc f i (suc n) =
 pub names-next : (f : ℕ → List ℕ) (n : ℕ) → namesFrom f 0 (n + 1) ≡ namesFrom f 0 n ++ f n
 names-next f n = let q : 0 + n ≡ n = omega arith in rw (add-one n) (rw q at (names-snoc f 0 n))
 
--- two for each row
+-- at most two for each row
 pub record Pairs (f : ℕ → List ℕ) : Type 0 where
-  pub each : (i : ℕ) → length (f i) ≡ 2
+  pub each : (i : ℕ) → length (f i) ≤ 2
 
-pub pairs-length : (f : ℕ → List ℕ) → Pairs f → (i n : ℕ) → length (namesFrom f i n) ≡ n * 2
+pub pairs-length : (f : ℕ → List ℕ) → Pairs f → (i n : ℕ) → length (namesFrom f i n) ≤ n * 2
 unfolding namesFrom
-pairs-length f two i zero = refl
+pairs-length f two i zero = omega arith
 pairs-length f two i (suc n) =
     omega (arith, length-append (f i) (namesFrom f (i + 1) n), two .each i, pairs-length f two (i + 1) n)
 
-pub begins-pairs : (t : List ℕ) → Pairs (beginsIn t)
-unfolding beginsIn begins
-begins-pairs t = record { each = λ i. refl }
+pub one-most : (b : Bool) (x : ℕ) → length (choose b [] (x ∷ [])) ≤ 1
+unfolding choose
+one-most true x = omega arith
+one-most false x = omega arith
 
-pub node-pairs : (n : List ℕ) → Pairs (nodePasts n)
-unfolding nodePasts pasts
-node-pairs n = record { each = λ i. refl }
+two-most : (b d : Bool) (x y : ℕ) → length (choose b [] (x ∷ []) ++ choose d [] (y ∷ [])) ≤ 2
+two-most b d x y =
+    omega (arith, length-append (choose b [] (x ∷ [])) (choose d [] (y ∷ [])), one-most b x, one-most d y)
 
-pub statement-pairs : (p s : List ℕ) → Pairs (statementPasts p s)
-unfolding statementPasts pasts
-statement-pairs p s = record { each = λ i. refl }
+pub node-begins-pairs : (n : List ℕ) → Pairs (nodeBegins n)
+unfolding nodeBegins begins spanBegins
+node-begins-pairs n = record { each = λ i. two-most _ _ _ _ }
+
+pub node-pasts-pairs : (n : List ℕ) → Pairs (nodePasts n)
+unfolding nodePasts pasts spanPasts
+node-pasts-pairs n = record { each = λ i. two-most _ _ _ _ }
+
+pub statement-begins-pairs : (p s : List ℕ) → Pairs (statementBegins p s)
+unfolding statementBegins begins spanBegins
+statement-begins-pairs p s = record { each = λ i. two-most _ _ _ _ }
+
+pub statement-pasts-pairs : (p s : List ℕ) → Pairs (statementPasts p s)
+unfolding statementPasts pasts spanPasts
+statement-pasts-pairs p s = record { each = λ i. two-most _ _ _ _ }
 
 -- ---- a row of a table
 
 module _ (t : List ℕ) (i : ℕ) {row : Row} (this-row : row ≡ rowAt t i) where
-  pub begins-row : begins row ≡ beginsIn t i
-  unfolding beginsIn
-  begins-row = rw this-row
-
-  pub node-row : {r : Reach} → r ≡ nodeReach (row .kind) → pasts row r ≡ nodePasts t i
-  unfolding nodePasts
-  node-row e = rw (e, this-row)
+  pub node-row : {r : Reach} → r ≡ nodeReach (row .kind)
+      → (begins row r ≡ nodeBegins t i) × (pasts row r ≡ nodePasts t i)
+  unfolding nodeBegins nodePasts
+  node-row e = (rw (e, this-row), rw (e, this-row))
 
   pub statement-row : (p : List ℕ) {r : Reach} → r ≡ statementReach p (row .kind) row
-      → pasts row r ≡ statementPasts p t i
-  unfolding statementPasts
-  statement-row p e = rw (e, this-row)
+      → (begins row r ≡ statementBegins p t i) × (pasts row r ≡ statementPasts p t i)
+  unfolding statementBegins statementPasts
+  statement-row p e = (rw (e, this-row), rw (e, this-row))
 
 -- ---- counts of names and of spans
 
@@ -134,9 +145,12 @@ span-count k b (suc count) =
     let q : b + 1 + count ≡ b + suc count = omega arith in
     omega (arith, begin-next b k, rw q at (span-count k (b + 1) count))
 
-span-balanced : (b count : ℕ) → Balanced (rowsFrom b count) (b ∷ []) ((b + count) ∷ [])
-unfolding below
-span-balanced b count = record { each = λ k. let e = span-count k b count in omega arith }
+span-balanced : (b count : ℕ) → Balanced (rowsFrom b count) (spanBegins b count) (spanPasts b count)
+unfolding spanBegins spanPasts choose rowsFrom below
+span-balanced b zero = balanced-none
+span-balanced b (suc count) =
+    rw (ne-eqb (suc count) 0 (omega arith))
+    (record { each = λ k. let e = span-count k b (suc count) in omega arith })
 
 -- ---- the spans of a row
 
@@ -144,7 +158,7 @@ span-balanced b count = record { each = λ k. let e = span-count k b count in om
 reached : Row → Reach → List ℕ
 reached row r = rowsFrom (row .a) (r .a) ++ rowsFrom (row .b) (r .b)
 
-row-balanced : (row : Row) (r : Reach) → Balanced (reached row r) (begins row) (pasts row r)
+row-balanced : (row : Row) (r : Reach) → Balanced (reached row r) (begins row r) (pasts row r)
 unfolding reached begins pasts
 row-balanced row r = balanced-both (span-balanced (row .a) (r .a)) (span-balanced (row .b) (r .b))
 
@@ -177,18 +191,18 @@ statement-names p row =
 -- ---- all names
 
 -- a row of either table
-node-balanced : (n : List ℕ) (i : ℕ) → Balanced (namesOfNode (rowAt n i)) (beginsIn n i) (nodePasts n i)
-unfolding beginsIn nodePasts
+node-balanced : (n : List ℕ) (i : ℕ) → Balanced (namesOfNode (rowAt n i)) (nodeBegins n i) (nodePasts n i)
+unfolding nodeBegins nodePasts
 node-balanced n i = rw (node-names (rowAt n i)) at (row-balanced (rowAt n i) (nodeReach (rowAt n i .kind)))
 
 statement-balanced : (p s : List ℕ) (i : ℕ)
-    → Balanced (namesOfStatement p (rowAt s i)) (beginsIn s i) (statementPasts p s i)
-unfolding beginsIn statementPasts
+    → Balanced (namesOfStatement p (rowAt s i)) (statementBegins p s i) (statementPasts p s i)
+unfolding statementBegins statementPasts
 statement-balanced p s i =
     rw (statement-names p (rowAt s i)) at (row-balanced (rowAt s i) (statementReach p (rowAt s i .kind) (rowAt s i)))
 
 pub names-balanced : (n p s : List ℕ)
-    → Balanced (namesIn n p s) (allBegins n ++ allBegins s) (nodesPast n ++ bodiesPast p s)
+    → Balanced (namesIn n p s) (nodesBegin n ++ bodiesBegin p s) (nodesPast n ++ bodiesPast p s)
 unfolding namesIn
 names-balanced n p s =
     balanced-both (balanced-rows _ _ _ (node-balanced n) 0 (rowsOf n))

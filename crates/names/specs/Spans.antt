@@ -1,8 +1,9 @@
 -- Names counted by where their spans begin and end, so that a call with many arguments costs no more than another row.
 -- A span of node rows is named once each; a row is in as many spans as begin up to it, less those that end up to it.
+-- An empty span names none and is not counted.
 use Prim.Native.Nat.{ℕ, _+_, _≤_}
 use mathlib.Core.Bool.{Bool}
-use mathlib.Core.List.{List, [], _∷_}
+use mathlib.Core.List.{List, [], _∷_, _++_}
 use lib.Dec.{eqb}
 use lib.ListN.{getD, set, take}
 use Rattle.prelude.specs.Choice.{choose}
@@ -35,29 +36,42 @@ statementReach p kind row =
     (choose (eqb kind 6) (reach 1 0)
     (choose (eqb kind 7) (reach 1 0) (reach 0 0))))))
 
--- where a row's two spans begin, and where they end: the rows just past them
-unfoldable pub begins : Row → List ℕ
-begins row = row .a ∷ row .b ∷ []
+-- where a span begins, and where it ends, the row just past it: nowhere if it has no rows
+unfoldable pub spanBegins : ℕ → ℕ → List ℕ
+spanBegins from rows = choose (eqb rows 0) [] (from ∷ [])
+
+unfoldable pub spanPasts : ℕ → ℕ → List ℕ
+spanPasts from rows = choose (eqb rows 0) [] ((from + rows) ∷ [])
+
+-- of a row's two spans
+unfoldable pub begins : Row → Reach → List ℕ
+begins row r = spanBegins (row .a) (r .a) ++ spanBegins (row .b) (r .b)
 
 unfoldable pub pasts : Row → Reach → List ℕ
-pasts row r = (row .a + r .a) ∷ (row .b + r .b) ∷ []
+pasts row r = spanPasts (row .a) (r .a) ++ spanPasts (row .b) (r .b)
 
 -- of row i of a table
-unfoldable pub beginsIn : List ℕ → ℕ → List ℕ
-beginsIn t i = begins (rowAt t i)
+unfoldable pub nodeBegins : List ℕ → ℕ → List ℕ
+nodeBegins n i = begins (rowAt n i) (nodeReach (rowAt n i .kind))
 
 unfoldable pub nodePasts : List ℕ → ℕ → List ℕ
 nodePasts n i = pasts (rowAt n i) (nodeReach (rowAt n i .kind))
+
+unfoldable pub statementBegins : List ℕ → List ℕ → ℕ → List ℕ
+statementBegins p s i = begins (rowAt s i) (statementReach p (rowAt s i .kind) (rowAt s i))
 
 unfoldable pub statementPasts : List ℕ → List ℕ → ℕ → List ℕ
 statementPasts p s i = pasts (rowAt s i) (statementReach p (rowAt s i .kind) (rowAt s i))
 
 -- of all rows of a table
-abbrev pub allBegins : List ℕ → List ℕ
-allBegins t = namesFrom (beginsIn t) 0 (rowsOf t)
+abbrev pub nodesBegin : List ℕ → List ℕ
+nodesBegin n = namesFrom (nodeBegins n) 0 (rowsOf n)
 
 abbrev pub nodesPast : List ℕ → List ℕ
 nodesPast n = namesFrom (nodePasts n) 0 (rowsOf n)
+
+abbrev pub bodiesBegin : List ℕ → List ℕ → List ℕ
+bodiesBegin p s = namesFrom (statementBegins p s) 0 (rowsOf s)
 
 abbrev pub bodiesPast : List ℕ → List ℕ → List ℕ
 bodiesPast p s = namesFrom (statementPasts p s) 0 (rowsOf s)

@@ -7,7 +7,8 @@ ghost use lib.ListN.{length, getD};
 ghost use Rattle.image.specs.Faults.{lowestFault};
 ghost use Rattle.image.specs.Rows.{rowsOf};
 ghost use Rattle.names.specs.Names.{question9};
-ghost use Rattle.names.specs.Spans.{nodeReach, statementReach, begins, pasts, allBegins, nodesPast, bodiesPast};
+ghost use Rattle.names.specs.Spans.{nodeReach, statementReach, spanBegins, spanPasts, begins, pasts};
+ghost use Rattle.names.specs.Spans.{nodesBegin, nodesPast, bodiesBegin, bodiesPast};
 ghost use Rattle.names.specs.Spans.{counted, countAll, Within, inOne};
 
 // How many node rows a row names from its a on, and how many from its b on.
@@ -67,12 +68,15 @@ fn count(t: &mut [u16], k: usize)
     }
 }
 
-// A span of rows more.
+// A span of rows more. Empty ones are not counted: most would be counted in row 0, each waiting for the one before.
 fn count_span(starts: &mut [u16], ends: &mut [u16], from: u16, rows: u16)
     requires { ⌜ (getD (now starts) from 0 < 65535) × (getD (now ends) (from + rows) 0 < 65535) ⌝ }
-    ensures { λ _. ⌜ now (starts .exit) ≡ counted (now (starts .entry)) from ⌝ }
-    ensures { λ _. ⌜ now (ends .exit) ≡ counted (now (ends .entry)) (from + rows) ⌝ }
+    ensures { λ _. ⌜ now (starts .exit) ≡ countAll (now (starts .entry)) (spanBegins from rows) ⌝ }
+    ensures { λ _. ⌜ now (ends .exit) ≡ countAll (now (ends .entry)) (spanPasts from rows) ⌝ }
 {
+    if rows == 0 {
+        return;
+    }
     let first = from as usize;
     let past = first + rows as usize;
     count(starts, first);
@@ -82,7 +86,7 @@ fn count_span(starts: &mut [u16], ends: &mut [u16], from: u16, rows: u16)
 // The two spans that a row names.
 fn count_row(starts: &mut [u16], ends: &mut [u16], row: Row, reach: Reach)
     requires { ⌜ Within (now starts) 65000 × Within (now ends) 65000 ⌝ }
-    ensures { λ _. ⌜ now (starts .exit) ≡ countAll (now (starts .entry)) (begins row) ⌝ }
+    ensures { λ _. ⌜ now (starts .exit) ≡ countAll (now (starts .entry)) (begins row reach) ⌝ }
     ensures { λ _. ⌜ now (ends .exit) ≡ countAll (now (ends .entry)) (pasts row reach) ⌝ }
 {
     count_span(starts, ends, row.a, reach.a);
@@ -92,7 +96,7 @@ fn count_row(starts: &mut [u16], ends: &mut [u16], row: Row, reach: Reach)
 // The spans of all nodes.
 fn count_nodes(n: &[u8], starts: &mut [u16], ends: &mut [u16])
     requires { ⌜ (rowsOf (now n) ≤ 2048) × Within (now starts) 8192 × Within (now ends) 8192 ⌝ }
-    ensures { λ _. ⌜ now (starts .exit) ≡ countAll (now (starts .entry)) (allBegins (now (n .entry))) ⌝ }
+    ensures { λ _. ⌜ now (starts .exit) ≡ countAll (now (starts .entry)) (nodesBegin (now (n .entry))) ⌝ }
     ensures { λ _. ⌜ now (ends .exit) ≡ countAll (now (ends .entry)) (nodesPast (now (n .entry))) ⌝ }
 {
     let nodes = image::rows_of(n);
@@ -108,7 +112,8 @@ fn count_nodes(n: &[u8], starts: &mut [u16], ends: &mut [u16])
 // The spans of all statements.
 fn count_statements(p: &[u8], s: &[u8], starts: &mut [u16], ends: &mut [u16])
     requires { ⌜ (rowsOf (now s) ≤ 1024) × Within (now starts) 8192 × Within (now ends) 8192 ⌝ }
-    ensures { λ _. ⌜ now (starts .exit) ≡ countAll (now (starts .entry)) (allBegins (now (s .entry))) ⌝ }
+    ensures { λ _. ⌜ now (starts .exit) ≡ countAll (now (starts .entry))
+        (bodiesBegin (now (p .entry)) (now (s .entry))) ⌝ }
     ensures { λ _. ⌜ now (ends .exit) ≡ countAll (now (ends .entry)) (bodiesPast (now (p .entry)) (now (s .entry))) ⌝ }
 {
     let statements = image::rows_of(s);

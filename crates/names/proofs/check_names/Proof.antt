@@ -1,6 +1,6 @@
 use mathlib.Core.Path.{_∙_}
 use native.Mathlib.Omega.{arith}
-use Rattle.names.proofs.Spanning.{begins-pairs, node-pairs}
+use Rattle.names.proofs.Spanning.{node-begins-pairs, node-pasts-pairs}
 use Rattle.names.proofs.Counting.{within-zeros, rows-room, spans-verdict}
 use borrow.Author.Needs.{needs}
 use Rattle.names.proofs.check_names.Statement.{statement}
@@ -38,8 +38,8 @@ count-statements-requires c κs =
     let (nodes, statements) = b .before .before .before .before .before .before .before .pre in
     let counts = b .count-nodes .ensures in (
       statements,
-      rows-room _ _ _ (counts .0) (begins-pairs _) (within-zeros 2048 0) 8192 (omega arith),
-      rows-room _ _ _ (counts .1) (node-pairs _) (within-zeros 2048 0) 8192 (omega arith),
+      rows-room _ _ _ (counts .0) (node-begins-pairs _) (within-zeros 2048 0) 8192 (omega arith),
+      rows-room _ _ _ (counts .1) (node-pasts-pairs _) (within-zeros 2048 0) 8192 (omega arith),
     )
 
 slice-aggregate-each-in-one : tie.Need-slice-aggregate-each-in-one

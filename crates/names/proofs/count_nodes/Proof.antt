@@ -5,8 +5,8 @@ use Prim.Native.Nat.{_-_, _≤_}
 use native.Mathlib.Omega.{arith}
 use borrow.Author.Needs.{needs}
 use Rattle.names.specs.Names.{namesFrom}
-use Rattle.names.specs.Spans.{beginsIn, nodePasts, countAll}
-use Rattle.names.proofs.Spanning.{begins-pairs, node-pairs, begins-row, node-row}
+use Rattle.names.specs.Spans.{nodeBegins, nodePasts, countAll}
+use Rattle.names.proofs.Spanning.{node-begins-pairs, node-pasts-pairs, node-row}
 use Rattle.names.proofs.Counting.{rows-room, rows-length, rows-next}
 use Rattle.names.proofs.count_nodes.Statement.{statement}
 use Rattle.names.proofs.count_nodes.Tie as tie
@@ -20,7 +20,7 @@ use Rattle.names.proofs.node_reach.Reads as node-reach-reads
 abbrev Inv-loop : tie.InvT-loop
 Inv-loop n starts₀ ends₀ nodes i₀ starts ends i =
     (i ≤ nodes)
-    × (starts ≡ countAll starts₀ (namesFrom (beginsIn n) 0 i))
+    × (starts ≡ countAll starts₀ (namesFrom (nodeBegins n) 0 i))
     × (ends ≡ countAll ends₀ (namesFrom (nodePasts n) 0 i))
 
 abbrev μ-loop : tie.MeasureT-loop
@@ -45,8 +45,8 @@ count-row-requires c κs =
     let l = b .loop in
     let rows = b .before .rows-of .ensures in
     let (most, begun, ended) = b .before .before .before .before .before .pre in (
-      rows-room _ _ _ (l .inv .1) (begins-pairs _) begun 65000 (omega arith),
-      rows-room _ _ _ (l .inv .2) (node-pairs _) ended 65000 (omega arith),
+      rows-room _ _ _ (l .inv .1) (node-begins-pairs _) begun 65000 (omega arith),
+      rows-room _ _ _ (l .inv .2) (node-pasts-pairs _) ended 65000 (omega arith),
     )
 
 add-i : tie.Need-add-i Inv-loop μ-loop
@@ -60,10 +60,11 @@ loop-again c =
     let l = c .before .before .before .before .before .before .before .before .before .before .loop in
     let this = c .before .before .before .before .before .before .before .before .row-at .ensures in
     let reach = c .before .before .before .before .before .before .before .node-reach .ensures in
-    let row = c .before .before .before .before .count-row .ensures in (
+    let row = c .before .before .before .before .count-row .ensures in
+    let same = node-row _ _ this reach in (
       omega arith,
-      rows-next _ _ _ (l .inv .1) (row .0) (begins-row _ _ this),
-      rows-next _ _ _ (l .inv .2) (row .1) (node-row _ _ this reach),
+      rows-next _ _ _ (l .inv .1) (row .0) (same .0),
+      rows-next _ _ _ (l .inv .2) (row .1) (same .1),
     )
 
 same-length : tie.Need-same-length Inv-loop μ-loop

@@ -1,5 +1,5 @@
 use Rattle.names.specs.Spans.{begins, pasts}
-use Rattle.names.proofs.Counting.{room, room-next, count-two}
+use Rattle.names.proofs.Counting.{room, room-begins, room-pasts, count-then}
 use borrow.Author.Needs.{needs}
 use Rattle.names.proofs.count_row.Statement.{statement}
 use Rattle.names.proofs.count_row.Tie as tie
@@ -15,7 +15,7 @@ count-span-requires-2 c κs =
     let b = c .before .before .before .before .before .before in
     let p = b .before .before .before .before .before .pre in
     let first = b .count-span .ensures in
-    (room-next _ (p .0) _ _ (first .0), room-next _ (p .1) _ _ (first .1))
+    (room-begins _ (p .0) _ _ _ (first .0), room-pasts _ (p .1) _ _ _ (first .1))
 
 same-length : tie.Need-same-length
 same-length c = search needs
@@ -29,7 +29,7 @@ returns c =
     let b = c .before .before .before .before in
     let first = b .before .before .before .before .before .before .before .count-span .ensures in
     let second = b .count-span2 .ensures in
-    (count-two _ _ _ (first .0) (second .0), count-two _ _ _ (first .1) (second .1))
+    (count-then _ _ _ (first .0) (second .0), count-then _ _ _ (first .1) (second .1))
 
 pub count-row-spec : {M : Type 1} → statement M
 count-row-spec =

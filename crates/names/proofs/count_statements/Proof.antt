@@ -5,8 +5,8 @@ use Prim.Native.Nat.{_-_, _≤_}
 use native.Mathlib.Omega.{arith}
 use borrow.Author.Needs.{needs}
 use Rattle.names.specs.Names.{namesFrom}
-use Rattle.names.specs.Spans.{beginsIn, statementPasts, countAll}
-use Rattle.names.proofs.Spanning.{begins-pairs, statement-pairs, begins-row, statement-row}
+use Rattle.names.specs.Spans.{statementBegins, statementPasts, countAll}
+use Rattle.names.proofs.Spanning.{statement-begins-pairs, statement-pasts-pairs, statement-row}
 use Rattle.names.proofs.Counting.{rows-room, rows-length, rows-next}
 use Rattle.names.proofs.count_statements.Statement.{statement}
 use Rattle.names.proofs.count_statements.Tie as tie
@@ -20,7 +20,7 @@ use Rattle.names.proofs.statement_reach.Reads as statement-reach-reads
 abbrev Inv-loop : tie.InvT-loop
 Inv-loop p s starts₀ ends₀ statements i₀ starts ends i =
     (i ≤ statements)
-    × (starts ≡ countAll starts₀ (namesFrom (beginsIn s) 0 i))
+    × (starts ≡ countAll starts₀ (namesFrom (statementBegins p s) 0 i))
     × (ends ≡ countAll ends₀ (namesFrom (statementPasts p s) 0 i))
 
 abbrev μ-loop : tie.MeasureT-loop
@@ -45,8 +45,8 @@ count-row-requires c κs =
     let l = b .loop in
     let rows = b .before .rows-of .ensures in
     let (most, begun, ended) = b .before .before .before .before .before .before .pre in (
-      rows-room _ _ _ (l .inv .1) (begins-pairs _) begun 65000 (omega arith),
-      rows-room _ _ _ (l .inv .2) (statement-pairs _ _) ended 65000 (omega arith),
+      rows-room _ _ _ (l .inv .1) (statement-begins-pairs _ _) begun 65000 (omega arith),
+      rows-room _ _ _ (l .inv .2) (statement-pasts-pairs _ _) ended 65000 (omega arith),
     )
 
 add-i : tie.Need-add-i Inv-loop μ-loop
@@ -60,10 +60,11 @@ loop-again c =
     let l = c .before .before .before .before .before .before .before .before .before .before .loop in
     let this = c .before .before .before .before .before .before .before .before .row-at .ensures in
     let reach = c .before .before .before .before .before .before .before .statement-reach .ensures in
-    let row = c .before .before .before .before .count-row .ensures in (
+    let row = c .before .before .before .before .count-row .ensures in
+    let same = statement-row _ _ this _ reach in (
       omega arith,
-      rows-next _ _ _ (l .inv .1) (row .0) (begins-row _ _ this),
-      rows-next _ _ _ (l .inv .2) (row .1) (statement-row _ _ this _ reach),
+      rows-next _ _ _ (l .inv .1) (row .0) (same .0),
+      rows-next _ _ _ (l .inv .2) (row .1) (same .1),
     )
 
 same-length : tie.Need-same-length Inv-loop μ-loop
