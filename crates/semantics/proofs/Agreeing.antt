@@ -5,11 +5,10 @@ use mathlib.Core.List.{List, [], _∷_, _++_, map, map-map}
 use Prim.Native.Nat.{ℕ, zero, suc, _+_, _<_, _≤_}
 use native.Mathlib.Omega.{arith}
 use native.Mathlib.Decide.{decLt}
-use lib.Dec.{ltb, leb, eqb}
+use lib.Dec.{eqb}
 use lib.IntN.{ℤ, pos}
-use lib.ListN.{length, getD, take, drop, List·getD-map, length-map}
+use lib.ListN.{length, take, drop, List·getD-map, length-map}
 use Rattle.prelude.specs.Choice.{choose}
-use Rattle.prelude.specs.Rec.{rec}
 use Rattle.prelude.proofs.Rec.{rec-rel}
 use Rattle.prelude.proofs.Parts.{take-map, map-append}
 use Rattle.image.specs.declared.Row.{Row}
@@ -162,6 +161,13 @@ loose-numbers l = sym (map-map (tagged .number) (tagged .loose) l)
 
 -- ---- every node
 
+array-agrees : (g : Program) (whole : Place) {x y : Answer} → Answers x y → Founds (arrayPlace g whole x) (arrayPlace g whole y)
+unfolding arrayPlace
+array-agrees g whole h = choose-rel Founds _ (agrees-index _ h) lost
+
+expression-agrees : {x y : Answer} → Answers x y → Meanings (expression x) (expression y)
+expression-agrees h = record { place = lost; value = h }
+
 module _ (g : Program) (base top : ℕ) (cells : List Cell) where
   parameter-agrees : (a r : ℕ) → Founds (parameterPlace tagged top cells a r) (parameterPlace bare top (numbers cells) a r)
   unfolding parameterPlace
@@ -175,16 +181,9 @@ module _ (g : Program) (base top : ℕ) (cells : List Cell) where
       choose-rel Founds _ same (choose-rel Founds _ same
       (choose-rel Founds _ (parameter-agrees (base + placeOf g a) (row .a)) lost))
 
-  array-agrees : (whole : Place) {x y : Answer} → Answers x y → Founds (arrayPlace g whole x) (arrayPlace g whole y)
-  unfolding arrayPlace
-  array-agrees whole h = choose-rel Founds _ (agrees-index _ h) lost
-
   designator-agrees : {x y : Found} → Founds x y → Meanings (designator tagged top cells x) (designator bare top (numbers cells) y)
   unfolding designator
   designator-agrees h = record { place = h; value = agrees-content _ _ h (λ place. value-agrees top cells (place .declared) (place .address)) }
-
-  expression-agrees : {x y : Answer} → Answers x y → Meanings (expression x) (expression y)
-  expression-agrees h = record { place = lost; value = h }
 
   meaning-by-agrees : (child child′ : ℕ → Meaning) → ((k : ℕ) → Meanings (child k) (child′ k)) → (kind : ℕ) (row : Row)
       → Meanings (meaningBy tagged g base top cells child kind row) (meaningBy bare g base top (numbers cells) child′ kind row)
@@ -194,7 +193,7 @@ module _ (g : Program) (base top : ℕ) (cells : List Cell) where
       choose-rel Meanings _ (expression-agrees same)
       (choose-rel Meanings _ (designator-agrees variable)
       (choose-rel Meanings _ (designator-agrees (agrees-reach _ _ (h (row .a) .place) (λ whole. same)))
-      (choose-rel Meanings _ (designator-agrees (agrees-reach _ _ (h (row .a) .place) (λ whole. array-agrees whole (h (row .b) .value))))
+      (choose-rel Meanings _ (designator-agrees (agrees-reach _ _ (h (row .a) .place) (λ whole. array-agrees g whole (h (row .b) .value))))
       (choose-rel Meanings _ (designator-agrees (agrees-reach _ _ variable (λ place. same)))
       (choose-rel Meanings _ (expression-agrees (agrees-bind _ _ (h (row .a) .value) (λ left. agrees-applied (row .c) left (h (row .b) .value))))
       (choose-rel Meanings _ (expression-agrees (agrees-bind _ _ (h (row .a) .value) (λ operand. same)))
