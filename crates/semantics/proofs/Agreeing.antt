@@ -24,10 +24,12 @@ use Rattle.semantics.specs.declared.Found.{Found}
 use Rattle.semantics.specs.declared.Found.the-variants as Fs
 use Rattle.semantics.specs.declared.Mark.{Mark}
 use Rattle.semantics.specs.declared.Mark.the-variants.{Number, Nothing}
-use Rattle.semantics.specs.Memory.{ADDRESS, TYPE, Cell, tagged, bare, markOf, cellAt, valueAt, markAt, partAt, overwrite}
+use Rattle.semantics.specs.Memory.{ADDRESS, TYPE, Cell, tagged, bare, markOf, cellAt}
+use Rattle.semantics.specs.Memory.{valueAt, markAt, partAt, overwrite}
 use Rattle.semantics.specs.Layout.{Program, placeOf}
 use Rattle.semantics.specs.Finding.{reach, content, index, withMark, parameterPlace, variablePlace, arrayPlace}
-use Rattle.semantics.specs.Finding.{Meaning, noMeaning, expression, designator, meaningBy, meaningOf, findOf, evalOf}
+use Rattle.semantics.specs.Finding.{Meaning, noMeaning, expression, designator, meaningBy}
+use Rattle.semantics.specs.Finding.{meaningOf, findOf, evalOf}
 
 -- ---- agreement
 
@@ -51,7 +53,8 @@ pub record Meanings (x y : Meaning) : Type 0 where
   pub value : Answers (x .value) (y .value)
 
 -- a choice by one test keeps any relation
-pub choose-rel : {X Y : Type 0} (R : X → Y → Type 0) (b : Bool) {x y : X} {x′ y′ : Y} → R x x′ → R y y′ → R (choose b x y) (choose b x′ y′)
+pub choose-rel : {X Y : Type 0} (R : X → Y → Type 0) (b : Bool) {x y : X} {x′ y′ : Y} → R x x′ → R y y′
+    → R (choose b x y) (choose b x′ y′)
 unfolding choose
 choose-rel R true p q = p
 choose-rel R false p q = q
@@ -63,21 +66,24 @@ agrees-or false x = lost
 
 -- ---- one law for each way to go on
 
-pub agrees-bind : {x y : Answer} (k l : Value → Answer) → Answers x y → ((v : Value) → Answers (k v) (l v)) → Answers (bind x k) (bind y l)
+pub agrees-bind : {x y : Answer} (k l : Value → Answer) → Answers x y → ((v : Value) → Answers (k v) (l v))
+    → Answers (bind x k) (bind y l)
 unfolding bind
 agrees-bind k l lost f = lost
 agrees-bind k l (same {x = As.Val v}) f = f v
 agrees-bind k l (same {x = As.Trap t}) f = same
 agrees-bind k l (same {x = As.Stuck}) f = lost
 
-pub agrees-reach : {x y : Found} (k l : Place → Found) → Founds x y → ((p : Place) → Founds (k p) (l p)) → Founds (reach x k) (reach y l)
+pub agrees-reach : {x y : Found} (k l : Place → Found) → Founds x y → ((p : Place) → Founds (k p) (l p))
+    → Founds (reach x k) (reach y l)
 unfolding reach
 agrees-reach k l lost f = lost
 agrees-reach k l (same {x = Fs.At p}) f = f p
 agrees-reach k l (same {x = Fs.Trap t}) f = same
 agrees-reach k l (same {x = Fs.Stuck}) f = lost
 
-pub agrees-content : {x y : Found} (k l : Place → Answer) → Founds x y → ((p : Place) → Answers (k p) (l p)) → Answers (content x k) (content y l)
+pub agrees-content : {x y : Found} (k l : Place → Answer) → Founds x y → ((p : Place) → Answers (k p) (l p))
+    → Answers (content x k) (content y l)
 unfolding content
 agrees-content k l lost f = lost
 agrees-content k l (same {x = Fs.At p}) f = f p
@@ -89,7 +95,8 @@ unfolding index
 agrees-index k lost = lost
 agrees-index k same = same
 
-pub agrees-mark : {x y : Mark} (k l : ℕ → Found) → Marks x y → ((n : ℕ) → Founds (k n) (l n)) → Founds (withMark x k) (withMark y l)
+pub agrees-mark : {x y : Mark} (k l : ℕ → Found) → Marks x y → ((n : ℕ) → Founds (k n) (l n))
+    → Founds (withMark x k) (withMark y l)
 unfolding withMark
 agrees-mark k l lost f = lost
 agrees-mark k l (same {x = Number n}) f = f n
@@ -119,13 +126,17 @@ pub cell-number : (cells : List Cell) (a : ℕ) → cellAt bare (numbers cells) 
 unfolding cellAt tagged bare
 cell-number cells a = List·getD-map (tagged .number) cells a (tagged .loose (pos 0))
 
-pub value-agrees : (top : ℕ) (cells : List Cell) (kind a : ℕ) → Answers (valueAt tagged top cells kind a) (valueAt bare top (numbers cells) kind a)
+pub value-agrees : (top : ℕ) (cells : List Cell) (kind a : ℕ)
+    → Answers (valueAt tagged top cells kind a) (valueAt bare top (numbers cells) kind a)
 unfolding valueAt
-value-agrees top cells kind a = choose-rel Answers _ (rw (cell-number cells a) (held-agrees kind (cellAt tagged cells a))) lost
+value-agrees top cells kind a =
+    choose-rel Answers _ (rw (cell-number cells a) (held-agrees kind (cellAt tagged cells a))) lost
 
-pub mark-agrees : (top : ℕ) (cells : List Cell) (kind a : ℕ) → Marks (markAt tagged top cells kind a) (markAt bare top (numbers cells) kind a)
+pub mark-agrees : (top : ℕ) (cells : List Cell) (kind a : ℕ)
+    → Marks (markAt tagged top cells kind a) (markAt bare top (numbers cells) kind a)
 unfolding markAt
-mark-agrees top cells kind a = choose-rel Marks _ (rw (cell-number cells a) (marked-agrees kind (cellAt tagged cells a))) lost
+mark-agrees top cells kind a =
+    choose-rel Marks _ (rw (cell-number cells a) (marked-agrees kind (cellAt tagged cells a))) lost
 
 drop-map : {X Y : Type 0} (f : X → Y) (n : ℕ) (l : List X) → drop n (map f l) ≡ map f (drop n l)
 drop-map f zero l = refl
@@ -136,12 +147,14 @@ pub part-numbers : (cells : List Cell) (a n : ℕ) → partAt (numbers cells) a 
 unfolding partAt
 part-numbers cells a n = ap (take n) (drop-map (tagged .number) a cells) ∙ take-map (tagged .number) n (drop a cells)
 
-pub overwrite-numbers : (cells : List Cell) (a : ℕ) (new : List Cell) → overwrite (numbers cells) a (numbers new) ≡ numbers (overwrite cells a new)
+pub overwrite-numbers : (cells : List Cell) (a : ℕ) (new : List Cell)
+    → overwrite (numbers cells) a (numbers new) ≡ numbers (overwrite cells a new)
 unfolding overwrite
 overwrite-numbers cells a new =
-    rw (length-map new (tagged .number), drop-map (tagged .number) (a + length new) cells, take-map (tagged .number) a cells)
+    rw (length-map new (tagged .number))
+    (rw (drop-map (tagged .number) (a + length new) cells, take-map (tagged .number) a cells)
     (sym (map-append (tagged .number) (take a cells) (new ++ drop (a + length new) cells)
-    ∙ ap (λ l. numbers (take a cells) ++ l) (map-append (tagged .number) new (drop (a + length new) cells))))
+    ∙ ap (λ l. numbers (take a cells) ++ l) (map-append (tagged .number) new (drop (a + length new) cells)))))
 
 pub put-number : (v : Value) → bare .put v ≡ tagged .number (tagged .put v)
 unfolding tagged bare
@@ -161,7 +174,8 @@ loose-numbers l = sym (map-map (tagged .number) (tagged .loose) l)
 
 -- ---- every node
 
-array-agrees : (g : Program) (whole : Place) {x y : Answer} → Answers x y → Founds (arrayPlace g whole x) (arrayPlace g whole y)
+array-agrees : (g : Program) (whole : Place) {x y : Answer} → Answers x y
+    → Founds (arrayPlace g whole x) (arrayPlace g whole y)
 unfolding arrayPlace
 array-agrees g whole h = choose-rel Founds _ (agrees-index _ h) lost
 
@@ -169,38 +183,49 @@ expression-agrees : {x y : Answer} → Answers x y → Meanings (expression x) (
 expression-agrees h = record { place = lost; value = h }
 
 module _ (g : Program) (base top : ℕ) (cells : List Cell) where
-  parameter-agrees : (a r : ℕ) → Founds (parameterPlace tagged top cells a r) (parameterPlace bare top (numbers cells) a r)
+  parameter-agrees : (a r : ℕ)
+      → Founds (parameterPlace tagged top cells a r) (parameterPlace bare top (numbers cells) a r)
   unfolding parameterPlace
   parameter-agrees a r =
       agrees-mark _ _ (mark-agrees top cells ADDRESS a) (λ address.
       agrees-mark _ _ (mark-agrees top cells TYPE (a + 1)) (λ dynamic. same))
 
-  variable-agrees : (a : ℕ) (row : Row) → Founds (variablePlace tagged g base top cells a row) (variablePlace bare g base top (numbers cells) a row)
+  variable-agrees : (a : ℕ) (row : Row)
+      → Founds (variablePlace tagged g base top cells a row) (variablePlace bare g base top (numbers cells) a row)
   unfolding variablePlace
   variable-agrees a row =
       choose-rel Founds _ same (choose-rel Founds _ same
       (choose-rel Founds _ (parameter-agrees (base + placeOf g a) (row .a)) lost))
 
-  designator-agrees : {x y : Found} → Founds x y → Meanings (designator tagged top cells x) (designator bare top (numbers cells) y)
+  designator-agrees : {x y : Found} → Founds x y
+      → Meanings (designator tagged top cells x) (designator bare top (numbers cells) y)
   unfolding designator
-  designator-agrees h = record { place = h; value = agrees-content _ _ h (λ place. value-agrees top cells (place .declared) (place .address)) }
+  designator-agrees h = record {
+    place = h;
+    value = agrees-content _ _ h (λ place. value-agrees top cells (place .declared) (place .address));
+  }
 
   meaning-by-agrees : (child child′ : ℕ → Meaning) → ((k : ℕ) → Meanings (child k) (child′ k)) → (kind : ℕ) (row : Row)
-      → Meanings (meaningBy tagged g base top cells child kind row) (meaningBy bare g base top (numbers cells) child′ kind row)
+      → Meanings (meaningBy tagged g base top cells child kind row)
+      (meaningBy bare g base top (numbers cells) child′ kind row)
   unfolding meaningBy
   meaning-by-agrees child child′ h kind row =
       let variable = variable-agrees (row .a) (rowAt (g .variables) (row .a)) in
       choose-rel Meanings _ (expression-agrees same)
       (choose-rel Meanings _ (designator-agrees variable)
       (choose-rel Meanings _ (designator-agrees (agrees-reach _ _ (h (row .a) .place) (λ whole. same)))
-      (choose-rel Meanings _ (designator-agrees (agrees-reach _ _ (h (row .a) .place) (λ whole. array-agrees g whole (h (row .b) .value))))
+      (choose-rel Meanings _ (designator-agrees (agrees-reach _ _ (h (row .a) .place) (λ whole.
+      array-agrees g whole (h (row .b) .value))))
       (choose-rel Meanings _ (designator-agrees (agrees-reach _ _ variable (λ place. same)))
-      (choose-rel Meanings _ (expression-agrees (agrees-bind _ _ (h (row .a) .value) (λ left. agrees-applied (row .c) left (h (row .b) .value))))
+      (choose-rel Meanings _ (expression-agrees (agrees-bind _ _ (h (row .a) .value) (λ left.
+      agrees-applied (row .c) left (h (row .b) .value))))
       (choose-rel Meanings _ (expression-agrees (agrees-bind _ _ (h (row .a) .value) (λ operand. same)))
       (choose-rel Meanings _ (expression-agrees (agrees-content _ _ variable (λ place. same)))
       (choose-rel Meanings _ (h (row .a)) (expression-agrees lost)))))))))
 
-every : (r : ℕ) (x y : ℕ → Meaning) → ((k : ℕ) → k < r → Meanings (x k) (y k)) → ((k : ℕ) → r ≤ k → (x k ≡ noMeaning) × (y k ≡ noMeaning))
+-- the rows below by what was shown of them, the others since no meaning agrees with itself
+every : (r : ℕ) (x y : ℕ → Meaning) → ((k : ℕ) → k < r → Meanings (x k) (y k))
+    → ((k : ℕ) → r ≤ k → (x k ≡ noMeaning) × (y k ≡ noMeaning))
     → (k : ℕ) → Meanings (x k) (y k)
 every r x y low high k = go (decLt k r)
   where
@@ -216,7 +241,7 @@ meaning-agrees g base top cells r =
     (λ child k. meaningBy tagged g base top cells child (rowAt (g .nodes) k .kind) (rowAt (g .nodes) k))
     (λ child k. meaningBy bare g base top (numbers cells) child (rowAt (g .nodes) k .kind) (rowAt (g .nodes) k))
     (λ k x y. Meanings x y)
-    (λ k x y low high. meaning-by-agrees g base top cells x y (every k x y low high) (rowAt (g .nodes) k .kind) (rowAt (g .nodes) k)) r
+    (λ k x y low high. meaning-by-agrees g base top cells x y (every k x y low high) _ _) r
 
 pub find-agrees : (g : Program) (base top : ℕ) (cells : List Cell) (r : ℕ)
     → Founds (findOf tagged g base top cells r) (findOf bare g base top (numbers cells) r)
