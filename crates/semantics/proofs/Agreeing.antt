@@ -5,7 +5,6 @@ use mathlib.Core.List.{List, [], _∷_, _++_, map, map-map}
 use Prim.Native.Nat.{ℕ, zero, suc, _+_, _<_, _≤_}
 use native.Mathlib.Omega.{arith}
 use native.Mathlib.Decide.{decLt}
-use lib.Dec.{eqb}
 use lib.IntN.{ℤ, pos}
 use lib.ListN.{length, take, drop, List·getD-map, length-map}
 use Rattle.prelude.specs.Choice.{choose}
@@ -13,7 +12,7 @@ use Rattle.prelude.proofs.Rec.{rec-rel}
 use Rattle.prelude.proofs.Parts.{take-map, map-append}
 use Rattle.image.specs.declared.Row.{Row}
 use Rattle.image.specs.Rows.{rowAt}
-use Rattle.values.specs.Values.{cellOf, bind}
+use Rattle.values.specs.Values.{bind}
 use Rattle.values.specs.declared.Value.{Value}
 use Rattle.values.specs.declared.Value.the-variants as Vs
 use Rattle.values.specs.declared.Answer.{Answer}
@@ -24,7 +23,7 @@ use Rattle.semantics.specs.declared.Found.{Found}
 use Rattle.semantics.specs.declared.Found.the-variants as Fs
 use Rattle.semantics.specs.declared.Mark.{Mark}
 use Rattle.semantics.specs.declared.Mark.the-variants.{Number, Nothing}
-use Rattle.semantics.specs.Memory.{ADDRESS, TYPE, Cell, tagged, bare, markOf, cellAt}
+use Rattle.semantics.specs.Memory.{ADDRESS, TYPE, Cell, tagged, bare, cellAt}
 use Rattle.semantics.specs.Memory.{valueAt, markAt, partAt, overwrite}
 use Rattle.semantics.specs.Layout.{Program, placeOf}
 use Rattle.semantics.specs.Finding.{reach, content, index, withMark, parameterPlace, variablePlace, arrayPlace}
@@ -116,11 +115,11 @@ numbers cells = map (tagged .number) cells
 -- the two places where the memories differ
 pub held-agrees : (kind : ℕ) (c : Cell) → Answers (tagged .held kind c) (bare .held kind (tagged .number c))
 unfolding tagged bare
-held-agrees kind c = agrees-or (eqb kind (c .kind)) (cellOf kind (c .number))
+held-agrees kind c = agrees-or _ _
 
 pub marked-agrees : (kind : ℕ) (c : Cell) → Marks (tagged .marked kind c) (bare .marked kind (tagged .number c))
 unfolding tagged bare
-marked-agrees kind c = agrees-or (eqb kind (c .kind)) (markOf (c .number))
+marked-agrees kind c = agrees-or _ _
 
 pub cell-number : (cells : List Cell) (a : ℕ) → cellAt bare (numbers cells) a ≡ tagged .number (cellAt tagged cells a)
 unfolding cellAt tagged bare
