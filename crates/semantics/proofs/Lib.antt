@@ -1,1 +1,3 @@
 pub mod Holding
+pub mod FieldRows
+pub mod Objects
