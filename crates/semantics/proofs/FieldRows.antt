@@ -1,6 +1,6 @@
 -- A field that exists stands in the list of its record's fields, and its type is a lower row.
-use mathlib.Core.Path.{_≡_, refl, sym}
-use mathlib.Core.List.{List, [], _∷_, _++_}
+use mathlib.Core.Path.{_≡_}
+use mathlib.Core.List.{List, [], _∷_}
 use mathlib.Core.Logic.{⊎-elim}
 use Prim.Native.Nat.{ℕ, zero, suc, _+_, _<_}
 use native.Mathlib.Omega.{arith}
@@ -9,15 +9,14 @@ use lib.ListN.{length, getD}
 use Rattle.prelude.specs.Parts.{Nth, Nth.here, Nth.there}
 use Rattle.prelude.proofs.Choice.{choose-cases}
 use Rattle.prelude.proofs.Parts.{nth-nil, nth-split}
-use Rattle.image.specs.Rows.{rowAt, rowsOf}
+use Rattle.image.specs.Rows.{rowsOf}
 use Rattle.image.specs.Faults.{KeptIn}
 use Rattle.shapes.specs.Forms.{Form, ofBase, ownTypes}
 use Rattle.shapes.specs.Sizes.{fieldsBy, fieldsOf, offsetOf}
 use Rattle.shapes.specs.Shapes.{fieldKept}
 use Rattle.shapes.proofs.Accepted.{Based, Based.no-base, Based.on-base, Shape, Shape.is-scalar, Shape.is-array}
 use Rattle.shapes.proofs.Accepted.{Shape.is-record, TypesKept, field-low, fields-are}
-use Rattle.relations.specs.declared.FieldAnswer.{FieldAnswer}
-use Rattle.relations.specs.declared.FieldAnswer.the-variants.{Missing, Field}
+use Rattle.relations.specs.declared.FieldAnswer.the-variants.{Field}
 use Rattle.relations.specs.Fields.{fieldOf}
 
 nth-cell : {X : Type 0} (l : List X) (n : ℕ) (d : X) → n < length l → Nth l n (getD l n d)
@@ -26,7 +25,8 @@ nth-cell (x ∷ l) zero d h = here
 nth-cell (x ∷ l) (suc n) d h = there (nth-cell l n d (omega arith))
 
 -- where a field that exists begins, and its type
-pub field-nth : (t f : List ℕ) (r n at x : ℕ) → fieldOf t f r n ≡ Field at x → (at ≡ offsetOf t f r n) × Nth (fieldsOf t f r) n x
+pub field-nth : (t f : List ℕ) (r n at x : ℕ) → fieldOf t f r n ≡ Field at x
+    → (at ≡ offsetOf t f r n) × Nth (fieldsOf t f r) n x
 unfolding fieldOf
 field-nth t f r n at x e =
     ⊎-elim

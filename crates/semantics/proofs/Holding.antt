@@ -5,7 +5,8 @@ use Prim.Native.Nat.{ℕ, zero, suc, _+_, _-_, _≤_, _<_}
 use native.Mathlib.Nat.{zero-add, suc-add}
 use native.Mathlib.Omega.{arith}
 use lib.ListN.{length, getD, take, drop, length-append, length-drop, take-append-drop}
-use lib.Seq.{length-take-le, take-nil, take-append-seam, take-append-le, take-append-add, take-take, drop-drop, drop-append-seam, getD-take}
+use lib.Seq.{length-take-le, take-nil, take-append-seam, take-append-le, take-append-add, take-take}
+use lib.Seq.{drop-drop, drop-append-seam, getD-take}
 use Rattle.prelude.specs.Parts.{Nth, Nth.here, Nth.there, Part}
 use Rattle.prelude.proofs.Parts.{part-nth}
 use Rattle.semantics.specs.Memory.{partAt, overwrite}
@@ -35,10 +36,13 @@ module _ {A B : Type 0} {R : A → B → Type 0} where
   pub matched-split : (w x : List B) {l : List A} → Matched R l (w ++ x)
       → Matched R (take (length w) l) w × Matched R (drop (length w) l) x
   matched-split w x h =
-      (rw (take-append-seam w x) at (matched-take (length w) h), rw (drop-append-seam w x) at (matched-drop (length w) h))
+      let front = matched-take (length w) h in
+      let back = matched-drop (length w) h in
+      (rw (take-append-seam w x) at front, rw (drop-append-seam w x) at back)
 
   -- what stands in a part
-  pub matched-part : {l : List A} {w ws : List B} {at : ℕ} → Matched R l w → Part w at ws → Matched R (partAt l at (length ws)) ws
+  pub matched-part : {l : List A} {w ws : List B} {at : ℕ} → Matched R l w → Part w at ws
+      → Matched R (partAt l at (length ws)) ws
   unfolding partAt
   matched-part {ws = ws} {at} h p =
       let from = rw (p .seen) at (matched-drop at h) in
@@ -59,7 +63,8 @@ module _ {A B : Type 0} {R : A → B → Type 0} where
   matched-nth d (one-more r h) (there k) = matched-nth d h k
 
   -- the cell where a part begins
-  pub matched-at : {l : List A} {w ws : List B} {at : ℕ} {b : B} (d : A) → Matched R l w → Part w at (b ∷ ws) → R (getD l at d) b
+  pub matched-at : {l : List A} {w ws : List B} {at : ℕ} {b : B} (d : A) → Matched R l w → Part w at (b ∷ ws)
+      → R (getD l at d) b
   matched-at d h p = matched-nth d h (part-nth p)
 
 -- ---- cells below a place
@@ -75,7 +80,8 @@ module _ {A : Type 0} where
   unfolding overwrite
   put-below l new at top h low =
       let more : ℕ = top - (at + length new) in
-      let front : length (take at l ++ new) ≡ at + length new = length-append (take at l) new ∙ rw (length-take-le at l (omega arith)) in
+      let front : length (take at l ++ new) ≡ at + length new =
+      length-append (take at l) new ∙ rw (length-take-le at l (omega arith)) in
       let whole : length (take at l ++ new) + more ≡ top = omega (arith, front) in
       let room : at + length new + more ≡ top = omega arith in
       let behind : drop (at + length new) (take top l) ≡ take more (drop (at + length new) l) =

@@ -1,12 +1,12 @@
 -- Where objects, variables and frames stand, and what their cells are to hold.
-use mathlib.Core.Path.{_≡_, refl, sym, _∙_, ap}
+use mathlib.Core.Path.{_≡_, refl, sym, _∙_}
 use mathlib.Core.Bool.{Bool, true, false}
-use mathlib.Core.List.{List, [], _∷_, _++_, map, append-nil}
+use mathlib.Core.List.{List, [], _∷_, _++_, append-nil}
 use mathlib.Core.Logic.{_⊎_, inl, inr}
-use Prim.Native.Nat.{ℕ, zero, suc, _+_, _-_, _*_, _≤_, _<_}
+use Prim.Native.Nat.{ℕ, zero, suc, _+_, _-_, _≤_, _<_}
 use native.Mathlib.Omega.{arith}
 use native.Mathlib.Decide.{decLt}
-use borrow.Author.Tests.{leb-true, eqb-true, eq-eqb, ne-eqb, lt-ltb, le-ltb}
+use borrow.Author.Tests.{leb-true, eqb-true, ne-eqb, lt-ltb, le-ltb}
 use lib.Dec.{ltb, eqb}
 use lib.ListN.{length, length-append, length-map}
 use Rattle.prelude.specs.Choice.{choose}
@@ -20,11 +20,9 @@ use Rattle.shapes.specs.Sizes.{sizeOf, layoutOf}
 use Rattle.shapes.proofs.Rows.{form-array}
 use Rattle.shapes.proofs.Accepted.{array-is}
 use Rattle.shapes.proofs.Layouts.{layout-length, field-layout, element-layout, decide}
-use Rattle.relations.specs.declared.FieldAnswer.the-variants.{Field}
 use Rattle.relations.specs.Extends.{extends}
-use Rattle.relations.specs.Fields.{fieldOf}
 use Rattle.relations.proofs.Extension.{extends-yes, extension-layout}
-use Rattle.frames.specs.Variables.{isGlobal, isLocal, isParameter, kindWithin, globalsFrom, globalsOf}
+use Rattle.frames.specs.Variables.{isGlobal, kindWithin, globalsFrom, globalsOf}
 use Rattle.frames.specs.Procedures.{claimedBy, firstVariable}
 use Rattle.frames.proofs.Claiming.{globals-within}
 use Rattle.places.specs.Places.{widthBy, widthOf, roomBy, roomFrom, globalCells, frameSize, placeIn}
@@ -33,10 +31,11 @@ use Rattle.places.proofs.Counting.{first-none, first-next, first-grows}
 use Rattle.checker.proofs.Accepted.{AcceptedTables}
 use Rattle.semantics.specs.Memory.{ADDRESS, TYPE}
 use Rattle.semantics.specs.Layout.{Program, ownerFrom, ownerOf, placeOf, kindsOf, kindsFrom}
-use Rattle.semantics.specs.Sound.{Want, Want.any-value, Want.exactly, Matched, Matched.no-more, Matched.one-more}
+use Rattle.semantics.specs.Sound.{Want, Want.any-value, Matched, Matched.no-more, Matched.one-more}
 use Rattle.semantics.specs.Sound.{Frame, rowsFrom, valuesOf, frameWants, wants, room, Own}
-use Rattle.semantics.specs.Sound.{Object, Object.of-global, Object.of-frame, Object.of-older, Object.of-field, Object.of-element}
-use Rattle.semantics.specs.Sound.{Slot, Slot.by-value, Slot.by-reference, Stack, Stack.no-frame, Stack.a-frame}
+use Rattle.semantics.specs.Sound.{Object, Object.of-global, Object.of-frame, Object.of-older, Object.of-field}
+use Rattle.semantics.specs.Sound.{Object.of-element}
+use Rattle.semantics.specs.Sound.{Slot, Slot.by-value, Slot.by-reference, Stack, Stack.a-frame}
 use Rattle.semantics.proofs.FieldRows.{field-nth, field-row}
 
 -- ---- the variables of one run of rows
@@ -45,7 +44,8 @@ part-start : {X : Type 0} (l m : List X) → Part (l ++ m) 0 l
 part-start l m = record { rest = m; seen = refl; within = omega arith }
 
 -- the first of some variables comes before the others
-room-first : (size : ℕ → ℕ) (v : List ℕ) (k n : ℕ) → roomBy size v k (suc n) ≡ widthBy size v k + roomBy size v (k + 1) n
+room-first : (size : ℕ → ℕ) (v : List ℕ) (k n : ℕ)
+    → roomBy size v k (suc n) ≡ widthBy size v k + roomBy size v (k + 1) n
 unfolding roomBy
 room-first size v k zero = let q : k + 0 ≡ k = omega arith in rw q (omega arith)
 room-first size v k (suc n) =
@@ -78,7 +78,8 @@ module _ (g : Program) where
       a : ℕ
       a = rowAt (g .variables) k .a
 
-      go : (var : Bool) → length (choose var (ADDRESS ∷ TYPE ∷ []) (layoutOf (g .types) (g .fields) a)) ≡ choose var 2 (sizeOf (g .types) (g .fields) a)
+      go : (var : Bool) → length (choose var (ADDRESS ∷ TYPE ∷ []) (layoutOf (g .types) (g .fields) a))
+          ≡ choose var 2 (sizeOf (g .types) (g .fields) a)
       go true = refl
       go false = layout-length (g .types) (g .fields) a
 
@@ -87,20 +88,24 @@ module _ (g : Program) where
   kinds-room zero k = refl
   kinds-room (suc n) k =
       length-append (kindsOf g k) (kindsFrom g (k + 1) n)
-      ∙ (rw (kinds-width k, kinds-room n (k + 1)) (sym (room-first (sizeOf (g .types) (g .fields)) (g .variables) k n)))
+      ∙ (rw (kinds-width k, kinds-room n (k + 1))
+      (sym (room-first (sizeOf (g .types) (g .fields)) (g .variables) k n)))
 
   kinds-part : (n k j : ℕ) → j < n
       → Part (kindsFrom g k n) (roomFrom (g .types) (g .fields) (g .variables) k j) (kindsOf g (k + j))
   unfolding kindsFrom roomBy
   kinds-part zero k j h = absurd (omega arith)
-  kinds-part (suc n) k zero h = let q : k + 0 ≡ k = omega arith in rw q (part-start (kindsOf g k) (kindsFrom g (k + 1) n))
+  kinds-part (suc n) k zero h =
+      let q : k + 0 ≡ k = omega arith in
+      rw q (part-start (kindsOf g k) (kindsFrom g (k + 1) n))
   kinds-part (suc n) k (suc j) h =
       let row : k + 1 + j ≡ k + suc j = omega arith in
       let place = room-first (sizeOf (g .types) (g .fields)) (g .variables) k j in
       let part = part-part (part-back (kindsOf g k) (kindsFrom g (k + 1) n)) (kinds-part n (k + 1) j (omega arith)) in
       rw (place, ← kinds-width k, ← row) part
 
-  kinds-value : (k : ℕ) → (rowAt (g .variables) k .kind ≡ 3 → ⊥) → kindsOf g k ≡ layoutOf (g .types) (g .fields) (rowAt (g .variables) k .a)
+  kinds-value : (k : ℕ) → (rowAt (g .variables) k .kind ≡ 3 → ⊥)
+      → kindsOf g k ≡ layoutOf (g .types) (g .fields) (rowAt (g .variables) k .a)
   unfolding kindsOf
   kinds-value k other = choose-no _ _ _ (ne-eqb (rowAt (g .variables) k .kind) 3 other)
 
@@ -117,7 +122,8 @@ module _ (g : Program) where
 
   -- ---- the variables of a frame
 
-  slot-width : {fs : List Frame} {k : ℕ} {ws : List Want} → Slot g fs k ws → length ws ≡ widthOf (g .types) (g .fields) (g .variables) k
+  slot-width : {fs : List Frame} {k : ℕ} {ws : List Want} → Slot g fs k ws
+      → length ws ≡ widthOf (g .types) (g .fields) (g .variables) k
   unfolding valuesOf
   slot-width {k = k} (by-value kind) =
       length-map (layoutOf (g .types) (g .fields) (rowAt (g .variables) k .a)) any-value
@@ -131,16 +137,17 @@ module _ (g : Program) where
   slots-room zero k no-more = refl
   slots-room (suc n) k (one-more {b = ws} {r = rest} s h) =
       length-append ws (joined rest)
-      ∙ (rw (slot-width s, slots-room n (k + 1) h) (sym (room-first (sizeOf (g .types) (g .fields)) (g .variables) k n)))
+      ∙ (rw (slot-width s, slots-room n (k + 1) h)
+      (sym (room-first (sizeOf (g .types) (g .fields)) (g .variables) k n)))
 
-  -- variable j of n from row k on
+  -- variable j of those from row k on
   pub record Standing (fs : List Frame) (slots : List (List Want)) (k j : ℕ) : Type 0 where
     pub cells : List Want
     pub slot : Slot g fs (k + j) cells
     pub part : Part (joined slots) (roomFrom (g .types) (g .fields) (g .variables) k j) cells
 
-  slots-part : {fs : List Frame} {slots : List (List Want)} (n k j : ℕ) → Matched (Slot g fs) (rowsFrom k n) slots → j < n
-      → Standing fs slots k j
+  slots-part : {fs : List Frame} {slots : List (List Want)} (n k j : ℕ) → Matched (Slot g fs) (rowsFrom k n) slots
+      → j < n → Standing fs slots k j
   unfolding rowsFrom joined roomBy
   slots-part zero k j h less = absurd (omega arith)
   slots-part (suc n) k zero (one-more {b = ws} {r = rest} s h) less =
@@ -169,11 +176,14 @@ module _ (g : Program) where
   -- ---- who owns a variable
 
   -- a row that is not there claims nothing
-  first-past : (q : ℕ) → rowsOf (g .procedures) ≤ q → firstVariable (g .variables) (g .procedures) (suc q) ≡ firstVariable (g .variables) (g .procedures) q
+  first-past : (q : ℕ) → rowsOf (g .procedures) ≤ q
+      → firstVariable (g .variables) (g .procedures) (suc q)
+      ≡ firstVariable (g .variables) (g .procedures) q
   unfolding claimedBy
   first-past q h = first-next (g .variables) (g .procedures) q ∙ rw (row-missing (g .procedures) q h) (omega arith)
 
-module _ (g : Program) (ok : AcceptedTables (g .types) (g .fields) (g .variables) (g .procedures) (g .nodes) (g .statements)) where
+module _ (g : Program)
+    (ok : AcceptedTables (g .types) (g .fields) (g .variables) (g .procedures) (g .nodes) (g .statements)) where
   -- ---- types
 
   pub values-length : (r : ℕ) → r < rowsOf (g .types) → length (valuesOf g r) ≡ sizeOf (g .types) (g .fields) r
@@ -187,7 +197,8 @@ module _ (g : Program) (ok : AcceptedTables (g .types) (g .fields) (g .variables
       go : Dec (q < rowsOf (g .procedures)) → firstVariable (g .variables) (g .procedures) q ≤ rowsOf (g .variables)
           → firstVariable (g .variables) (g .procedures) (suc q) ≤ rowsOf (g .variables)
       go (yes less) below =
-          rw (← ok .procedures .claimed) (first-grows (g .variables) (g .procedures) (suc q) (rowsOf (g .procedures)) less)
+          rw (← ok .procedures .claimed)
+          (first-grows (g .variables) (g .procedures) (suc q) (rowsOf (g .procedures)) less)
       go (no past) below = rw (first-past g q (omega arith)) below
 
   own-within : {q k : ℕ} → Own g q k → k < rowsOf (g .variables)
@@ -211,24 +222,28 @@ module _ (g : Program) (ok : AcceptedTables (g .types) (g .fields) (g .variables
   -- what the cells of the newest frame's variable hold, and where they stand
   pub slot-at : {f : Frame} {fs : List Frame} → Stack g (f ∷ fs) → (k : ℕ) → Own g (f .procedure) k
       → (ws : List Want) × Slot g fs k ws
-      × Part (wants g (f ∷ fs)) (room g fs + placeIn (g .types) (g .fields) (g .variables) (g .procedures) (f .procedure) k) ws
+      × Part (wants g (f ∷ fs))
+      (room g fs + placeIn (g .types) (g .fields) (g .variables) (g .procedures) (f .procedure) k) ws
   unfolding wants placeIn
   slot-at {f} {fs} (a-frame st low called slots) k own =
       let q : ℕ = f .procedure in
       let first : ℕ = firstVariable (g .variables) (g .procedures) q in
+      let n : ℕ = claimedBy (rowAt (g .procedures) q) in
       let one : q + 1 ≡ suc q = omega arith in
       let high = rw one at (own .high) in
       let start = own .low in
       let row : first + (k - first) ≡ k = omega arith in
-      let claimed : k - first < claimedBy (rowAt (g .procedures) q) = omega (arith, high, first-next (g .variables) (g .procedures) q) in
-      let (ws, slot, part) = standing-row g row (slots-part g (claimedBy (rowAt (g .procedures) q)) first (k - first) slots claimed) in
+      let claimed : k - first < n = omega (arith, high, first-next (g .variables) (g .procedures) q) in
+      let (ws, slot, part) = standing-row g row (slots-part g n first (k - first) slots claimed) in
       (ws, slot, part-part (part-back (wants g fs) (frameWants g f)) (part-part (links-part g f) part))
 
   pub slots-length : {f : Frame} {fs : List Frame} → Stack g (f ∷ fs)
       → length (frameWants g f) ≡ frameSize (g .types) (g .fields) (g .variables) (g .procedures) (f .procedure)
   unfolding frameWants frameSize
   slots-length {f} (a-frame st low called slots) =
-      omega (arith, slots-room g (claimedBy (rowAt (g .procedures) (f .procedure))) (firstVariable (g .variables) (g .procedures) (f .procedure)) slots)
+      let q : ℕ = f .procedure in
+      let first : ℕ = firstVariable (g .variables) (g .procedures) q in
+      omega (arith, slots-room g (claimedBy (rowAt (g .procedures) q)) first slots)
 
   pub room-next : {f : Frame} {fs : List Frame} → Stack g (f ∷ fs)
       → room g (f ∷ fs) ≡ room g fs + frameSize (g .types) (g .fields) (g .variables) (g .procedures) (f .procedure)
@@ -266,16 +281,18 @@ module _ (g : Program) (ok : AcceptedTables (g .types) (g .fields) (g .variables
       rw place (part-part (object-part st o) inner)
   object-part st (of-element {r = r} {i = i} o kind less) =
       let row = rowAt (g .types) r in
-      let inner = part-map any-value (element-layout (g .types) (g .fields) (ok .types) r (row .a) (row .b) i (object-typed o) (form-array row kind) less) in
-      part-part (object-part st o) inner
+      let is = form-array row kind in
+      let inner = element-layout (g .types) (g .fields) (ok .types) r (row .a) (row .b) i (object-typed o) is less in
+      part-part (object-part st o) (part-map any-value inner)
 
   -- and they begin with the layout of every type that it extends
-  pub object-front : {fs : List Frame} {at r : ℕ} (u : ℕ) → Stack g fs → Object g fs at r → extends (g .types) r u ≡ true
-      → Part (wants g fs) at (valuesOf g u)
+  pub object-front : {fs : List Frame} {at r : ℕ} (u : ℕ) → Stack g fs → Object g fs at r
+      → extends (g .types) r u ≡ true → Part (wants g fs) at (valuesOf g u)
   unfolding valuesOf
   object-front {at = at} {r} u st o e =
       let start : at + 0 ≡ at = omega arith in
-      let front = extension-layout (g .types) (g .fields) (ok .types) (extends-yes (g .types) r u e) (object-typed o) in
+      let extension = extends-yes (g .types) r u e in
+      let front = extension-layout (g .types) (g .fields) (ok .types) extension (object-typed o) in
       rw start at (part-part (object-part st o) (part-map any-value front))
 
   -- ---- places of variables
@@ -285,7 +302,8 @@ module _ (g : Program) (ok : AcceptedTables (g .types) (g .fields) (g .variables
   unfolding kindWithin claimedBy
   own-kind q k less own = go (decLt k (firstVariable (g .variables) (g .procedures) q + rowAt (g .procedures) q .b))
     where
-      go : Dec (k < firstVariable (g .variables) (g .procedures) q + rowAt (g .procedures) q .b) → 1 ≤ rowAt (g .variables) k .kind
+      go : Dec (k < firstVariable (g .variables) (g .procedures) q + rowAt (g .procedures) q .b)
+          → 1 ≤ rowAt (g .variables) k .kind
       go (yes parameter) =
           let low : 2 ≤ rowAt (g .variables) k .kind =
           leb-true _ _ (also-true _ _ (ok .procedures .row q less .parameters .each k (own .low) parameter) .0) in
@@ -294,7 +312,8 @@ module _ (g : Program) (ok : AcceptedTables (g .types) (g .fields) (g .variables
           let one : q + 1 ≡ suc q = omega arith in
           let high = rw one at (own .high) in
           let next = first-next (g .variables) (g .procedures) q in
-          leb-true _ _ (also-true _ _ (ok .procedures .row q less .locals .each k (omega arith) (omega (arith, high, next))) .0)
+          let local-row = ok .procedures .row q less .locals .each k (omega arith) (omega (arith, high, next)) in
+          leb-true _ _ (also-true _ _ local-row .0)
 
   owner-is : (q k : ℕ) → Own g q k → (n i : ℕ) → i ≤ q → q < i + n → ownerFrom (g .variables) (g .procedures) k i n ≡ q
   unfolding ownerFrom
@@ -303,7 +322,8 @@ module _ (g : Program) (ok : AcceptedTables (g .types) (g .fields) (g .variables
     where
       go : (i ≡ q) ⊎ (i ≡ q → ⊥)
           → (i + 1 ≤ q → q < i + 1 + n → ownerFrom (g .variables) (g .procedures) k (i + 1) n ≡ q)
-          → choose (ltb k (firstVariable (g .variables) (g .procedures) (i + 1))) i (ownerFrom (g .variables) (g .procedures) k (i + 1) n) ≡ q
+          → choose (ltb k (firstVariable (g .variables) (g .procedures) (i + 1))) i
+          (ownerFrom (g .variables) (g .procedures) k (i + 1) n) ≡ q
       go (inl same) ih = choose-yes _ _ _ (lt-ltb k _ (rw same (own .high))) ∙ same
       go (inr other) ih =
           let grows = first-grows (g .variables) (g .procedures) (i + 1) q (omega arith) in
