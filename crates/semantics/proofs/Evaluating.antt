@@ -1,18 +1,18 @@
 -- Finding and evaluating from a sound state: an object of the node's type, a value of its kind, or a trap.
 use mathlib.Core.Path.{_≡_, refl, sym, _∙_, ap, subst}
-use mathlib.Core.Bool.{Bool, true, false}
-use mathlib.Core.List.{List, [], _∷_, _++_, map}
+use mathlib.Core.Bool.{Bool, true, false, _&&_}
+use mathlib.Core.List.{List, [], _∷_, _++_, map, append-nil}
 use mathlib.Core.Logic.{_⊎_, inl, inr, ⊎-elim}
-use Prim.Native.Nat.{ℕ, _+_, _-_, _*_, _≤_, _<_}
+use Prim.Native.Nat.{ℕ, suc, _+_, _-_, _*_, _≤_, _<_}
 use native.Mathlib.Omega.{arith}
 use native.Mathlib.Decide.{decLe, decLt}
 use borrow.Author.Tests.{lt-ltb, le-ltb, le-leb, lt-leb, eq-eqb, ne-eqb, eqb-true, leb-true, ltb-true}
 use lib.Dec.{ltb, leb, eqb}
 use lib.IntN.{ℤ, pos, negsuc}
-use lib.ListN.{length, getD, take, drop, length-drop}
+use lib.ListN.{length, getD, take, drop, length-drop, length-append}
 use Rattle.prelude.specs.Choice.{choose, _also_}
 use Rattle.prelude.specs.Parts.{Part}
-use Rattle.prelude.proofs.Choice.{choose-yes, choose-no, choose-cases, also-true, also-yes}
+use Rattle.prelude.proofs.Choice.{choose-yes, choose-no, choose-cases, also-true, also-yes, clash}
 use Rattle.prelude.proofs.Parts.{part-part}
 use Rattle.prelude.proofs.Rec.{rec-ind}
 use Rattle.image.specs.declared.Row.{Row}
@@ -20,6 +20,7 @@ use Rattle.image.specs.Rows.{rowAt, rowsOf}
 use Rattle.image.specs.Faults.{KeptIn}
 use Rattle.image.proofs.Bytes.{Bytes, Small, row-small}
 use Rattle.shapes.specs.Sizes.{sizeOf, layoutOf}
+use Rattle.shapes.proofs.Layouts.{decide}
 use Rattle.relations.specs.declared.FieldAnswer.{FieldAnswer}
 use Rattle.relations.specs.declared.FieldAnswer.the-variants.{Missing, Field}
 use Rattle.relations.specs.Extends.{extends}
@@ -66,11 +67,11 @@ use Rattle.semantics.specs.declared.Mark.{Mark}
 use Rattle.semantics.specs.declared.Mark.the-variants.{Number, Nothing}
 use Rattle.semantics.specs.Memory.{ADDRESS, TYPE, Cell, Memory, tagged, markOf, cellAt, valueAt, markAt}
 use Rattle.semantics.specs.Layout.{Program, placeOf}
-use Rattle.semantics.specs.Finding.{reach, content, index, withMark, parameterPlace, variablePlace, fieldPlace, elementPlace, arrayPlace}
+use Rattle.semantics.specs.Finding.{reach, content, index, withMark, object, parameterPlace, variablePlace, fieldPlace, elementPlace, arrayPlace}
 use Rattle.semantics.specs.Finding.{guardPlace, testOf, Meaning, noMeaning, designator, meaningBy, meaningOf, findOf, evalOf}
 use Rattle.semantics.specs.Stepping.{State}
 use Rattle.semantics.specs.Sound.{Want, Want.any-value, Want.exactly, Fits, Fits.fits-value, Fits.fits-exactly, Matched, Frame}
-use Rattle.semantics.specs.Sound.{valuesOf, wants, room, Own, Object, Object.of-global, Object.of-frame, Object.of-older}
+use Rattle.semantics.specs.Sound.{valuesOf, frameWants, wants, room, Own, Object, Object.of-global, Object.of-frame, Object.of-older}
 use Rattle.semantics.specs.Sound.{Object.of-field, Object.of-element, Slot, Slot.by-value, Slot.by-reference, Stack, Stack.a-frame, Sound}
 use Rattle.semantics.proofs.Holding.{matched-at, cell-below}
 use Rattle.semantics.proofs.Objects.{object-typed, object-part, slot-at, place-own, place-global}
@@ -89,14 +90,13 @@ pub data Designates (g : Program) (r : ℕ) : Type 0 where
 
 -- ---- one law a combinator
 
-bool-other : {b : Bool} → kindOf (Vs.Bool b) ≡ INTEGER → ⊥
+bool-other : (b : Bool) → kindOf (Vs.Bool b) ≡ INTEGER → ⊥
 unfolding kindOf
-bool-other e = absurd (omega arith)
+bool-other b e = absurd (omega arith)
 
-set-other : {b : ℕ} → kindOf (Vs.Set b) ≡ INTEGER → ⊥
+set-other : (b : ℕ) → kindOf (Vs.Set b) ≡ INTEGER → ⊥
 unfolding kindOf
-set-other e = absurd (omega arith)
-
+set-other b e = absurd (omega arith)
 
 module _ {g : Program} {fs : List Frame} where
   reach-ok : {x y : ℕ} {m : Found} (k : Place → Found) → FoundOk g fs x m
@@ -116,8 +116,8 @@ module _ {g : Program} {fs : List Frame} where
   index-ok : {y : ℕ} {m : Answer} (k : ℤ → Found) → Gives INTEGER m → ((z : ℤ) → FoundOk g fs y (k z)) → FoundOk g fs y (index m k)
   unfolding index
   index-ok k (value {v = Vs.Int z} e range) next = next z
-  index-ok k (value {v = Vs.Bool b} e range) next = absurd (bool-other e)
-  index-ok k (value {v = Vs.Set b} e range) next = absurd (set-other e)
+  index-ok k (value {v = Vs.Bool b} e range) next = absurd (bool-other b e)
+  index-ok k (value {v = Vs.Set b} e range) next = absurd (set-other b e)
   index-ok k trapped next = found-trap
 
   choose-ok : {x : ℕ} (b : Bool) {m n : Found} → (b ≡ true → FoundOk g fs x m) → (b ≡ false → FoundOk g fs x n) → FoundOk g fs x (choose b m n)
@@ -152,8 +152,17 @@ dyadic-operands op left right x e =
     (choose-cases (eqb left 1) (k .1)))
     (choose-cases (eqb left 0) e)
 
+both-right : (a b : Bool) → (a && b) ≡ true → b ≡ true
+both-right true b e = e
+both-right false b e = clash (sym e)
+
 monadic-operand : (op operand x : ℕ) → monadicKind op operand ≡ Kind x → operand ≤ 2
-monadic-operand op operand x e = ?
+unfolding monadicKind
+monadic-operand op operand x e =
+    ⊎-elim
+    (λ k. let (a, b) = test-yes _ (k .1) in leb-true operand 2 (both-right (leb 1 operand) (leb operand 2) a))
+    (λ k. let (a, b) = test-yes _ (k .1) in let (c, d) = test-yes _ b in let z = eqb-true operand 0 c in omega arith)
+    (choose-cases (eqb op 1) e)
 
 -- ---- wants and cells
 
@@ -162,10 +171,400 @@ module _ {w : List Want} {at : ℕ} {b : Want} {ws : List Want} (p : Part w at (
   part-inside = let l = length-drop at w in let e = ap length (p .seen) in let h = p .within in omega arith
 
   part-next : Part w (at + 1) ws
-  part-next = part-part p (record { rest = []; seen = ?; within = omega arith })
+  part-next = part-part p (record { rest = []; seen = sym (append-nil ws); within = omega arith })
 
 -- ---- nodes
 
 record MeaningOk (g : Program) (fs : List Frame) (r x : ℕ) (m : Meaning) : Type 0 where
   place : Designates g r → FoundOk g fs x (m .place)
   value : x ≤ 2 → Gives x (m .value)
+
+module _ (g : Program) (ok : AcceptedTables (g .types) (g .fields) (g .variables) (g .procedures) (g .nodes) (g .statements))
+    (bytes : Bytes (g .nodes)) (s : State Cell) (sound : Sound g s) where
+  abbrev frames : List Frame
+  frames = sound .newest ∷ sound .others
+
+  abbrev procedure : ℕ
+  procedure = sound .newest .procedure
+
+  abbrev base : ℕ
+  base = s .at .base
+
+  abbrev top : ℕ
+  top = s .at .top
+
+  abbrev cells : List Cell
+  cells = s .cells
+
+  there : procedure < rowsOf (g .procedures)
+  there = sound .inside .procedure
+
+  -- ---- cells below top
+
+  cell-fits : {at : ℕ} {b : Want} {ws : List Want} → Part (wants g frames) at (b ∷ ws) → (at < top) × Fits (cellAt tagged cells at) b
+  unfolding cellAt
+  cell-fits {at} p =
+      let inside : at < top = let e = sound .ends in let h = part-inside p in omega arith in
+      (inside, rw (← cell-below cells (tagged .loose (pos 0)) at top inside) (matched-at (tagged .loose (pos 0)) (sound .holding) p))
+
+  held-value : (x : ℕ) (c : Cell) → Fits c (any-value x) → Gives x (tagged .held x c)
+  unfolding tagged
+  held-value x c (fits-value {v = v} kind e) =
+      let held = cell-held x (c .number) e in
+      rw (choose-yes _ (cellOf x (c .number)) As.Stuck (eq-eqb x (c .kind) (sym kind)), e) (value (held .kind) (held .range))
+
+  marked-number : (k n : ℕ) (c : Cell) → n < 65536 + 1 → (k ≡ TYPE → n < 65536) → Fits c (exactly k n) → tagged .marked k c ≡ Number n
+  unfolding tagged markOf
+  marked-number k n c small type (fits-exactly kind e) =
+      choose-yes _ _ _ (eq-eqb k (c .kind) (sym kind)) ∙ rw e (choose-yes _ _ _ (lt-ltb n _ (bound (decide k TYPE))))
+    where
+      bound : (k ≡ TYPE) ⊎ (k ≡ TYPE → ⊥) → n < choose (eqb k TYPE) 65536 4294967296
+      bound (inl same) = rw (choose-yes {X = ℕ} _ 65536 4294967296 (eq-eqb k TYPE same)) (type same)
+      bound (inr other) = rw (choose-no {X = ℕ} _ 65536 4294967296 (ne-eqb k TYPE other)) (omega arith)
+
+  mark-is : (k n : ℕ) {at : ℕ} {ws : List Want} → Part (wants g frames) at (exactly k n ∷ ws) → n < 65536 + 1 → (k ≡ TYPE → n < 65536)
+      → markAt tagged top cells k at ≡ Number n
+  unfolding markAt
+  mark-is k n {at} p small type =
+      let (inside, fits) = cell-fits p in
+      choose-yes _ _ _ (lt-ltb at top inside) ∙ marked-number k n (cellAt tagged cells at) small type fits
+
+  -- ---- an object's value
+
+  scalar-value : (x : ℕ) → x ≤ 2 → (place : Place) → place .declared ≡ x → extends (g .types) (place .dynamic) (place .declared) ≡ true
+      → Object g frames (place .address) (place .dynamic) → Gives x (valueAt tagged top cells (place .declared) (place .address))
+  unfolding valueAt valuesOf
+  scalar-value x h place declared extended object =
+      let scalars = ok .scalars in
+      let low = object-typed g ok object in
+      let other : rowAt (g .types) (place .declared) .kind ≡ 4 → ⊥ = rw declared (scalar-other (g .types) (g .fields) (ok .types) x (omega arith) (omega arith)) in
+      let dynamic : place .dynamic ≡ x = extends-other (g .types) (g .fields) (ok .types) (place .dynamic) (place .declared) extended low other ∙ declared in
+      let part = rw dynamic at (object-part g ok (sound .stack) object) in
+      let one = rw (scalar-layout (g .types) (g .fields) (ok .types) x (omega arith) (omega arith)) at part in
+      let (inside, fits) = cell-fits one in
+      rw (declared, choose-yes _ (tagged .held x (cellAt tagged cells (place .address))) As.Stuck (lt-ltb (place .address) top inside))
+      (held-value x (cellAt tagged cells (place .address)) fits)
+
+  designator-ok : (r x : ℕ) (found : Found) → FoundOk g frames x found → MeaningOk g frames r x (designator tagged top cells found)
+  unfolding designator
+  designator-ok r x found is = record {
+    place = λ d. is;
+    value = λ h. content-ok (λ place. valueAt tagged top cells (place .declared) (place .address)) is (scalar-value x h);
+  }
+
+  -- ---- variables
+
+  own-kind : (a : ℕ) → Own g procedure a → (1 ≤ rowAt (g .variables) a .kind) × (rowAt (g .variables) a .kind ≤ 3)
+  unfolding claimedBy kindWithin
+  own-kind a own =
+      let q = procedure in
+      let first = firstVariable (g .variables) (g .procedures) q in
+      let row = ok .procedures .row q there in
+      let next = first-next (g .variables) (g .procedures) q in
+      let one : q + 1 ≡ suc q = omega arith in
+      let high = rw one at (own .high) in
+      let low = own .low in
+      go (decLt a (first + rowAt (g .procedures) q .b))
+      (λ l. also-true _ _ (row .parameters .each a low l))
+      (λ l. also-true _ _ (row .locals .each a l (omega arith)))
+    where
+      go : Dec (a < firstVariable (g .variables) (g .procedures) procedure + rowAt (g .procedures) procedure .b)
+          → (a < firstVariable (g .variables) (g .procedures) procedure + rowAt (g .procedures) procedure .b
+          → (leb 2 (rowAt (g .variables) a .kind) ≡ true) × (leb (rowAt (g .variables) a .kind) 3 ≡ true))
+          → (firstVariable (g .variables) (g .procedures) procedure + rowAt (g .procedures) procedure .b ≤ a
+          → (leb 1 (rowAt (g .variables) a .kind) ≡ true) × (leb (rowAt (g .variables) a .kind) 1 ≡ true))
+          → (1 ≤ rowAt (g .variables) a .kind) × (rowAt (g .variables) a .kind ≤ 3)
+      go (yes l) parameters locals = let (x, y) = parameters l in let b : 2 ≤ rowAt (g .variables) a .kind = leb-true 2 _ x in (omega arith, leb-true _ 3 y)
+      go (no l) parameters locals = let (x, y) = locals (omega arith) in let b : rowAt (g .variables) a .kind ≤ 1 = leb-true _ 1 y in (leb-true 1 _ x, omega arith)
+
+  global-kind : (a : ℕ) → isGlobal (g .variables) a ≡ true → rowAt (g .variables) a .kind ≡ 0
+  unfolding isGlobal
+  global-kind a e = eqb-true (rowAt (g .variables) a .kind) 0 e
+
+  abbrev variableAt : ℕ → Found
+  variableAt a = variablePlace tagged g base top cells a (rowAt (g .variables) a)
+
+  variable-global : (a : ℕ) → a < rowsOf (g .variables) → isGlobal (g .variables) a ≡ true → FoundOk g frames (rowAt (g .variables) a .a) (variableAt a)
+  unfolding variablePlace
+  variable-global a low e =
+      let kind = global-kind a e in
+      rw (choose-yes _ (object (placeOf g a) (rowAt (g .variables) a .a)) _ (eq-eqb (rowAt (g .variables) a .kind) 0 kind))
+      (found-ok {place = record { address = placeOf g a; declared = rowAt (g .variables) a .a; dynamic = rowAt (g .variables) a .a }} refl (extends-refl (g .types) (rowAt (g .variables) a .a))
+      (rw (place-global g ok a e) (of-global (global-low (g .types) (g .variables) a (ok .variable a low) low e kind))))
+
+  -- a local or value parameter stands in the newest frame
+  variable-plain : (a : ℕ) → Own g procedure a → 1 ≤ rowAt (g .variables) a .kind → rowAt (g .variables) a .kind ≤ 2
+      → FoundOk g frames (rowAt (g .variables) a .a) (variableAt a)
+  unfolding variablePlace
+  variable-plain a own least most =
+      rw (choose-no _ _ _ (ne-eqb (rowAt (g .variables) a .kind) 0 (λ e. absurd (omega arith))), choose-yes _ _ _ (le-leb (rowAt (g .variables) a .kind) 2 most))
+      (found-ok {place = record { address = base + placeOf g a; declared = rowAt (g .variables) a .a; dynamic = rowAt (g .variables) a .a }} refl (extends-refl (g .types) (rowAt (g .variables) a .a))
+      (rw (sound .begins, place-own g ok procedure a there own) (of-frame own most)))
+
+  -- the address of an object, and its type, as numbers of cells
+  object-small : {fs : List Frame} {at r : ℕ} → Stack g fs → Object g fs at r → room g fs ≤ 65536 → (at < 65536 + 1) × (r < 65536)
+  object-small st object small =
+      let within = object-part g ok st object .within in
+      let typed = object-typed g ok object in
+      let few = ok .counts .types in
+      (omega arith, omega arith)
+
+  older : Stack g (sound .others)
+  older = go (sound .stack)
+    where
+      go : {f : Frame} {fs : List Frame} → Stack g (f ∷ fs) → Stack g fs
+      go (a-frame st low called slots) = st
+
+  older-small : room g (sound .others) ≤ 65536
+  unfolding wants
+  older-small =
+      let e = sound .ends in
+      let l = length-append (wants g (sound .others)) (frameWants g (sound .newest)) in
+      let h = sound .stored in
+      let few = sound .lent in
+      omega arith
+
+  parameter-slot : (a : ℕ) {ws : List Want} → Slot g (sound .others) a ws → rowAt (g .variables) a .kind ≡ 3 → (at : ℕ)
+      → Part (wants g frames) at ws → FoundOk g frames (rowAt (g .variables) a .a) (parameterPlace tagged top cells at (rowAt (g .variables) a .a))
+  unfolding parameterPlace withMark
+  parameter-slot a (by-value most) kind at part = absurd (omega arith)
+  parameter-slot a (by-reference {at = address} {r = r} is object extended) kind at part =
+      let small = older-small in
+      let (low, type) = object-small older object small in
+      rw (mark-is ADDRESS address part low (λ e. absurd (omega arith)), mark-is TYPE r (part-next part) (omega arith) (λ e. type))
+      (found-ok {place = record { address = address; declared = rowAt (g .variables) a .a; dynamic = r }} refl extended (of-older object))
+
+  variable-parameter : (a : ℕ) → Own g procedure a → rowAt (g .variables) a .kind ≡ 3 → FoundOk g frames (rowAt (g .variables) a .a) (variableAt a)
+  unfolding variablePlace
+  variable-parameter a own kind =
+      let (ws, slot, part) = slot-at g ok (sound .stack) a own in
+      rw (
+        choose-no _ _ _ (ne-eqb (rowAt (g .variables) a .kind) 0 (λ e. absurd (omega arith))),
+        choose-no _ _ _ (lt-leb (rowAt (g .variables) a .kind) 2 (omega arith)),
+        choose-yes _ _ _ (eq-eqb (rowAt (g .variables) a .kind) 3 kind),
+      )
+      (parameter-slot a slot kind (base + placeOf g a) (rw (sound .begins, place-own g ok procedure a there own) part))
+
+  variable-ok : (a : ℕ) → a < rowsOf (g .variables) → ownVariable (g .variables) (g .procedures) procedure a ≡ true
+      → FoundOk g frames (rowAt (g .variables) a .a) (variableAt a)
+  variable-ok a low e =
+      ⊎-elim (variable-global a low) (λ h. mine (record { low = h .0; high = h .1 })) (own-variable (g .variables) (g .procedures) procedure a e)
+    where
+      mine : Own g procedure a → FoundOk g frames (rowAt (g .variables) a .a) (variableAt a)
+      mine own = go (decLe (rowAt (g .variables) a .kind) 2)
+        where
+          go : Dec (rowAt (g .variables) a .kind ≤ 2) → FoundOk g frames (rowAt (g .variables) a .a) (variableAt a)
+          go (yes h) = variable-plain a own (own-kind a own .0) h
+          go (no h) = let most = own-kind a own .1 in variable-parameter a own (omega arith)
+
+  -- ---- guards, fields, elements
+
+  guard-ok : (b x : ℕ) {m : Found} → FoundOk g frames x m → FoundOk g frames b (reach m (guardPlace g b))
+  unfolding guardPlace
+  guard-ok b x is =
+      reach-ok (guardPlace g b) is (λ place declared extended object.
+      choose-ok (extends (g .types) (place .dynamic) b) (λ e. found-ok {place = record { address = place .address; declared = b; dynamic = place .dynamic }} refl e object)
+      (λ e. found-trap))
+
+  field-ok : (w j at x : ℕ) {m : Found} → fieldOf (g .types) (g .fields) w j ≡ Field at x → FoundOk g frames w m
+      → FoundOk g frames x (reach m (λ whole. fieldPlace whole (fieldOf (g .types) (g .fields) (whole .declared) j)))
+  unfolding fieldPlace
+  field-ok w j at x field is =
+      reach-ok (λ whole. fieldPlace whole (fieldOf (g .types) (g .fields) (whole .declared) j)) is (λ place declared extended object.
+      let here : fieldOf (g .types) (g .fields) (place .declared) j ≡ Field at x = rw declared field in
+      rw here
+      (found-ok {place = record { address = place .address + at; declared = x; dynamic = x }} refl (extends-refl (g .types) x)
+      (of-field j object (extension-field (g .types) (g .fields) (ok .types) (place .dynamic) (place .declared) j extended (object-typed g ok object) here))))
+
+  element-there : (place : Place) → rowAt (g .types) (place .declared) .kind ≡ 3 → extends (g .types) (place .dynamic) (place .declared) ≡ true
+      → Object g frames (place .address) (place .dynamic) → (z : ℤ)
+      → FoundOk g frames (rowAt (g .types) (place .declared) .a) (elementPlace g place (rowAt (g .types) (place .declared)) z)
+  unfolding elementPlace
+  element-there place array extended thing (pos i) =
+      let other : rowAt (g .types) (place .declared) .kind ≡ 4 → ⊥ = λ e. absurd (omega arith) in
+      let same = extends-other (g .types) (g .fields) (ok .types) (place .dynamic) (place .declared) extended (object-typed g ok thing) other in
+      let element = rowAt (g .types) (place .declared) .a in
+      choose-ok (ltb i (rowAt (g .types) (place .declared) .b))
+      (λ e. found-ok {place = record { address = place .address + i * sizeOf (g .types) (g .fields) element; declared = element; dynamic = element }} refl
+      (extends-refl (g .types) element) (of-element (rw same at thing) array (ltb-true i _ e)))
+      (λ e. found-trap)
+  element-there place array extended thing (negsuc i) = found-trap
+
+  element-ok : (w : ℕ) {m : Found} {index-answer : Answer} → rowAt (g .types) w .kind ≡ 3 → FoundOk g frames w m → Gives INTEGER index-answer
+      → FoundOk g frames (rowAt (g .types) w .a) (reach m (λ whole. arrayPlace g whole index-answer))
+  unfolding arrayPlace
+  element-ok w {index-answer = answer} array is gives =
+      reach-ok (λ whole. arrayPlace g whole answer) is (λ place declared extended thing.
+      let here : rowAt (g .types) (place .declared) .kind ≡ 3 = rw declared array in
+      rw (choose-yes _ (index answer (elementPlace g place (rowAt (g .types) (place .declared)))) Fs.Stuck (eq-eqb _ 3 here), ← declared)
+      (index-ok (elementPlace g place (rowAt (g .types) (place .declared))) gives (element-there place here extended thing)))
+
+  test-ok : (b x : ℕ) {m : Found} → FoundOk g frames x m → Gives BOOLEAN (content m (testOf g b))
+  unfolding testOf
+  test-ok b x is = content-ok (testOf g b) is (λ place declared extended thing. gives-boolean (extends (g .types) (place .dynamic) b))
+
+  -- ---- every node, from the low rows up
+
+  designator-yes : {k : ℕ} → Designator (g .nodes) k → isDesignator (g .nodes) k ≡ true
+  unfolding isDesignator
+  designator-yes {k} d = also-yes (le-leb 1 (rowAt (g .nodes) k .kind) (d .least)) (le-leb (rowAt (g .nodes) k .kind) 4 (d .most))
+
+  abbrev Right : ℕ → Meaning → Type 0
+  Right r m = r < rowsOf (g .nodes) → (x : ℕ) → typeOf (g .types) (g .fields) (g .variables) (g .nodes) r ≡ Kind x
+      → ownBelow (g .variables) (g .procedures) (g .nodes) procedure r ≡ true → MeaningOk g frames r x m
+
+  abbrev by : (ℕ → Meaning) → ℕ → Row → Meaning
+  by child kind row = meaningBy tagged g base top cells child kind row
+
+  expression-ok : (r x : ℕ) {answer : Answer} → (isDesignator (g .nodes) r ≡ true → ⊥) → (rowAt (g .nodes) r .kind ≡ 8 → ⊥) → Gives x answer
+      → MeaningOk g frames r x (record { place = Fs.Stuck; value = answer })
+  expression-ok r x plain other gives = record { place = λ d. no d; value = λ h. gives }
+    where
+      no : Designates g r → FoundOk g frames x Fs.Stuck
+      no (itself e) = absurd (plain e)
+      no (as-argument k e) = absurd (other k)
+
+  not-designator : (r : ℕ) → 4 < rowAt (g .nodes) r .kind → isDesignator (g .nodes) r ≡ true → ⊥
+  not-designator r h e = let d = designator-is (g .nodes) r e in let most = d .most in absurd (omega arith)
+
+  not-constant : (r : ℕ) → rowAt (g .nodes) r .kind ≡ 0 → isDesignator (g .nodes) r ≡ true → ⊥
+  not-constant r h e = let d = designator-is (g .nodes) r e in let least = d .least in absurd (omega arith)
+
+  module _ (r : ℕ) (child : ℕ → Meaning) (ih : (k : ℕ) → k < r → Right k (child k)) (low : r < rowsOf (g .nodes)) (x : ℕ)
+      (typed : typeOf (g .types) (g .fields) (g .variables) (g .nodes) r ≡ Kind x)
+      (own : ownBelow (g .variables) (g .procedures) (g .nodes) procedure r ≡ true) where
+    abbrev row : Row
+    row = rowAt (g .nodes) r
+
+    abbrev types-of : ℕ → KindAnswer
+    types-of k = typeOf (g .types) (g .fields) (g .variables) (g .nodes) k
+
+    abbrev owned : ℕ → Type 0
+    owned k = ownBelow (g .variables) (g .procedures) (g .nodes) procedure k ≡ true
+
+    whole-place : (k w : ℕ) → Whole (g .nodes) r k → types-of k ≡ Kind w → owned k → FoundOk g frames w (child k .place)
+    whole-place k w is type own-child =
+        let there-row = is .node .within in
+        ih k (is .low) there-row w type own-child .place (itself (designator-yes (is .node)))
+
+    child-value : (k w : ℕ) → k < r → k < rowsOf (g .nodes) → types-of k ≡ Kind w → owned k → w ≤ 2 → Gives w (child k .value)
+    child-value k w less there-row type own-child h = ih k less there-row w type own-child .value h
+
+    node-by : (kind : ℕ) → row .kind ≡ kind → MeaningOk g frames r x (by child kind row) → MeaningOk g frames r x (by child (row .kind) row)
+    node-by kind e m = subst (λ (j : ℕ). MeaningOk g frames r x (by child j row)) (sym e) m
+
+    constant-node : row .kind ≡ 0 → ConstantNode row → MeaningOk g frames r x (by child 0 row)
+    unfolding meaningBy choose
+    constant-node k c =
+        let small = row-small (g .nodes) bytes r in
+        let type = constant-type (g .types) (g .fields) (g .variables) (g .nodes) (ok .questions .nodes) r low typed k in
+        let most = c .typed in
+        rw type (expression-ok r (row .a) (not-constant r k) (λ e. absurd (omega arith))
+        (constant-typed (row .a) (row .b) (row .c) (omega arith) (λ e. let (b, d) = c .boolean e in omega arith) (small .b) (small .c)))
+
+    variable-node : row .kind ≡ 1 → VariableNode (g .variables) row → MeaningOk g frames r x (by child 1 row)
+    unfolding meaningBy choose
+    variable-node k c =
+        let type = variable-typed (g .types) (g .fields) (g .variables) (g .nodes) (ok .questions .nodes) r low typed k in
+        let mine = variable-own (g .types) (g .variables) (g .procedures) (g .nodes) (ok .questions .nodes) procedure r low own k in
+        rw type (designator-ok r (rowAt (g .variables) (row .a) .a) (variableAt (row .a)) (variable-ok (row .a) (c .variable) mine))
+
+    field-node : row .kind ≡ 2 → FieldNode (g .nodes) r row → MeaningOk g frames r x (by child 2 row)
+    unfolding meaningBy choose
+    field-node k c =
+        let type = field-typed (g .types) (g .fields) (g .variables) (g .nodes) (ok .questions .nodes) r low typed k in
+        let mine = field-own (g .types) (g .variables) (g .procedures) (g .nodes) (ok .questions .nodes) procedure r low own k in
+        designator-ok r x _ (field-ok (type .whole) (row .b) (type .at) x (type .field) (whole-place (row .a) (type .whole) (c .whole) (type .whole-type) mine))
+
+    element-node : row .kind ≡ 3 → ElementNode (g .nodes) r row → MeaningOk g frames r x (by child 3 row)
+    unfolding meaningBy choose
+    element-node k c =
+        let type = element-typed (g .types) (g .fields) (g .variables) (g .nodes) (ok .questions .nodes) r low typed k in
+        let (mine, index-own) = element-own (g .types) (g .variables) (g .procedures) (g .nodes) (ok .questions .nodes) procedure r low own k in
+        rw (type .element)
+        (designator-ok r (rowAt (g .types) (type .whole) .a) _
+        (element-ok (type .whole) (type .array) (whole-place (row .a) (type .whole) (c .whole) (type .whole-type) mine)
+        (child-value (row .b) INTEGER (c .index .low) (c .index .node .within) (type .index-type) index-own (omega arith))))
+
+    guard-node : row .kind ≡ 4 → GuardNode (g .types) (g .variables) row → MeaningOk g frames r x (by child 4 row)
+    unfolding meaningBy choose
+    guard-node k c =
+        let type = guard-typed (g .types) (g .fields) (g .variables) (g .nodes) (ok .questions .nodes) r low typed k in
+        let mine = guard-own (g .types) (g .variables) (g .procedures) (g .nodes) (ok .questions .nodes) procedure r low own k in
+        rw (type .guarded) (designator-ok r (row .b) _ (guard-ok (row .b) (rowAt (g .variables) (row .a) .a) (variable-ok (row .a) (c .variable) mine)))
+
+    dyadic-node : row .kind ≡ 5 → DyadicNode (g .nodes) r row → MeaningOk g frames r x (by child 5 row)
+    unfolding meaningBy choose
+    dyadic-node k c =
+        let type = dyadic-typed (g .types) (g .fields) (g .variables) (g .nodes) (ok .questions .nodes) r low typed k in
+        let (left-own, right-own) = dyadic-own (g .types) (g .variables) (g .procedures) (g .nodes) (ok .questions .nodes) procedure r low own k in
+        let (left-low, right-low) = dyadic-operands (row .c) (type .left) (type .right) x (type .result) in
+        expression-ok r x (not-designator r (omega arith)) (λ e. absurd (omega arith))
+        (bind-ok (λ left. appliedTo (row .c) left (child (row .b) .value))
+        (child-value (row .a) (type .left) (c .left .low) (c .left .node .within) (type .left-type) left-own left-low)
+        (λ v e range. applied-typed (row .c) (rw e (type .result)) range
+        (child-value (row .b) (type .right) (c .right .low) (c .right .node .within) (type .right-type) right-own right-low)))
+
+    monadic-node : row .kind ≡ 6 → MonadicNode (g .nodes) r row → MeaningOk g frames r x (by child 6 row)
+    unfolding meaningBy choose
+    monadic-node k c =
+        let type = monadic-typed (g .types) (g .fields) (g .variables) (g .nodes) (ok .questions .nodes) r low typed k in
+        let mine = monadic-own (g .types) (g .variables) (g .procedures) (g .nodes) (ok .questions .nodes) procedure r low own k in
+        let scalar = monadic-operand (row .c) (type .operand) x (type .result) in
+        expression-ok r x (not-designator r (omega arith)) (λ e. absurd (omega arith))
+        (bind-ok (λ operand. monadicOf (row .c) operand)
+        (child-value (row .a) (type .operand) (c .operand .low) (c .operand .node .within) (type .operand-type) mine scalar)
+        (λ v e range. operator-typed (row .c) (rw e (type .result)) range))
+
+    test-node : row .kind ≡ 7 → GuardNode (g .types) (g .variables) row → MeaningOk g frames r x (by child 7 row)
+    unfolding meaningBy choose
+    test-node k c =
+        let type = test-typed (g .types) (g .fields) (g .variables) (g .nodes) (ok .questions .nodes) r low typed k in
+        let mine = test-own (g .types) (g .variables) (g .procedures) (g .nodes) (ok .questions .nodes) procedure r low own k in
+        rw (type .boolean)
+        (expression-ok r BOOLEAN (not-designator r (omega arith)) (λ e. absurd (omega arith))
+        (test-ok (row .b) (rowAt (g .variables) (row .a) .a) (variable-ok (row .a) (c .variable) mine)))
+
+    argument-node : row .kind ≡ 8 → ArgumentNode (g .nodes) r row → MeaningOk g frames r x (by child 8 row)
+    unfolding meaningBy choose
+    argument-node k c =
+        let type = argument-typed (g .types) (g .fields) (g .variables) (g .nodes) (ok .questions .nodes) r low typed k in
+        let mine = argument-own (g .types) (g .variables) (g .procedures) (g .nodes) (ok .questions .nodes) procedure r low own k in
+        let inner = ih (row .a) (c .holds .low) (c .holds .node .within) x type mine in
+        record { place = λ d. go inner d; value = inner .value }
+      where
+        go : MeaningOk g frames (row .a) x (child (row .a)) → Designates g r → FoundOk g frames x (child (row .a) .place)
+        go inner (itself e) = absurd (not-designator r (omega arith) e)
+        go inner (as-argument kind e) = inner .place (itself e)
+
+    node-ok : MeaningOk g frames r x (by child (row .kind) row)
+    node-ok = go (ok .node r low)
+      where
+        go : NodeRow (g .types) (g .variables) (g .nodes) r → MeaningOk g frames r x (by child (row .kind) row)
+        go (is-constant z k c) = node-by 0 k (constant-node k c)
+        go (is-variable z k c) = node-by 1 k (variable-node k c)
+        go (is-field z k c) = node-by 2 k (field-node k c)
+        go (is-element z k c) = node-by 3 k (element-node k c)
+        go (is-guard z k c) = node-by 4 k (guard-node k c)
+        go (is-dyadic z k c) = node-by 5 k (dyadic-node k c)
+        go (is-monadic z k c) = node-by 6 k (monadic-node k c)
+        go (is-test z k c) = node-by 7 k (test-node k c)
+        go (is-argument z k c) = node-by 8 k (argument-node k c)
+
+  meaning-ok : (r : ℕ) → Right r (meaningOf tagged g base top cells r)
+  unfolding meaningOf
+  meaning-ok r =
+      rec-ind noMeaning (λ child k. meaningBy tagged g base top cells child (rowAt (g .nodes) k .kind) (rowAt (g .nodes) k)) Right
+      (λ k child ih high low x typed own. node-ok k child ih low x typed own) r
+
+  -- ---- what the statements cite
+
+  module _ (r x : ℕ) (low : r < rowsOf (g .nodes)) (typed : typeOf (g .types) (g .fields) (g .variables) (g .nodes) r ≡ Kind x)
+      (own : ownBelow (g .variables) (g .procedures) (g .nodes) procedure r ≡ true) where
+    pub find-ok : Designates g r → FoundOk g frames x (findOf tagged g (s .at .base) (s .at .top) (s .cells) r)
+    unfolding findOf
+    find-ok d = meaning-ok r low x typed own .place d
+
+    pub eval-ok : x ≤ 2 → Gives x (evalOf tagged g (s .at .base) (s .at .top) (s .cells) r)
+    unfolding evalOf
+    eval-ok h = meaning-ok r low x typed own .value h

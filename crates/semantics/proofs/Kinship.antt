@@ -2,7 +2,7 @@
 use mathlib.Core.Path.{_≡_, refl, sym, _∙_, ap}
 use mathlib.Core.Bool.{Bool, true, false}
 use mathlib.Core.List.{List, [], _∷_, _++_, map}
-use mathlib.Core.Logic.{⊎-elim}
+use mathlib.Core.Logic.{_⊎_, inl, inr}
 use Prim.Native.Nat.{ℕ, zero, suc, _+_, _-_, _≤_, _<_}
 use native.Mathlib.Omega.{arith}
 use native.Mathlib.Decide.{decLt}
@@ -68,14 +68,20 @@ module _ (t f : List ℕ) (kept : TypesKept t f) where
       front : (l m whole : List ℕ) → drop 0 whole ≡ l ++ m
           → choose (ltb n (length l)) (Field (sum (map (sizeOf t f) (take n l))) (getD l n 0)) Missing ≡ Field offset x
           → choose (ltb n (length whole)) (Field (sum (map (sizeOf t f) (take n whole))) (getD whole n 0)) Missing ≡ Field offset x
-      front l m whole joins found =
-          ⊎-elim
-          (λ k. let less = ltb-true n (length l) (k .0) in
-          let all : n < length (l ++ m) = omega (arith, length-append l m) in
-          rw joins (choose-yes _ _ _ (lt-ltb n (length (l ++ m)) all)
-          ∙ (rw (take-append-le n l m (omega arith), List·getD-append l m 0 n less) (k .1))))
-          (λ k. let z : _≡_ {A = ℕ} 0 1 = cc in absurd (omega arith))
-          (choose-cases (ltb n (length l)) found)
+      front l m whole joins found = go (choose-cases (ltb n (length l)) found)
+        where
+          here : FieldAnswer
+          here = Field (sum (map (sizeOf t f) (take n l))) (getD l n 0)
+
+          go : ((ltb n (length l) ≡ true) × (here ≡ Field offset x)) ⊎ ((ltb n (length l) ≡ false) × (Missing ≡ Field offset x))
+              → choose (ltb n (length whole)) (Field (sum (map (sizeOf t f) (take n whole))) (getD whole n 0)) Missing ≡ Field offset x
+          go (inl (k, e)) =
+              let less = ltb-true n (length l) k in
+              let all : n < length (l ++ m) = omega (arith, length-append l m) in
+              rw joins
+              (choose-yes _ _ _ (lt-ltb n (length (l ++ m)) all)
+              ∙ (rw (take-append-le n l m (omega arith), List·getD-append l m 0 n less) e))
+          go (inr (k, e)) = let z : _≡_ {A = ℕ} 0 1 = cc in absurd (omega arith)
 
   -- a scalar type's row is its kind, and its layout has that kind alone
   scalar-form : {used r : ℕ} {x : Form} → Shape t f used r x → r < 3 → x ≡ Form.scalar r
