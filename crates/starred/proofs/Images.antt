@@ -1,8 +1,8 @@
 -- How images and results are written in the table.
 use mathlib.Core.List.{List, [], _∷_, _++_}
 use Prim.Native.Nat.{ℕ, _+_, _/_, _%_}
-use lib.IntN.{pos}
-use lib.ListN.{length}
+use lib.IntN.{ℤ, pos}
+use lib.ListN.{length, replicate}
 use Rattle.prelude.specs.Parts.{joined}
 use Rattle.semantics.specs.declared.RunResult.{RunResult}
 
@@ -21,6 +21,10 @@ table rows = number (length rows) ++ joined rows
 -- "Byte 0 is the version, 1. Bytes 1 to 4 give the length of the whole image. Then the six tables follow one another"
 abbrev pub imageOf : List (List ℕ) → List ℕ
 imageOf six = 1 ∷ 0 ∷ 0 ∷ (number (5 + length (joined six)) ++ joined six)
+
+-- a store of n cells, or an output of n places
+abbrev pub zeros : ℕ → List ℤ
+zeros n = replicate n (pos 0)
 
 -- "refusal, row of refusal, outcome, trap, HALT number, statement row, steps, read, written"
 abbrev pub nine : ℕ → ℕ → ℕ → ℕ → ℕ → ℕ → ℕ → ℕ → ℕ → RunResult

@@ -4,7 +4,6 @@ use mathlib.Core.Bool.{true, false}
 use mathlib.Core.List.{List, [], _∷_}
 use Prim.Native.Nat.{ℕ}
 use lib.IntN.{ℤ, pos, negℤ}
-use lib.ListN.{replicate}
 use Rattle.prelude.specs.Parts.{joined}
 use Rattle.image.specs.declared.Verdict.the-variants.{Kept}
 use Rattle.values.specs.Values.{trapNumber, bind}
@@ -26,7 +25,7 @@ use Rattle.semantics.specs.Finding.{object, findOf, evalOf}
 use Rattle.semantics.specs.Stepping.{State}
 use Rattle.semantics.specs.Running.{programOf, ranOf, refusedWith, resultOf, storeAfter, outputAfter}
 use Rattle.starred.proofs.Opened.{rows, shapes, sizes, integers, operators, check, run}
-use Rattle.starred.proofs.Images.{row, table, imageOf, nine}
+use Rattle.starred.proofs.Images.{row, table, imageOf, zeros, nine}
 
 -- ---- values: dyadic 4 DIV, 5 MOD, 7 =, 13 &, 15 IN, 16 range; monadic 1 -
 
@@ -109,10 +108,6 @@ unfolding rows shapes sizes
 case-7 = (refl, refl, refl, refl, refl, refl)
 
 -- ---- whole images: types, fields, variables, procedures, nodes, statements
-
--- a store of n cells, or an output of n places
-abbrev pub zeros : ℕ → List ℤ
-zeros n = replicate n (pos 0)
 
 -- the state after n steps, and in it an object and a value
 abbrev pub stateAfter : List ℕ → ℕ → State Cell
