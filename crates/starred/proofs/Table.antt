@@ -23,9 +23,9 @@ use Rattle.semantics.specs.declared.Found.the-variants as Fs
 use Rattle.semantics.specs.Memory.{Cell, tagged}
 use Rattle.semantics.specs.Finding.{object, findOf, evalOf}
 use Rattle.semantics.specs.Stepping.{State}
-use Rattle.semantics.specs.Running.{programOf, ranOf, refusedWith, resultOf, storeAfter, outputAfter}
-use Rattle.starred.proofs.Opened.{rows, shapes, sizes, integers, operators, check, run}
-use Rattle.starred.proofs.Images.{row, table, imageOf, zeros, nine}
+use Rattle.semantics.specs.Running.{programOf, ranOf, resultOf, storeAfter, outputAfter}
+use Rattle.starred.proofs.Opened.{rows, shapes, sizes, integers, operators, run}
+use Rattle.starred.proofs.Images.{start, count, row, zeros, nine}
 
 -- ---- values: dyadic 4 DIV, 5 MOD, 7 =, 13 &, 15 IN, 16 range; monadic 1 -
 
@@ -107,9 +107,9 @@ pub case-7 :
 unfolding rows shapes sizes
 case-7 = (refl, refl, refl, refl, refl, refl)
 
--- ---- whole images: types, fields, variables, procedures, nodes, statements
+-- ---- whole images
 
--- the state after n steps, and in it an object and a value
+-- the state of the tagged machine after n steps, and in it the object and the value of node row r
 abbrev pub stateAfter : List ℕ → ℕ → State Cell
 stateAfter image n = ranOf image [] (zeros 32) (zeros 1) n .state
 
@@ -127,36 +127,35 @@ valueAfter image n r =
 -- 1. PROCEDURE change (VAR v: type 3); BEGIN IF v IS type 4 THEN v := small END END change;
 -- 0. BEGIN change(large) END
 abbrev pub changing : List ℕ
-changing = imageOf (
-    table typeRows
-    ∷ table fieldRows
-    ∷ table (
-        row 0 4 0 0 -- 0 global large: type 4
-        ∷ row 0 3 0 0 -- 1 global small: type 3
-        ∷ row 3 3 0 0 -- 2 VAR parameter v: type 3
-        ∷ [])
-    ∷ table (
-        row 0 0 0 0 -- 0 the module body, from statement 0 on
-        ∷ row 0 2 1 0 -- 1 change, from statement 2 on, one parameter
-        ∷ [])
-    ∷ table (
-        row 1 0 0 0 -- 0 large
-        ∷ row 8 0 0 0 -- 1 the argument large
-        ∷ row 7 2 4 0 -- 2 v IS type 4
-        ∷ row 1 2 0 0 -- 3 v
-        ∷ row 1 1 0 0 -- 4 small
-        ∷ [])
-    ∷ table (
-        row 1 1 1 0 -- 0 change(large)
-        ∷ row 4 0 0 0 -- 1 RETURN
-        ∷ row 2 2 4 0 -- 2 go to 4 if v IS type 4 is FALSE
-        ∷ row 0 3 4 0 -- 3 v := small
-        ∷ row 4 0 0 0 -- 4 RETURN
-        ∷ [])
+changing = joined (
+    start 193
+    ∷ count 5  -- types: case 7's
+    ∷ joined typeRows
+    ∷ count 2  -- fields: case 7's
+    ∷ joined fieldRows
+    ∷ count 3  -- variables
+    ∷ row 0 4 0 0  -- 0 global large: type 4
+    ∷ row 0 3 0 0  -- 1 global small: type 3
+    ∷ row 3 3 0 0  -- 2 VAR parameter v: type 3
+    ∷ count 2  -- procedures
+    ∷ row 0 0 0 0  -- 0 the module body, from statement 0 on
+    ∷ row 0 2 1 0  -- 1 change, from statement 2 on, one parameter
+    ∷ count 5  -- nodes
+    ∷ row 1 0 0 0  -- 0 large
+    ∷ row 8 0 0 0  -- 1 the argument large
+    ∷ row 7 2 4 0  -- 2 v IS type 4
+    ∷ row 1 2 0 0  -- 3 v
+    ∷ row 1 1 0 0  -- 4 small
+    ∷ count 5  -- statements
+    ∷ row 1 1 1 0  -- 0 change(large)
+    ∷ row 4 0 0 0  -- 1 RETURN
+    ∷ row 2 2 4 0  -- 2 go to 4 if v IS type 4 is FALSE
+    ∷ row 0 3 4 0  -- 3 v := small
+    ∷ row 4 0 0 0  -- 4 RETURN
     ∷ [])
 
--- 8. "VAR of type 3 holding a 4: IS 4 TRUE; assigning a 3 to it: trap 3." The test is asked after the call; the assignment
--- in row 3 is the third step.
+-- 8. "VAR of type 3 holding a 4: IS 4 TRUE; assigning a 3 to it: trap 3." Steps: the call; the jump, not taken; the
+-- assignment in row 3. The test is node 2, asked in the state after the call.
 pub case-8 :
     (checkOf changing ≡ Accepted)
     × (valueAfter changing 1 2 ≡ As.Val (Vs.Bool true))
@@ -165,37 +164,44 @@ unfolding run
 case-8 = (refl, refl, refl)
 
 -- VAR list: ARRAY 4 OF INTEGER;
--- BEGIN write list[b * 65536 + c] END
+-- 0. BEGIN write list[index] END, the index a constant of the two halves b and c
 abbrev pub indexing : ℕ → ℕ → List ℕ
-indexing b c = imageOf (
-    table (row 0 0 0 0 ∷ row 1 0 0 0 ∷ row 2 0 0 0 ∷ row 3 1 4 0 ∷ [])
-    ∷ table []
-    ∷ table (row 0 3 0 0 ∷ []) -- global list: type 3
-    ∷ table (row 0 0 0 0 ∷ []) -- the module body
-    ∷ table (
-        row 1 0 0 0 -- 0 list
-        ∷ row 0 1 b c -- 1 the index
-        ∷ row 3 0 1 0 -- 2 list[index]
-        ∷ [])
-    ∷ table (
-        row 6 2 0 0 -- 0 write list[index]
-        ∷ row 4 0 0 0 -- 1 RETURN
-        ∷ [])
+indexing b c = joined (
+    start 105
+    ∷ count 4  -- types
+    ∷ row 0 0 0 0  -- 0 BOOLEAN
+    ∷ row 1 0 0 0  -- 1 INTEGER
+    ∷ row 2 0 0 0  -- 2 SET
+    ∷ row 3 1 4 0  -- 3 ARRAY 4 OF INTEGER
+    ∷ count 0  -- fields
+    ∷ count 1  -- variables
+    ∷ row 0 3 0 0  -- 0 global list: type 3
+    ∷ count 1  -- procedures
+    ∷ row 0 0 0 0  -- 0 the module body, from statement 0 on
+    ∷ count 3  -- nodes
+    ∷ row 1 0 0 0  -- 0 list
+    ∷ row 0 1 b c  -- 1 the index
+    ∷ row 3 0 1 0  -- 2 list[index]
+    ∷ count 2  -- statements
+    ∷ row 6 2 0 0  -- 0 write list[index]
+    ∷ row 4 0 0 0  -- 1 RETURN
     ∷ [])
 
--- 9. "Length 4: index 3 good, 4 and -1 trap 1." -1 is 65535, 65535 in two's complement.
+-- 9. "Length 4: index 3 good, 4 and -1 trap 1." The element is node 2; at index 3 it is the INTEGER in cell 3, and it
+-- is written. The last index is -1.
 pub case-9 :
-    (checkOf (indexing 0 3) ≡ Accepted)
-    × (foundAfter (indexing 0 3) 0 2 ≡ object 3 1)
-    × (resultOf (indexing 0 3) [] (zeros 32) (zeros 1) 100 ≡ nine 0 0 1 0 0 1 2 0 1)
-    × (checkOf (indexing 0 4) ≡ Accepted)
-    × (foundAfter (indexing 0 4) 0 2 ≡ Fs.Trap Ts.Index)
-    × (resultOf (indexing 0 4) [] (zeros 32) (zeros 1) 100 ≡ nine 0 0 2 1 0 0 1 0 0)
-    × (checkOf (indexing 65535 65535) ≡ Accepted)
-    × (foundAfter (indexing 65535 65535) 0 2 ≡ Fs.Trap Ts.Index)
-    × (resultOf (indexing 65535 65535) [] (zeros 32) (zeros 1) 100 ≡ nine 0 0 2 1 0 0 1 0 0)
+    let at3 = indexing 0 3 in
+    let at4 = indexing 0 4 in
+    let at-1 = indexing 65535 65535 in
+    (foundAfter at3 0 2 ≡ object 3 1)
+    × (resultOf at3 [] (zeros 32) (zeros 1) 100 ≡ nine 0 0 1 0 0 1 2 0 1)
+    × (foundAfter at4 0 2 ≡ Fs.Trap Ts.Index)
+    × (resultOf at4 [] (zeros 32) (zeros 1) 100 ≡ nine 0 0 2 1 0 0 1 0 0)
+    × (valueAfter at-1 0 1 ≡ As.Val (minus 1))
+    × (foundAfter at-1 0 2 ≡ Fs.Trap Ts.Index)
+    × (resultOf at-1 [] (zeros 32) (zeros 1) 100 ≡ nine 0 0 2 1 0 0 1 0 0)
 unfolding run
-case-9 = (refl, refl, refl, refl, refl, refl, refl, refl, refl)
+case-9 = (refl, refl, refl, refl, refl, refl, refl)
 
 -- "Hexadecimal 01 00000039 0003, rows 0000000000000000, 0100000000000000, 0200000000000000, then 0000 0000 0001,
 -- row 0000000000000000, 0000 0001, row 0400000000000000"
