@@ -1,1 +1,4 @@
+pub mod Opened
+pub mod Images
 pub mod Table
+pub mod Whole

@@ -3,79 +3,29 @@ use mathlib.Core.Path.{_≡_, refl}
 use mathlib.Core.Bool.{true, false}
 use mathlib.Core.List.{List, [], _∷_}
 use Prim.Native.Nat.{ℕ}
-use Rattle.prelude.specs.Choice.{choose, _also_}
-use Rattle.prelude.specs.Parts.{joined, sum}
-use Rattle.prelude.specs.Rec.{below, turns, rec}
-use Rattle.image.specs.Rows.{numberAt, rowsOf, rowAt}
-use Rattle.image.specs.Faults.{firstFrom, lowestFault, ruleUpTo, allFrom}
+use lib.IntN.{ℤ, pos, negℤ}
+use Rattle.prelude.specs.Parts.{joined}
 use Rattle.image.specs.declared.Verdict.the-variants.{Kept}
-use lib.IntN.{pos, negℤ}
-use Rattle.values.specs.Values.{isInteger, trapNumber, bind}
-use Rattle.integers.specs.Integers.{integerOf, divOf, modOf, dividedBy, arithmeticOf}
-use Rattle.sets.specs.Sets.{memberOf, elementsOf, rangeOf, complementOf}
-use Rattle.operators.specs.Operators.{integersOf, dyadicOf, monadicOf, decides, appliedTo}
+use Rattle.values.specs.Values.{trapNumber, bind}
 use Rattle.values.specs.declared.Value.{Value}
 use Rattle.values.specs.declared.Value.the-variants as Vs
 use Rattle.values.specs.declared.Trap.the-variants as Ts
+use Rattle.values.specs.declared.Answer.{Answer}
 use Rattle.values.specs.declared.Answer.the-variants as As
-use Rattle.shapes.specs.Forms.{formOf, form, baseOf, countOf, ofBase, ownTypes}
-use Rattle.shapes.specs.Sizes.{sizeBy, sizeOf, layoutBy, layoutOf, fieldsBy, fieldsOf}
-use Rattle.relations.specs.Extends.{extendsTo, extends}
-use Rattle.shapes.specs.Shapes.{usedBelow, scalarKept, arrayKept, fieldKept, baseKept, recordKept, laterKept}
-use Rattle.shapes.specs.Shapes.{shapeKept, typeKept}
+use Rattle.operators.specs.Operators.{dyadicOf, monadicOf, appliedTo}
+use Rattle.shapes.specs.Sizes.{sizeOf, layoutOf}
+use Rattle.relations.specs.Extends.{extends}
 use Rattle.types.specs.Question.{question4}
-use Rattle.image.specs.Rows.{wordAt}
-use Rattle.header.specs.Header.{question1, question2, question3, tableFrom, thenTable, tablesOf, areSix, sixOf, tablesIn}
-use Rattle.header.specs.Header.{partOf}
-use Rattle.frames.specs.Variables.{isGlobal, kindWithin, globalsFrom, globalsOf, formKept as variableForm}
-use Rattle.frames.specs.Variables.{variableKept, question5}
-use Rattle.frames.specs.Procedures.{claimedBy, firstFrom as firstVariableFrom, firstVariable, bodyEnd, moduleKept, bodyKept}
-use Rattle.frames.specs.Procedures.{ownKept, procedureKept, question6}
-use Rattle.nodes.specs.Nodes.{question7}
-use Rattle.statements.specs.Statements.{beginsAt, nextProcedure, procedureAt, returnKept, formKept as statementForm}
-use Rattle.statements.specs.Statements.{lastKept, statementIn, statementKept, question8}
-use Rattle.names.specs.Names.{question9}
-use Rattle.typing.specs.Typing.{question10}
-use Rattle.rules.specs.Rules.{ruleBy, statementRule, rulesBy, question11}
 use Rattle.checker.specs.declared.CheckAnswer.the-variants.{Accepted}
-use Rattle.checker.specs.Check.{yesOrNo, tableQuestion, questionOf, asked, firstNo, checkOf, refusalOf, rowOf, numberOf}
-
--- what the cases open: rows and rules, types, values
-unfoldable pub rows : Unit {0}
-unfolding choose _also_ joined sum below turns rec numberAt rowsOf rowAt firstFrom lowestFault ruleUpTo allFrom
-rows = tt
-
-unfoldable pub shapes : Unit {0}
-unfolding usedBelow scalarKept arrayKept fieldKept baseKept recordKept laterKept shapeKept typeKept question4
-shapes = tt
-
-unfoldable pub sizes : Unit {0}
-unfolding formOf form baseOf countOf ofBase ownTypes sizeBy sizeOf layoutBy layoutOf fieldsBy fieldsOf extendsTo
-sizes = tt
-
-unfoldable pub integers : Unit {0}
-unfolding isInteger trapNumber integerOf divOf modOf dividedBy arithmeticOf integersOf rangeOf
-integers = tt
-
-unfoldable pub operators : Unit {0}
-unfolding bind memberOf elementsOf complementOf dyadicOf monadicOf decides appliedTo
-operators = tt
-
-unfoldable pub tables : Unit {0}
-unfolding wordAt question1 question2 question3 tableFrom thenTable tablesOf areSix sixOf tablesIn partOf
-tables = tt
-
-unfoldable pub bodies : Unit {0}
-unfolding isGlobal kindWithin globalsFrom globalsOf variableForm variableKept question5 claimedBy firstVariableFrom firstVariable bodyEnd moduleKept bodyKept ownKept procedureKept question6
-bodies = tt
-
-unfoldable pub questions : Unit {0}
-unfolding question7 beginsAt nextProcedure procedureAt returnKept statementForm lastKept statementIn statementKept question8 question9 question10 ruleBy statementRule rulesBy question11
-questions = tt
-
-unfoldable pub check : Unit {0}
-unfolding yesOrNo tableQuestion questionOf asked firstNo checkOf refusalOf rowOf numberOf
-check = tt
+use Rattle.checker.specs.Check.{checkOf, numberOf}
+use Rattle.semantics.specs.declared.Found.{Found}
+use Rattle.semantics.specs.declared.Found.the-variants as Fs
+use Rattle.semantics.specs.Memory.{Cell, tagged}
+use Rattle.semantics.specs.Finding.{object, findOf, evalOf}
+use Rattle.semantics.specs.Stepping.{State}
+use Rattle.semantics.specs.Running.{programOf, ranOf, resultOf, storeAfter, outputAfter}
+use Rattle.starred.proofs.Opened.{rows, shapes, sizes, integers, operators, run}
+use Rattle.starred.proofs.Images.{start, count, row, zeros, nine}
 
 -- ---- values: dyadic 4 DIV, 5 MOD, 7 =, 13 &, 15 IN, 16 range; monadic 1 -
 
@@ -138,21 +88,16 @@ case-6 = (refl, refl)
 -- ---- types
 
 -- BOOLEAN, INTEGER, SET, a record of an INTEGER, and one that extends it by a SET
-abbrev pub types : List ℕ
-types =
-    0 ∷ 0 ∷ 0 ∷ 0 ∷ 0 ∷ 0 ∷ 0 ∷ 0 ∷
-    1 ∷ 0 ∷ 0 ∷ 0 ∷ 0 ∷ 0 ∷ 0 ∷ 0 ∷
-    2 ∷ 0 ∷ 0 ∷ 0 ∷ 0 ∷ 0 ∷ 0 ∷ 0 ∷
-    4 ∷ 0 ∷ 0 ∷ 0 ∷ 0 ∷ 0 ∷ 0 ∷ 1 ∷
-    4 ∷ 0 ∷ 0 ∷ 4 ∷ 0 ∷ 1 ∷ 0 ∷ 1 ∷ []
+abbrev pub typeRows : List (List ℕ)
+typeRows = row 0 0 0 0 ∷ row 1 0 0 0 ∷ row 2 0 0 0 ∷ row 4 0 0 1 ∷ row 4 4 1 1 ∷ []
 
-abbrev pub fields : List ℕ
-fields =
-    0 ∷ 0 ∷ 0 ∷ 1 ∷ 0 ∷ 0 ∷ 0 ∷ 0 ∷
-    0 ∷ 0 ∷ 0 ∷ 2 ∷ 0 ∷ 0 ∷ 0 ∷ 0 ∷ []
+abbrev pub fieldRows : List (List ℕ)
+fieldRows = row 0 1 0 0 ∷ row 0 2 0 0 ∷ []
 
 -- 7. "Row 3 record of an INTEGER, row 4 extends it by a SET: sizes 1, 2; 4 extends 3, 3 not 4."
 pub case-7 :
+    let types = joined typeRows in
+    let fields = joined fieldRows in
     (question4 types fields ≡ Kept)
     × (sizeOf types fields 3 ≡ 1)
     × (sizeOf types fields 4 ≡ 2)
@@ -162,7 +107,101 @@ pub case-7 :
 unfolding rows shapes sizes
 case-7 = (refl, refl, refl, refl, refl, refl)
 
--- ---- a whole image
+-- ---- whole images
+
+-- the state of the tagged machine after n steps, and in it the object and the value of node row r
+abbrev pub stateAfter : List ℕ → ℕ → State Cell
+stateAfter image n = ranOf image [] (zeros 32) (zeros 1) n .state
+
+abbrev pub foundAfter : List ℕ → ℕ → ℕ → Found
+foundAfter image n r =
+    let s = stateAfter image n in
+    findOf tagged (programOf image) (s .at .base) (s .at .top) (s .cells) r
+
+abbrev pub valueAfter : List ℕ → ℕ → ℕ → Answer
+valueAfter image n r =
+    let s = stateAfter image n in
+    evalOf tagged (programOf image) (s .at .base) (s .at .top) (s .cells) r
+
+-- VAR large: type 4; small: type 3;
+-- 1. PROCEDURE change (VAR v: type 3); BEGIN IF v IS type 4 THEN v := small END END change;
+-- 0. BEGIN change(large) END
+abbrev pub changing : List ℕ
+changing = joined (
+    start 193
+    ∷ count 5  -- types: case 7's
+    ∷ joined typeRows
+    ∷ count 2  -- fields: case 7's
+    ∷ joined fieldRows
+    ∷ count 3  -- variables
+    ∷ row 0 4 0 0  -- 0 global large: type 4
+    ∷ row 0 3 0 0  -- 1 global small: type 3
+    ∷ row 3 3 0 0  -- 2 VAR parameter v: type 3
+    ∷ count 2  -- procedures
+    ∷ row 0 0 0 0  -- 0 the module body, from statement 0 on
+    ∷ row 0 2 1 0  -- 1 change, from statement 2 on, one parameter
+    ∷ count 5  -- nodes
+    ∷ row 1 0 0 0  -- 0 large
+    ∷ row 8 0 0 0  -- 1 the argument large
+    ∷ row 7 2 4 0  -- 2 v IS type 4
+    ∷ row 1 2 0 0  -- 3 v
+    ∷ row 1 1 0 0  -- 4 small
+    ∷ count 5  -- statements
+    ∷ row 1 1 1 0  -- 0 change(large)
+    ∷ row 4 0 0 0  -- 1 RETURN
+    ∷ row 2 2 4 0  -- 2 go to 4 if v IS type 4 is FALSE
+    ∷ row 0 3 4 0  -- 3 v := small
+    ∷ row 4 0 0 0  -- 4 RETURN
+    ∷ [])
+
+-- 8. "VAR of type 3 holding a 4: IS 4 TRUE; assigning a 3 to it: trap 3." Steps: the call; the jump, not taken; the
+-- assignment in row 3. The test is node 2, asked in the state after the call.
+pub case-8 :
+    (checkOf changing ≡ Accepted)
+    × (valueAfter changing 1 2 ≡ As.Val (Vs.Bool true))
+    × (resultOf changing [] (zeros 32) [] 100 ≡ nine 0 0 2 3 0 3 3 0 0)
+unfolding run
+case-8 = (refl, refl, refl)
+
+-- VAR list: ARRAY 4 OF INTEGER;
+-- 0. BEGIN write list[index] END, the index a constant of the two halves b and c
+abbrev pub indexing : ℕ → ℕ → List ℕ
+indexing b c = joined (
+    start 105
+    ∷ count 4  -- types
+    ∷ row 0 0 0 0  -- 0 BOOLEAN
+    ∷ row 1 0 0 0  -- 1 INTEGER
+    ∷ row 2 0 0 0  -- 2 SET
+    ∷ row 3 1 4 0  -- 3 ARRAY 4 OF INTEGER
+    ∷ count 0  -- fields
+    ∷ count 1  -- variables
+    ∷ row 0 3 0 0  -- 0 global list: type 3
+    ∷ count 1  -- procedures
+    ∷ row 0 0 0 0  -- 0 the module body, from statement 0 on
+    ∷ count 3  -- nodes
+    ∷ row 1 0 0 0  -- 0 list
+    ∷ row 0 1 b c  -- 1 the index
+    ∷ row 3 0 1 0  -- 2 list[index]
+    ∷ count 2  -- statements
+    ∷ row 6 2 0 0  -- 0 write list[index]
+    ∷ row 4 0 0 0  -- 1 RETURN
+    ∷ [])
+
+-- 9. "Length 4: index 3 good, 4 and -1 trap 1." The element is node 2; at index 3 it is the INTEGER in cell 3, and it
+-- is written. The last index is -1.
+pub case-9 :
+    let at3 = indexing 0 3 in
+    let at4 = indexing 0 4 in
+    let at-1 = indexing 65535 65535 in
+    (foundAfter at3 0 2 ≡ object 3 1)
+    × (resultOf at3 [] (zeros 32) (zeros 1) 100 ≡ nine 0 0 1 0 0 1 2 0 1)
+    × (foundAfter at4 0 2 ≡ Fs.Trap Ts.Index)
+    × (resultOf at4 [] (zeros 32) (zeros 1) 100 ≡ nine 0 0 2 1 0 0 1 0 0)
+    × (valueAfter at-1 0 1 ≡ As.Val (minus 1))
+    × (foundAfter at-1 0 2 ≡ Fs.Trap Ts.Index)
+    × (resultOf at-1 [] (zeros 32) (zeros 1) 100 ≡ nine 0 0 2 1 0 0 1 0 0)
+unfolding run
+case-9 = (refl, refl, refl, refl, refl, refl, refl)
 
 -- "Hexadecimal 01 00000039 0003, rows 0000000000000000, 0100000000000000, 0200000000000000, then 0000 0000 0001,
 -- row 0000000000000000, 0000 0001, row 0400000000000000"
@@ -182,7 +221,18 @@ smallest =
     0 ∷ 1 ∷
     4 ∷ 0 ∷ 0 ∷ 0 ∷ 0 ∷ 0 ∷ 0 ∷ 0 ∷ []
 
--- 10. What the check says of it: accepted, the number 0.
-pub case-10 : (checkOf smallest ≡ Accepted) × (numberOf (checkOf smallest) ≡ 0)
-unfolding rows shapes sizes tables bodies questions check
-case-10 = (refl, refl)
+-- 10. "`doorrun` prints `0 0 1 0 0 0 1 0 0`.": "no inputs, 8,192 cells, 4,096 outputs, 100,000 steps"
+pub case-10 :
+    (checkOf smallest ≡ Accepted)
+    × (numberOf (checkOf smallest) ≡ 0)
+    × (resultOf smallest [] (zeros 8192) (zeros 4096) 100000 ≡ nine 0 0 1 0 0 0 1 0 0)
+unfolding run
+case-10 = (refl, refl, refl)
+
+-- "Two cells: refusal 13.", whatever they and the rest are; "a refusal leaves store and output untouched"
+pub case-10-two-cells : (input output : List ℤ) (x y : ℤ) (steps : ℕ) →
+    (resultOf smallest input (x ∷ y ∷ []) output steps ≡ nine 13 0 0 0 0 0 0 0 0)
+    × (storeAfter smallest input (x ∷ y ∷ []) output steps ≡ x ∷ y ∷ [])
+    × (outputAfter smallest input (x ∷ y ∷ []) output steps ≡ output)
+unfolding run
+case-10-two-cells input output x y steps = (refl, refl, refl)
