@@ -6,3 +6,7 @@ pub mod Objects
 pub mod Kinship
 pub mod Evaluating
 pub mod Kept
+pub mod Opened
+pub mod Images
+pub mod Table
+pub mod Whole

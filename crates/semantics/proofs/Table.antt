@@ -18,14 +18,14 @@ use Rattle.relations.specs.Extends.{extends}
 use Rattle.types.specs.Question.{question4}
 use Rattle.checker.specs.declared.CheckAnswer.the-variants.{Accepted}
 use Rattle.checker.specs.Check.{checkOf, numberOf}
 use Rattle.semantics.specs.declared.Found.{Found}
 use Rattle.semantics.specs.declared.Found.the-variants as Fs
 use Rattle.semantics.specs.Memory.{Cell, tagged}
 use Rattle.semantics.specs.Finding.{object, findOf, evalOf}
 use Rattle.semantics.specs.Stepping.{State}
 use Rattle.semantics.specs.Running.{programOf, ranOf, resultOf, storeAfter, outputAfter}
-use Rattle.starred.proofs.Opened.{rows, shapes, sizes, integers, operators, run}
-use Rattle.starred.proofs.Images.{start, count, row, zeros, nine}
+use Rattle.semantics.proofs.Opened.{rows, shapes, sizes, integers, operators, run}
+use Rattle.semantics.proofs.Images.{start, count, row, zeros, nine}
 
 -- ---- values: dyadic 4 DIV, 5 MOD, 7 =, 13 &, 15 IN, 16 range; monadic 1 -
 

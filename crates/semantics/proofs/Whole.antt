@@ -8,10 +8,10 @@ use lib.IntN.{ℤ, pos}
 use Rattle.prelude.specs.Parts.{joined}
 use Rattle.checker.specs.declared.CheckAnswer.the-variants.{Accepted}
 use Rattle.checker.specs.Check.{checkOf}
 use Rattle.semantics.specs.Running.{resultOf, storeAfter, outputAfter}
-use Rattle.starred.proofs.Opened.{run}
-use Rattle.starred.proofs.Images.{start, count, row, zeros, nine}
-use Rattle.starred.proofs.Table.{typeRows, fieldRows}
+use Rattle.semantics.proofs.Opened.{run}
+use Rattle.semantics.proofs.Images.{start, count, row, zeros, nine}
+use Rattle.semantics.proofs.Table.{typeRows, fieldRows}
 
 -- Types 3 and 4 are case 7's: RECORD number: INTEGER END, and RECORD (type 3) set: SET END.
 -- VAR large: type 4; small: type 3;

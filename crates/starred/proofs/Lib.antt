@@ -1,4 +1,0 @@
-pub mod Opened
-pub mod Images
-pub mod Table
-pub mod Whole
