@@ -24,6 +24,52 @@ use Rattle.shapes.proofs.Accepted.{TypesKept, RowKept, Shape, Shape.is-scalar, 
 use Rattle.shapes.proofs.Accepted.{Based, Based.no-base, Based.on-base, record-is, layout-is}
 use Rattle.relations.specs.Extends.{extends}
 use Rattle.relations.proofs.Extension.{Extends, Extends.same, Extends.up, extends-yes, extends-trans}
+use Rattle.values.specs.Values.{BOOLEAN, INTEGER, kindOf, numberOf, isInteger, InRange, InRange.integer, cellOf, Gives}
+use Rattle.values.specs.Values.{Gives.value, Gives.trapped as gives-trap}
+use Rattle.values.specs.declared.Value.{Value}
+use Rattle.values.specs.declared.Value.the-variants as Vs
+use Rattle.values.specs.declared.Trap.{Trap}
+use Rattle.values.specs.declared.Answer.{Answer}
+use Rattle.values.specs.declared.Answer.the-variants as As
+use Rattle.values.proofs.Cells.{cell-back}
+use Rattle.kinds.specs.declared.KindAnswer.the-variants.{Kind}
+use Rattle.nodes.specs.Nodes.{isDesignator}
+use Rattle.nodes.proofs.Accepted.{Plain, Designator, constant-is}
+use Rattle.typing.specs.Typing.{typeOf}
+use Rattle.typing.proofs.Lower.{dyadic-low, monadic-low}
+use Rattle.typing.proofs.Accepted.{NodeTyped, NodeTyped.by-constant, NodeTyped.by-variable, NodeTyped.by-field}
+use Rattle.typing.proofs.Accepted.{NodeTyped.by-element, NodeTyped.by-guard, NodeTyped.by-dyadic, NodeTyped.by-monadic}
+use Rattle.typing.proofs.Accepted.{NodeTyped.by-test, NodeTyped.by-argument, typed-node, type-low}
+use Rattle.owners.specs.Owners.{ownBelow}
+use Rattle.statements.specs.Statements.{procedureAt}
+use Rattle.statements.proofs.Bodies.{InBody, end-within, body-only}
+use Rattle.statements.proofs.Accepted.{StatementRow, StatementRow.is-assign, StatementRow.is-call, StatementRow.is-jump}
+use Rattle.statements.proofs.Accepted.{StatementRow.is-goto, StatementRow.is-return, StatementRow.is-read}
+use Rattle.statements.proofs.Accepted.{StatementRow.is-write, StatementRow.is-halt, Target, target-in, behind-in, no-end}
+use Rattle.statements.proofs.Accepted.{AssignRow, JumpRow, ReadRow, ValueRow}
+use Rattle.rules.proofs.Accepted.{AssignRuled, ValueRuled, assign-ruled, jump-ruled, read-ruled, write-ruled, halt-ruled}
+use Rattle.checker.proofs.Accepted.{AcceptedTables}
+use Rattle.semantics.specs.declared.Place.{Place}
+use Rattle.semantics.specs.declared.Found.{Found}
+use Rattle.semantics.specs.declared.Found.the-variants as Fs
+use Rattle.semantics.specs.declared.Mark.{Mark}
+use Rattle.semantics.specs.declared.Mark.the-variants.{Number, Nothing}
+use Rattle.semantics.specs.Memory.{LINK, TYPE, Cell, tagged, markOf, cellAt, markAt, partAt, overwrite}
+use Rattle.semantics.specs.Layout.{Program}
+use Rattle.semantics.specs.Finding.{findOf, evalOf}
+use Rattle.semantics.specs.Stepping.{State, Next, Next.goes, Next.finished, Next.trapped, Next.stuck}
+use Rattle.semantics.specs.Stepping.{onPlace, onValue, onInteger, onBoolean, onMark, goTo}
+use Rattle.semantics.specs.Stepping.{following, withCells, written, onPart}
+use Rattle.semantics.specs.Stepping.{otherRecord, copied, assigned, jumped, returned}
+use Rattle.semantics.specs.Stepping.{inputAt, afterRead, received, sent, halted, perform, stepOf}
+use Rattle.semantics.specs.Sound.{Want, any-value, exactly, Fits, fits-value, fits-exactly}
+use Rattle.semantics.specs.Sound.{Matched, no-more, one-more, Frame, Inside, Object, Sound}
+use Rattle.semantics.specs.Sound.{Called, is-first, is-called, Stack, no-frame, a-frame, valuesOf, wants, frameWants}
+use Rattle.semantics.proofs.Holding.{matched-length, matched-part, matched-put, matched-at}
+use Rattle.semantics.proofs.Holding.{put-below, put-length, part-below, cell-below}
+use Rattle.semantics.proofs.Objects.{values-length, object-typed, object-part, object-front}
+use Rattle.semantics.proofs.Evaluating.{FoundOk, found-ok, found-trap, Designates, itself, find-ok, eval-ok}
+use Rattle.semantics.proofs.Kept.{Unchanged, NextOk, ok-goes, ok-finished, ok-trapped}
 
 -- ---- types
 
@@ -78,3 +124,74 @@ module _ (t f : List ℕ) (kept : TypesKept t f) where
   scalar-layout r h low =
       let shape = kept .row r low .shape in
       layout-is t f r shape ∙ shape-scalar (layoutOf t f) h shape
+
+-- ---- what a step comes to, by the way it goes on
+
+module _ (g : Program) (s : State Cell) where
+  pub unchanged : Unchanged s s
+  unchanged = record { registers = refl; below = refl; cells = refl; output = refl }
+
+  pub ok-choose : (b : Bool) {x y : Next Cell} → (b ≡ true → NextOk g s x) → (b ≡ false → NextOk g s y)
+      → NextOk g s (choose b x y)
+  unfolding choose
+  ok-choose true f h = f refl
+  ok-choose false f h = h refl
+
+  -- the first of two, where its test holds
+  pub ok-yes : (b : Bool) {x : Next Cell} (y : Next Cell) → b ≡ true → NextOk g s x → NextOk g s (choose b x y)
+  ok-yes b {x} y e h = rw (choose-yes b x y e) h
+
+  pub on-place-ok : {fs : List Frame} {x : ℕ} {m : Found} (k : Place → Next Cell) → FoundOk g fs x m
+      → ((place : Place) → place .declared ≡ x → extends (g .types) (place .dynamic) (place .declared) ≡ true
+      → Object g fs (place .address) (place .dynamic) → NextOk g s (k place))
+      → NextOk g s (onPlace s m k)
+  unfolding onPlace
+  on-place-ok k (found-ok {place = place} declared extended object) f = f place declared extended object
+  on-place-ok k found-trap f = ok-trapped unchanged
+
+  pub on-value-ok : {x : ℕ} {m : Answer} (k : Value → Next Cell) → Gives x m
+      → ((v : Value) → kindOf v ≡ x → InRange v → NextOk g s (k v)) → NextOk g s (onValue s m k)
+  unfolding onValue
+  on-value-ok k (value {v = v} kind range) f = f v kind range
+  on-value-ok k gives-trap f = ok-trapped unchanged
+
+  pub on-integer-ok : (v : Value) (k : ℤ → Next Cell) → kindOf v ≡ INTEGER → ((z : ℤ) → NextOk g s (k z))
+      → NextOk g s (onInteger v k)
+  unfolding onInteger kindOf
+  on-integer-ok (Vs.Int z) k e f = f z
+  on-integer-ok (Vs.Bool b) k e f = absurd (omega arith)
+  on-integer-ok (Vs.Set t) k e f = absurd (omega arith)
+
+  pub on-boolean-ok : (v : Value) (k : Bool → Next Cell) → kindOf v ≡ BOOLEAN → ((b : Bool) → NextOk g s (k b))
+      → NextOk g s (onBoolean v k)
+  unfolding onBoolean kindOf
+  on-boolean-ok (Vs.Bool b) k e f = f b
+  on-boolean-ok (Vs.Int z) k e f = absurd (omega arith)
+  on-boolean-ok (Vs.Set t) k e f = absurd (omega arith)
+
+  pub on-mark-ok : {m : Mark} {n : ℕ} (k : ℕ → Next Cell) → m ≡ Number n → NextOk g s (k n) → NextOk g s (onMark m k)
+  unfolding onMark
+  on-mark-ok k e h = rw e h
+
+-- ---- cells
+
+-- a part ends within its list
+pub part-end : {X : Type 0} {l xs : List X} {a : ℕ} → Part l a xs → a + length xs ≤ length l
+part-end {l = l} {xs} {a} p =
+    let w = p .within in
+    omega (arith, length-append xs (p .rest), length-drop a l, ap length (p .seen))
+
+-- a value in its range, put, fits a place of its kind
+pub put-fits : (v : Value) (k : ℕ) → kindOf v ≡ k → InRange v → Fits (tagged .put v) (any-value k)
+unfolding tagged
+put-fits v k e range = rw (← e) (fits-value refl (cell-back range))
+
+-- a link, an address or a type reads as its number
+pub mark-fits : (c : Cell) (k n : ℕ) → n ≤ 65535 → Fits c (exactly k n) → tagged .marked k c ≡ Number n
+unfolding tagged markOf choose
+mark-fits c k n small (fits-exactly kind number) =
+    rw (kind, number, eq-eqb k k refl, lt-ltb n (choose (eqb k TYPE) 65536 4294967296) (below (eqb k TYPE)))
+  where
+    below : (b : Bool) → n < choose b 65536 4294967296
+    below true = omega arith
+    below false = omega arith
