@@ -23,7 +23,7 @@ use Rattle.shapes.proofs.Rows.{form-record}
 use Rattle.shapes.proofs.Accepted.{TypesKept, RowKept, Shape, Shape.is-scalar, Shape.is-array, Shape.is-record}
 use Rattle.shapes.proofs.Accepted.{Based, Based.no-base, Based.on-base, record-is, layout-is}
 use Rattle.relations.specs.Extends.{extends}
-use Rattle.relations.proofs.Extension.{Extends, Extends.same, Extends.up, extends-yes, extends-trans}
+use Rattle.relations.proofs.Extension.{Extends, Extends.same, Extends.up, extends-yes, extends-refl, extends-trans}
 use Rattle.values.specs.Values.{BOOLEAN, INTEGER, kindOf, numberOf, isInteger, InRange, InRange.integer, cellOf, Gives}
 use Rattle.values.specs.Values.{Gives.value, Gives.trapped as gives-trap}
 use Rattle.values.specs.declared.Value.{Value}
@@ -195,3 +195,57 @@ mark-fits c k n small (fits-exactly kind number) =
     below : (b : Bool) → n < choose b 65536 4294967296
     below true = omega arith
     below false = omega arith
+
+-- ---- objects and nodes of accepted tables
+
+designator-yes : (n : List ℕ) (k : ℕ) → 1 ≤ rowAt n k .kind → rowAt n k .kind ≤ 4 → isDesignator n k ≡ true
+unfolding isDesignator
+designator-yes n k low high = also-yes (le-leb 1 (rowAt n k .kind) low) (le-leb (rowAt n k .kind) 4 high)
+
+module _ (g : Program) (ok : AcceptedTables (g .types) (g .fields) (g .variables) (g .procedures) (g .nodes) (g .statements)) where
+  -- a node's type is a row
+  pub typed-low : (r x : ℕ) → typeOf (g .types) (g .fields) (g .variables) (g .nodes) r ≡ Kind x → x < rowsOf (g .types)
+  typed-low r x e =
+      let said = ok .questions in
+      type-low (g .types) (g .fields) (g .variables) (g .nodes) (said .types) (ok .scalars) (said .variables) (said .nodes) r x e
+
+  -- "Assign: .. another object's cells": only a designator has a structured type
+  pub structured-designator : (r x : ℕ) → Plain (g .nodes) r
+      → typeOf (g .types) (g .fields) (g .variables) (g .nodes) r ≡ Kind x → 3 ≤ x → isDesignator (g .nodes) r ≡ true
+  structured-designator r x plain type large =
+      go (typed-node (g .types) (g .fields) (g .variables) (g .nodes) (ok .questions .nodes) r (plain .within) type)
+    where
+      go : NodeTyped (g .types) (g .fields) (g .variables) (g .nodes) r x → isDesignator (g .nodes) r ≡ true
+      go (by-constant k e) =
+          let low = constant-is (g .types) (g .variables) (g .nodes) (ok .questions .nodes) r (plain .within) k .typed in
+          absurd (omega arith)
+      go (by-variable k e) = designator-yes (g .nodes) r (omega arith) (omega arith)
+      go (by-field k e) = designator-yes (g .nodes) r (omega arith) (omega arith)
+      go (by-element k e) = designator-yes (g .nodes) r (omega arith) (omega arith)
+      go (by-guard k e) = designator-yes (g .nodes) r (omega arith) (omega arith)
+      go (by-dyadic k e) =
+          let low = dyadic-low (rowAt (g .nodes) r .c) (e .left) (e .right) x (e .result) in
+          absurd (omega arith)
+      go (by-monadic k e) =
+          let low = monadic-low (rowAt (g .nodes) r .c) (e .operand) x (e .result) in
+          absurd (omega arith)
+      go (by-test k e) = let is = e .boolean in absurd (omega arith)
+      go (by-argument k e) = absurd (plain .plain k)
+
+  pub scalar-values : (x : ℕ) → x ≤ 2 → valuesOf g x ≡ any-value x ∷ []
+  unfolding valuesOf
+  scalar-values x h = let most = ok .scalars in rw (scalar-layout (g .types) (g .fields) (ok .types) x h (omega arith))
+
+  module _ {fs : List Frame} (stack : Stack g fs) (place : Place)
+      (extended : extends (g .types) (place .dynamic) (place .declared) ≡ true)
+      (object : Object g fs (place .address) (place .dynamic)) where
+    -- the cells of an object that was found, as those of a type that its declared one extends
+    pub found-front : (u : ℕ) → extends (g .types) (place .declared) u ≡ true → Part (wants g fs) (place .address) (valuesOf g u)
+    found-front u e =
+        object-front g ok u stack object (extends-trans (g .types) (place .dynamic) (place .declared) u extended e)
+
+    -- a scalar one's single cell
+    pub found-scalar : place .declared ≤ 2 → Part (wants g fs) (place .address) (any-value (place .declared) ∷ [])
+    found-scalar h =
+        rw (← scalar-values (place .declared) h)
+        (found-front (place .declared) (extends-refl (g .types) (place .declared)))
