@@ -249,3 +249,116 @@ module _ (g : Program) (ok : AcceptedTables (g .types) (g .fields) (g .variables
     found-scalar h =
         rw (← scalar-values (place .declared) h)
         (found-front (place .declared) (extends-refl (g .types) (place .declared)))
+
+-- ---- from a sound state
+
+module _ (g : Program) (ok : AcceptedTables (g .types) (g .fields) (g .variables) (g .procedures) (g .nodes) (g .statements))
+    (bytes : Bytes (g .nodes)) (s : State Cell) (sound : Sound g s) where
+  abbrev row : Row
+  row = rowAt (g .statements) (s .at .row)
+
+  abbrev frames : List Frame
+  frames = sound .newest ∷ sound .others
+
+  abbrev own-procedure : ℕ
+  own-procedure = sound .newest .procedure
+
+  abbrev found : ℕ → Found
+  found r = findOf tagged g (s .at .base) (s .at .top) (s .cells) r
+
+  abbrev answer : ℕ → Answer
+  answer r = evalOf tagged g (s .at .base) (s .at .top) (s .cells) r
+
+  -- ---- its row
+
+  pub row-within : s .at .row < rowsOf (g .statements)
+  row-within =
+      let low = sound .inside .end in
+      let high = end-within (g .variables) (g .procedures) (g .statements) (ok .procedures) own-procedure (sound .inside .procedure) in
+      omega arith
+
+  -- the top frame's procedure is the one whose body has the row
+  pub procedure-is : own-procedure ≡ procedureAt (g .procedures) (s .at .row)
+  procedure-is =
+      body-only (g .variables) (g .procedures) (g .statements) (ok .procedures) own-procedure (s .at .row)
+      (record { procedure = sound .inside .procedure; start = sound .inside .start; end = sound .inside .end })
+
+  body-inside : (r : ℕ) → InBody (g .procedures) (g .statements) (procedureAt (g .procedures) (s .at .row)) r → Inside g own-procedure r
+  body-inside r b = rw procedure-is (record { procedure = b .procedure; start = b .start; end = b .end })
+
+  pub target-inside : (b : ℕ) → Target (g .procedures) (g .statements) (procedureAt (g .procedures) (s .at .row)) b → Inside g own-procedure b
+  target-inside b t =
+      body-inside b (target-in (g .variables) (g .procedures) (g .statements) (ok .procedures) (ok .counts .some-procedure) (s .at .row) row-within b t)
+
+  -- the row behind one that ends no body
+  pub next-inside : (row .kind ≡ 3 → ⊥) → (row .kind ≡ 4 → ⊥) → (row .kind ≡ 7 → ⊥) → Inside g own-procedure (s .at .row + 1)
+  next-inside a b c =
+      body-inside (s .at .row + 1)
+      (behind-in (g .variables) (g .procedures) (g .statements) (ok .procedures) (ok .counts .some-procedure) (s .at .row) row-within
+      (g .nodes) (ok .questions .statements) (no-end row a b c))
+
+  -- the same for a kind that is known
+  pub kind-inside : (k : ℕ) → row .kind ≡ k → (k ≡ 3 → ⊥) → (k ≡ 4 → ⊥) → (k ≡ 7 → ⊥) → Inside g own-procedure (s .at .row + 1)
+  kind-inside k e a b c = next-inside (λ h. a (sym e ∙ h)) (λ h. b (sym e ∙ h)) (λ h. c (sym e ∙ h))
+
+  -- ---- the same frames, another row, other counts, cells and output
+
+  pub sound-with : (r read out : ℕ) (cells : List Cell) (output : List ℤ) → Inside g own-procedure r
+      → Matched Fits (take (s .at .top) cells) (wants g frames) → length cells ≡ length (s .cells)
+      → Sound g (record {
+        at = record { row = r; base = s .at .base; top = s .at .top; read = read; written = out };
+        cells = cells;
+        output = output;
+      })
+  sound-with r read out cells output inside holding size =
+      let stored = sound .stored in
+      let lent = sound .lent in
+      record {
+        newest = sound .newest;
+        others = sound .others;
+        stack = sound .stack;
+        holding = holding;
+        inside = inside;
+        begins = sound .begins;
+        ends = sound .ends;
+        stored = omega arith;
+        lent = omega arith;
+      }
+
+  -- a jump within the body
+  pub gone-ok : (r : ℕ) → Inside g own-procedure r → NextOk g s (goes (goTo s r))
+  unfolding goTo
+  gone-ok r inside = ok-goes (sound-with r (s .at .read) (s .at .written) (s .cells) (s .output) inside (sound .holding) refl) refl refl
+
+  -- ---- its cells
+
+  pub part-top : {a : ℕ} {ws : List Want} → Part (wants g frames) a ws → a + length ws ≤ s .at .top
+  part-top p = omega (arith, part-end p, sound .ends)
+
+  -- cells read below top
+  pub part-cells : {a : ℕ} {ws : List Want} → Part (wants g frames) a ws → Matched Fits (partAt (s .cells) a (length ws)) ws
+  part-cells {a} {ws} p =
+      rw (part-below (s .cells) a (length ws) (s .at .top) (part-top p)) at (matched-part (sound .holding) p)
+
+  pub on-part-ok : {a : ℕ} {ws : List Want} (n : ℕ) (k : List Cell → Next Cell) → Part (wants g frames) a ws → length ws ≡ n
+      → ((new : List Cell) → Matched Fits new ws → NextOk g s (k new)) → NextOk g s (onPart s a n k)
+  unfolding onPart
+  on-part-ok {a} {ws} n k p size f =
+      let top = part-top p in
+      ok-yes g s _ _ (le-leb (a + n) (s .at .top) (omega arith))
+      (f (partAt (s .cells) a n) (rw size at (part-cells p)))
+
+  -- cells written from address a on
+  pub written-ok : {a : ℕ} {new : List Cell} {ws : List Want} → Part (wants g frames) a ws → Matched Fits new ws
+      → Inside g own-procedure (s .at .row + 1) → NextOk g s (written s a new)
+  unfolding written following goTo withCells
+  written-ok {a} {new} {ws} p m inside =
+      let top = part-top p in
+      let stored = sound .stored in
+      let fill = matched-length m in
+      let within : a + length new ≤ s .at .top = omega arith in
+      let below = put-below (s .cells) new a (s .at .top) within stored in
+      let size = put-length (s .cells) new a (omega arith) in
+      ok-yes g s _ _ (le-leb (a + length new) (s .at .top) within)
+      (ok-goes (sound-with (s .at .row + 1) (s .at .read) (s .at .written) (overwrite (s .cells) a new) (s .output) inside
+      (rw below (matched-put (sound .holding) p m)) size) size refl)
