@@ -1,12 +1,12 @@
 -- Each statement but the call, from a sound state: it goes on to a sound state, finishes, or ends in a trap.
 use mathlib.Core.Path.{_≡_, refl, sym, _∙_, ap}
 use mathlib.Core.Bool.{Bool, true, false, not}
-use mathlib.Core.List.{List, [], _∷_, _++_, map}
+use mathlib.Core.List.{List, [], _∷_, _++_, map, append-nil}
 use mathlib.Core.Logic.{⊎-elim}
 use Prim.Native.Nat.{ℕ, zero, suc, _+_, _≤_, _<_}
 use native.Mathlib.Omega.{arith}
 use native.Mathlib.Decide.{decLt}
-use borrow.Author.Tests.{ltb-true, leb-true, eqb-true, lt-ltb, le-leb, eq-eqb, ne-eqb}
+use borrow.Author.Tests.{ltb-true, leb-true, leb-false, eqb-true, lt-ltb, le-leb, eq-eqb, ne-eqb}
 use lib.Dec.{ltb, leb, eqb}
 use lib.IntN.{ℤ, pos}
 use lib.ListN.{length, take, drop, getD, set, length-append, length-drop, length-set}
@@ -141,6 +141,12 @@ module _ (g : Program) (s : State Cell) where
   pub ok-yes : (b : Bool) {x : Next Cell} (y : Next Cell) → b ≡ true → NextOk g s x → NextOk g s (choose b x y)
   ok-yes b {x} y e h = rw (choose-yes b x y e) h
 
+  -- to one of two states
+  ok-either : (b : Bool) {x y : State Cell} → NextOk g s (goes x) → NextOk g s (goes y) → NextOk g s (goes (choose b x y))
+  unfolding choose
+  ok-either true h k = h
+  ok-either false h k = k
+
   pub on-place-ok : {fs : List Frame} {x : ℕ} {m : Found} (k : Place → Next Cell) → FoundOk g fs x m
       → ((place : Place) → place .declared ≡ x → extends (g .types) (place .dynamic) (place .declared) ≡ true
       → Object g fs (place .address) (place .dynamic) → NextOk g s (k place))
@@ -181,6 +187,10 @@ part-end {l = l} {xs} {a} p =
     let w = p .within in
     omega (arith, length-append xs (p .rest), length-drop a l, ap length (p .seen))
 
+first-cells : (cells : List Cell) (n : ℕ) → partAt cells 0 n ≡ take n cells
+unfolding partAt
+first-cells cells n = refl
+
 -- a value in its range, put, fits a place of its kind
 pub put-fits : (v : Value) (k : ℕ) → kindOf v ≡ k → InRange v → Fits (tagged .put v) (any-value k)
 unfolding tagged
@@ -195,6 +205,15 @@ mark-fits c k n small (fits-exactly kind number) =
     below : (b : Bool) → n < choose b 65536 4294967296
     below true = omega arith
     below false = omega arith
+
+-- such a cell below top
+pub mark-there : (top : ℕ) (cells : List Cell) {w ws : List Want} {k n a : ℕ} → Matched Fits (take top cells) w
+    → Part w a (exactly k n ∷ ws) → a < top → n ≤ 65535 → markAt tagged top cells k a ≡ Number n
+unfolding markAt cellAt
+mark-there top cells {k = k} {n} {a} h p low small =
+    let d : Cell = tagged .loose (pos 0) in
+    choose-yes _ _ _ (lt-ltb a top low)
+    ∙ mark-fits (getD cells a d) k n small (rw (cell-below cells d a top low) at (matched-at d h p))
 
 -- ---- objects and nodes of accepted tables
 
@@ -249,6 +268,25 @@ module _ (g : Program) (ok : AcceptedTables (g .types) (g .fields) (g .variables
     found-scalar h =
         rw (← scalar-values (place .declared) h)
         (found-front (place .declared) (extends-refl (g .types) (place .declared)))
+
+-- ---- the newest frame is left
+
+module _ (g : Program) (f : Frame) (fs : List Frame) where
+  frame-part : Part (wants g (f ∷ fs)) (length (wants g fs)) (frameWants g f)
+  unfolding wants
+  frame-part = part-back (wants g fs) (frameWants g f)
+
+  older-part : Part (wants g (f ∷ fs)) 0 (wants g fs)
+  unfolding wants
+  older-part = record { rest = frameWants g f; seen = refl; within = omega arith }
+
+  back-part : Part (wants g (f ∷ fs)) (length (wants g fs) + 1) (exactly LINK (f .back) ∷ exactly LINK (f .callers-base) ∷ joined (f .slots))
+  unfolding frameWants
+  back-part = part-part frame-part (record { rest = []; seen = sym (append-nil _); within = omega arith })
+
+  base-part : Part (wants g (f ∷ fs)) (length (wants g fs) + 2) (exactly LINK (f .callers-base) ∷ joined (f .slots))
+  unfolding frameWants
+  base-part = part-part frame-part (record { rest = []; seen = sym (append-nil _); within = omega arith })
 
 -- ---- from a sound state
 
@@ -362,3 +400,126 @@ module _ (g : Program) (ok : AcceptedTables (g .types) (g .fields) (g .variables
       ok-yes g s _ _ (le-leb (a + length new) (s .at .top) within)
       (ok-goes (sound-with (s .at .row + 1) (s .at .read) (s .at .written) (overwrite (s .cells) a new) (s .output) inside
       (rw below (matched-put (sound .holding) p m)) size) size refl)
+
+  -- a value written to a scalar object
+  pub put-ok : (place : Place) (v : Value) → extends (g .types) (place .dynamic) (place .declared) ≡ true
+      → Object g frames (place .address) (place .dynamic) → kindOf v ≡ place .declared → InRange v → place .declared ≤ 2
+      → Inside g own-procedure (s .at .row + 1) → NextOk g s (written s (place .address) (tagged .put v ∷ []))
+  put-ok place v extended object kind range low inside =
+      written-ok (found-scalar g ok (sound .stack) place extended object low)
+      (one-more (put-fits v (place .declared) kind range) no-more) inside
+
+  -- ---- its designators and expressions
+
+  own-here : (r : ℕ) → ownBelow (g .variables) (g .procedures) (g .nodes) (procedureAt (g .procedures) (s .at .row)) r ≡ true
+      → ownBelow (g .variables) (g .procedures) (g .nodes) own-procedure r ≡ true
+  own-here r e = rw procedure-is e
+
+  module _ (r x : ℕ) (low : r < rowsOf (g .nodes))
+      (typed : typeOf (g .types) (g .fields) (g .variables) (g .nodes) r ≡ Kind x)
+      (own : ownBelow (g .variables) (g .procedures) (g .nodes) (procedureAt (g .procedures) (s .at .row)) r ≡ true) where
+    pub found-here : Designates g r → FoundOk g frames x (found r)
+    found-here d = find-ok g ok bytes s sound r x low typed (own-here r own) d
+
+    pub given-here : x ≤ 2 → Gives x (answer r)
+    given-here h = eval-ok g ok bytes s sound r x low typed (own-here r own) h
+
+  -- ---- "0 assign b to designator a."
+
+  -- "then copy the target type's cells": those of an object whose type extends the target's
+  copied-ok : (target source : Place) → target .declared < rowsOf (g .types)
+      → extends (g .types) (target .dynamic) (target .declared) ≡ true → Object g frames (target .address) (target .dynamic)
+      → extends (g .types) (source .dynamic) (source .declared) ≡ true → Object g frames (source .address) (source .dynamic)
+      → extends (g .types) (source .declared) (target .declared) ≡ true
+      → Inside g own-procedure (s .at .row + 1) → NextOk g s (copied tagged g s target source)
+  unfolding copied
+  copied-ok target source low a into b from e inside =
+      let itself-too = extends-refl (g .types) (target .declared) in
+      ok-choose g s _ (λ other. ok-trapped (unchanged g s))
+      (λ other. on-part-ok (sizeOf (g .types) (g .fields) (target .declared)) (written s (target .address))
+      (found-front g ok (sound .stack) source b from (target .declared) e)
+      (values-length g ok (target .declared) low)
+      (λ new fit. written-ok (found-front g ok (sound .stack) target a into (target .declared) itself-too) fit inside))
+
+  pub assigned-ok : row .kind ≡ 0 → AssignRow (g .nodes) row → NextOk g s (assigned tagged g s row)
+  unfolding assigned
+  assigned-ok kind form =
+      let t = g .types in
+      let ruled = assign-ruled t (g .fields) (g .variables) (g .procedures) (g .nodes) (g .statements) (ok .questions .rules) (s .at .row) row-within kind in
+      let x = ruled .source in
+      let y = ruled .target in
+      let x-low = typed-low g ok (row .b) x (ruled .source-type) in
+      let y-low = typed-low g ok (row .a) y (ruled .target-type) in
+      let inside = kind-inside 0 kind (omega arith) (omega arith) (omega arith) in
+      let d = form .target in
+      on-place-ok g s _ (found-here (row .a) y (d .within) (ruled .target-type) (ruled .own-target)
+      (itself (designator-yes (g .nodes) (row .a) (d .least) (d .most)))) (λ target declared extended object.
+      ok-choose g s _
+      (λ scalar.
+      let y-scalar : y ≤ 2 = omega (arith, leb-true (target .declared) 2 scalar) in
+      let one : x ≡ y = extends-scalar t (g .fields) (ok .types) x y y-scalar y-low (ruled .extension) x-low in
+      on-value-ok g s _ (given-here (row .b) x (form .source .within) (ruled .source-type) (ruled .own-source) (omega arith))
+      (λ v k range. put-ok target v extended object (k ∙ one ∙ sym declared) range (omega arith) inside))
+      (λ structured.
+      let y-large : 3 ≤ y = omega (arith, leb-false (target .declared) 2 structured) in
+      let upward = extends-low t x y (ruled .extension) in
+      let from = structured-designator g ok (row .b) x (form .source) (ruled .source-type) (omega arith) in
+      on-place-ok g s _ (found-here (row .b) x (form .source .within) (ruled .source-type) (ruled .own-source) (itself from))
+      (λ source stated held there.
+      copied-ok target source (rw declared y-low) extended object held there (rw (declared, stated) (ruled .extension)) inside)))
+
+  -- ---- "2 go to b if a is FALSE."
+
+  pub jumped-ok : row .kind ≡ 2 → JumpRow (g .nodes) (g .procedures) (g .statements) (procedureAt (g .procedures) (s .at .row)) row
+      → NextOk g s (jumped tagged g row s)
+  unfolding jumped following
+  jumped-ok kind form =
+      let ruled = jump-ruled (g .types) (g .fields) (g .variables) (g .procedures) (g .nodes) (g .statements) (ok .questions .rules) (s .at .row) row-within kind in
+      let inside = kind-inside 2 kind (omega arith) (omega arith) (omega arith) in
+      on-value-ok g s _ (given-here (row .a) BOOLEAN (form .condition .within) (ruled .type) (ruled .own) (omega arith)) (λ v k range.
+      on-boolean-ok g s v _ k (λ holds.
+      ok-either g s holds (gone-ok (s .at .row + 1) inside) (gone-ok (row .b) (target-inside (row .b) (form .target)))))
+
+  -- ---- "4 RETURN."
+
+  -- to the frame of a call
+  left-ok : (f : Frame) (fs : List Frame) → Stack g (f ∷ fs) → Matched Fits (take (s .at .top) (s .cells)) (wants g (f ∷ fs))
+      → s .at .base ≡ length (wants g fs) → s .at .top ≡ length (wants g (f ∷ fs)) → (f .procedure ≡ 0 → ⊥)
+      → NextOk g s
+      (onMark (markAt tagged (s .at .top) (s .cells) LINK (s .at .base + 1)) λ r.
+      onMark (markAt tagged (s .at .top) (s .cells) LINK (s .at .base + 2)) λ base.
+      goes (record {
+        at = record { row = r; base = base; top = s .at .base; read = s .at .read; written = s .at .written };
+        cells = s .cells;
+        output = s .output;
+      }))
+  left-ok f fs (a-frame st low (is-first e a b c) slots) h begins ends other = absurd (other e)
+  left-ok f (c ∷ fs) (a-frame st low (is-called r kind a at next caller back base) slots) h begins ends other =
+      let w = wants g (c ∷ fs) in
+      let stored = sound .stored in
+      let lent = sound .lent in
+      let there : length w + 2 + length (exactly LINK (f .callers-base) ∷ joined (f .slots)) ≤ s .at .top =
+          omega (arith, part-end (base-part g f (c ∷ fs)), ends) in
+      let older : length (wants g fs) ≤ length w = omega (arith, part-end (older-part g c fs)) in
+      let few = ok .counts .statements in
+      let last = next .end in
+      let body = end-within (g .variables) (g .procedures) (g .statements) (ok .procedures) (c .procedure) (next .procedure) in
+      let kept : Matched Fits (take (length w) (s .cells)) w =
+          rw (part-below (s .cells) 0 (length w) (s .at .top) (omega arith), first-cells (s .cells) (length w))
+          at (matched-part h (older-part g f (c ∷ fs))) in
+      let base-link : List Want = exactly LINK (f .callers-base) ∷ joined (f .slots) in
+      let to : Part (wants g (f ∷ c ∷ fs)) (s .at .base + 1) (exactly LINK (f .back) ∷ base-link) = rw begins (back-part g f (c ∷ fs)) in
+      let from : Part (wants g (f ∷ c ∷ fs)) (s .at .base + 2) base-link = rw begins (base-part g f (c ∷ fs)) in
+      on-mark-ok g s _ (mark-there (s .at .top) (s .cells) h to (omega arith) (omega arith))
+      (on-mark-ok g s _ (mark-there (s .at .top) (s .cells) h from (omega arith) (omega arith))
+      (ok-goes (record {
+        newest = c;
+        others = fs;
+        stack = st;
+        holding = rw begins kept;
+        inside = rw back next;
+        begins = base;
+        ends = begins;
+        stored = omega arith;
+        lent = lent;
+      }) refl refl))
