@@ -1,12 +1,12 @@
 -- Each statement but the call, from a sound state: it goes on to a sound state, finishes, or ends in a trap.
-use mathlib.Core.Path.{_≡_, refl, sym, _∙_, ap}
+use mathlib.Core.Path.{_≡_, refl, sym, _∙_, ap, subst}
 use mathlib.Core.Bool.{Bool, true, false, not}
 use mathlib.Core.List.{List, [], _∷_, _++_, map, append-nil}
 use mathlib.Core.Logic.{⊎-elim}
 use Prim.Native.Nat.{ℕ, zero, suc, _+_, _≤_, _<_}
 use native.Mathlib.Omega.{arith}
 use native.Mathlib.Decide.{decLt}
-use borrow.Author.Tests.{ltb-true, leb-true, leb-false, eqb-true, lt-ltb, le-leb, eq-eqb, ne-eqb}
+use borrow.Author.Tests.{ltb-true, leb-true, leb-false, eqb-true, eqb-false, lt-ltb, le-leb, eq-eqb, ne-eqb}
 use lib.Dec.{ltb, leb, eqb}
 use lib.IntN.{ℤ, pos}
 use lib.ListN.{length, take, drop, getD, set, length-append, length-drop, length-set}
@@ -46,7 +46,7 @@ use Rattle.statements.proofs.Bodies.{InBody, end-within, body-only}
 use Rattle.statements.proofs.Accepted.{StatementRow, StatementRow.is-assign, StatementRow.is-call, StatementRow.is-jump}
 use Rattle.statements.proofs.Accepted.{StatementRow.is-goto, StatementRow.is-return, StatementRow.is-read}
 use Rattle.statements.proofs.Accepted.{StatementRow.is-write, StatementRow.is-halt, Target, target-in, behind-in, no-end}
-use Rattle.statements.proofs.Accepted.{AssignRow, JumpRow, ReadRow, ValueRow}
+use Rattle.statements.proofs.Accepted.{AssignRow, JumpRow, GotoRow, ReadRow, ValueRow}
 use Rattle.rules.proofs.Accepted.{AssignRuled, ValueRuled, assign-ruled, jump-ruled, read-ruled, write-ruled, halt-ruled}
 use Rattle.checker.proofs.Accepted.{AcceptedTables}
 use Rattle.semantics.specs.declared.Place.{Place}
@@ -195,6 +195,15 @@ first-cells cells n = refl
 pub put-fits : (v : Value) (k : ℕ) → kindOf v ≡ k → InRange v → Fits (tagged .put v) (any-value k)
 unfolding tagged
 put-fits v k e range = rw (← e) (fits-value refl (cell-back range))
+
+-- an input is an INTEGER
+input-range : (g : Program) (input : List ℤ) (i : ℕ) → isInteger (inputAt tagged g input i) ≡ true
+unfolding inputAt isInteger choose
+input-range g input i = go (isInteger (getD input i (pos 0))) (getD input i (pos 0)) refl
+  where
+    go : (b : Bool) (z : ℤ) → isInteger z ≡ b → isInteger (choose b z (pos 0)) ≡ true
+    go true z e = e
+    go false z e = refl
 
 -- a link, an address or a type reads as its number
 pub mark-fits : (c : Cell) (k n : ℕ) → n ≤ 65535 → Fits c (exactly k n) → tagged .marked k c ≡ Number n
@@ -523,3 +532,112 @@ module _ (g : Program) (ok : AcceptedTables (g .types) (g .fields) (g .variables
         stored = omega arith;
         lent = lent;
       }) refl refl))
+
+  pub returned-ok : NextOk g s (returned tagged g s)
+  unfolding returned
+  returned-ok =
+      ok-choose g s _ (λ main. ok-finished)
+      (λ other. left-ok (sound .newest) (sound .others) (sound .stack) (sound .holding) (sound .begins) (sound .ends)
+      (λ e. eqb-false (procedureAt (g .procedures) (s .at .row)) 0 other (sym procedure-is ∙ e)))
+
+  -- ---- "5 read into designator a. 6 write a. 7 HALT(a)."
+
+  read-ok : {x : Next Cell} → NextOk g s x → NextOk g s (afterRead tagged g x)
+  unfolding afterRead
+  read-ok (ok-goes {s′ = u} h cells output) = ok-goes (record {
+    newest = h .newest;
+    others = h .others;
+    stack = h .stack;
+    holding = h .holding;
+    inside = h .inside;
+    begins = h .begins;
+    ends = h .ends;
+    stored = h .stored;
+    lent = h .lent;
+  }) cells output
+  read-ok ok-finished = ok-finished
+  read-ok (ok-trapped u) = ok-trapped u
+
+  pub received-ok : (input : List ℤ) → row .kind ≡ 5 → ReadRow (g .nodes) row → NextOk g s (received tagged g input row s)
+  unfolding received kindOf
+  received-ok input kind form =
+      let ruled = read-ruled (g .types) (g .fields) (g .variables) (g .procedures) (g .nodes) (g .statements) (ok .questions .rules) (s .at .row) row-within kind in
+      let inside = kind-inside 5 kind (omega arith) (omega arith) (omega arith) in
+      let d = form .target in
+      on-place-ok g s _ (found-here (row .a) INTEGER (d .within) (ruled .type) (ruled .own)
+      (itself (designator-yes (g .nodes) (row .a) (d .least) (d .most)))) (λ target declared extended object.
+      ok-choose g s _
+      (λ more. read-ok (put-ok target (Vs.Int (inputAt tagged g input (s .at .read))) extended object (sym declared)
+      (integer (input-range g input (s .at .read))) (omega arith) inside))
+      (λ none. ok-trapped (unchanged g s)))
+
+  pub sent-ok : row .kind ≡ 6 → ValueRow (g .nodes) row → NextOk g s (sent tagged g row s)
+  unfolding sent
+  sent-ok kind form =
+      let ruled = write-ruled (g .types) (g .fields) (g .variables) (g .procedures) (g .nodes) (g .statements) (ok .questions .rules) (s .at .row) row-within kind in
+      let inside = kind-inside 6 kind (omega arith) (omega arith) (omega arith) in
+      on-value-ok g s _ (given-here (row .a) INTEGER (form .value .within) (ruled .type) (ruled .own) (omega arith)) (λ v k range.
+      on-integer-ok g s v _ k (λ z.
+      ok-choose g s _
+      (λ more. ok-goes (sound-with (s .at .row + 1) (s .at .read) (s .at .written + 1) (s .cells) (set (s .output) (s .at .written) z)
+      inside (sound .holding) refl) refl (length-set (s .output) (s .at .written) z))
+      (λ full. ok-trapped (unchanged g s))))
+
+  pub halted-ok : row .kind ≡ 7 → ValueRow (g .nodes) row → NextOk g s (halted tagged g row s)
+  unfolding halted
+  halted-ok kind form =
+      let ruled = halt-ruled (g .types) (g .fields) (g .variables) (g .procedures) (g .nodes) (g .statements) (ok .questions .rules) (s .at .row) row-within kind .value in
+      on-value-ok g s _ (given-here (row .a) INTEGER (form .value .within) (ruled .type) (ruled .own) (omega arith)) (λ v k range.
+      on-integer-ok g s v _ k (λ z. ok-trapped (unchanged g s)))
+
+  -- ---- by the kind
+
+  module _ (input : List ℤ) where
+    -- a step is its row's statement
+    pub performed : (k : ℕ) → row .kind ≡ k → NextOk g s (perform tagged g input k row s) → NextOk g s (stepOf tagged g input s)
+    unfolding stepOf
+    performed k e h = subst (λ (j : ℕ). NextOk g s (perform tagged g input j row s)) (sym e) h
+
+    assign-step : row .kind ≡ 0 → AssignRow (g .nodes) row → NextOk g s (stepOf tagged g input s)
+    unfolding perform choose
+    assign-step kind form = performed 0 kind (assigned-ok kind form)
+
+    jump-step : row .kind ≡ 2 → JumpRow (g .nodes) (g .procedures) (g .statements) (procedureAt (g .procedures) (s .at .row)) row
+        → NextOk g s (stepOf tagged g input s)
+    unfolding perform choose
+    jump-step kind form = performed 2 kind (jumped-ok kind form)
+
+    goto-step : row .kind ≡ 3 → GotoRow (g .procedures) (g .statements) (procedureAt (g .procedures) (s .at .row)) row
+        → NextOk g s (stepOf tagged g input s)
+    unfolding perform choose
+    goto-step kind form = performed 3 kind (gone-ok (row .b) (target-inside (row .b) (form .target)))
+
+    return-step : row .kind ≡ 4 → NextOk g s (stepOf tagged g input s)
+    unfolding perform choose
+    return-step kind = performed 4 kind returned-ok
+
+    read-step : row .kind ≡ 5 → ReadRow (g .nodes) row → NextOk g s (stepOf tagged g input s)
+    unfolding perform choose
+    read-step kind form = performed 5 kind (received-ok input kind form)
+
+    write-step : row .kind ≡ 6 → ValueRow (g .nodes) row → NextOk g s (stepOf tagged g input s)
+    unfolding perform choose
+    write-step kind form = performed 6 kind (sent-ok kind form)
+
+    halt-step : row .kind ≡ 7 → ValueRow (g .nodes) row → NextOk g s (stepOf tagged g input s)
+    unfolding perform choose
+    halt-step kind form = performed 7 kind (halted-ok kind form)
+
+    -- each statement but the call goes on to a sound state, finishes or ends in a trap
+    pub simple-ok : (row .kind ≡ 1 → ⊥) → NextOk g s (stepOf tagged g input s)
+    simple-ok other = go (ok .statement (s .at .row) row-within)
+      where
+        go : StatementRow (g .nodes) (g .procedures) (g .statements) (s .at .row) → NextOk g s (stepOf tagged g input s)
+        go (is-assign z k c) = assign-step k c
+        go (is-call z k c) = absurd (other k)
+        go (is-jump z k c) = jump-step k c
+        go (is-goto z k c) = goto-step k c
+        go (is-return z k c) = return-step k
+        go (is-read z k c) = read-step k c
+        go (is-write z k c) = write-step k c
+        go (is-halt z k c) = halt-step k c
