@@ -6,6 +6,7 @@ pub mod Objects
 pub mod Kinship
 pub mod Evaluating
 pub mod Kept
+pub mod Performing
 pub mod Opened
 pub mod Images
 pub mod Table

@@ -1,0 +1,643 @@
+-- Each statement but the call, from a sound state: it goes on to a sound state, finishes, or ends in a trap.
+use mathlib.Core.Path.{_≡_, refl, sym, _∙_, ap, subst}
+use mathlib.Core.Bool.{Bool, true, false, not}
+use mathlib.Core.List.{List, [], _∷_, _++_, map, append-nil}
+use mathlib.Core.Logic.{⊎-elim}
+use Prim.Native.Nat.{ℕ, zero, suc, _+_, _≤_, _<_}
+use native.Mathlib.Omega.{arith}
+use native.Mathlib.Decide.{decLt}
+use borrow.Author.Tests.{ltb-true, leb-true, leb-false, eqb-true, eqb-false, lt-ltb, le-leb, eq-eqb, ne-eqb}
+use lib.Dec.{ltb, leb, eqb}
+use lib.IntN.{ℤ, pos}
+use lib.ListN.{length, take, drop, getD, set, length-append, length-drop, length-set}
+use Rattle.prelude.specs.Choice.{choose, _also_}
+use Rattle.prelude.specs.Parts.{joined, Part}
+use Rattle.prelude.proofs.Choice.{choose-yes, choose-cases, also-true, also-yes, also-pass, clash}
+use Rattle.prelude.proofs.Parts.{part-part, part-front, part-back}
+use Rattle.image.specs.declared.Row.{Row}
+use Rattle.image.specs.Rows.{rowAt, rowsOf}
+use Rattle.image.proofs.Bytes.{Bytes}
+use Rattle.shapes.specs.Forms.{Form, form, baseOf}
+use Rattle.shapes.specs.Sizes.{layoutBy, layoutOf, sizeOf}
+use Rattle.shapes.proofs.Rows.{form-record}
+use Rattle.shapes.proofs.Accepted.{TypesKept, RowKept, Shape, Shape.is-scalar, Shape.is-array, Shape.is-record}
+use Rattle.shapes.proofs.Accepted.{Based, Based.no-base, Based.on-base, record-is, layout-is}
+use Rattle.relations.specs.Extends.{extends}
+use Rattle.relations.proofs.Extension.{Extends, Extends.same, Extends.up, extends-yes, extends-refl, extends-trans}
+use Rattle.values.specs.Values.{BOOLEAN, INTEGER, kindOf, numberOf, isInteger, InRange, InRange.integer, cellOf, Gives}
+use Rattle.values.specs.Values.{Gives.value, Gives.trapped as gives-trap}
+use Rattle.values.specs.declared.Value.{Value}
+use Rattle.values.specs.declared.Value.the-variants as Vs
+use Rattle.values.specs.declared.Trap.{Trap}
+use Rattle.values.specs.declared.Answer.{Answer}
+use Rattle.values.specs.declared.Answer.the-variants as As
+use Rattle.values.proofs.Cells.{cell-back}
+use Rattle.kinds.specs.declared.KindAnswer.the-variants.{Kind}
+use Rattle.nodes.specs.Nodes.{isDesignator}
+use Rattle.nodes.proofs.Accepted.{Plain, Designator, constant-is}
+use Rattle.typing.specs.Typing.{typeOf}
+use Rattle.typing.proofs.Lower.{dyadic-low, monadic-low}
+use Rattle.typing.proofs.Accepted.{NodeTyped, NodeTyped.by-constant, NodeTyped.by-variable, NodeTyped.by-field}
+use Rattle.typing.proofs.Accepted.{NodeTyped.by-element, NodeTyped.by-guard, NodeTyped.by-dyadic, NodeTyped.by-monadic}
+use Rattle.typing.proofs.Accepted.{NodeTyped.by-test, NodeTyped.by-argument, typed-node, type-low}
+use Rattle.owners.specs.Owners.{ownBelow}
+use Rattle.statements.specs.Statements.{procedureAt}
+use Rattle.statements.proofs.Bodies.{InBody, end-within, body-only}
+use Rattle.statements.proofs.Accepted.{StatementRow, StatementRow.is-assign, StatementRow.is-call, StatementRow.is-jump}
+use Rattle.statements.proofs.Accepted.{StatementRow.is-goto, StatementRow.is-return, StatementRow.is-read}
+use Rattle.statements.proofs.Accepted.{StatementRow.is-write, StatementRow.is-halt, Target, target-in, behind-in, no-end}
+use Rattle.statements.proofs.Accepted.{AssignRow, JumpRow, GotoRow, ReadRow, ValueRow}
+use Rattle.rules.proofs.Accepted.{AssignRuled, ValueRuled, assign-ruled, jump-ruled, read-ruled, write-ruled, halt-ruled}
+use Rattle.checker.proofs.Accepted.{AcceptedTables}
+use Rattle.semantics.specs.declared.Place.{Place}
+use Rattle.semantics.specs.declared.Found.{Found}
+use Rattle.semantics.specs.declared.Found.the-variants as Fs
+use Rattle.semantics.specs.declared.Mark.{Mark}
+use Rattle.semantics.specs.declared.Mark.the-variants.{Number, Nothing}
+use Rattle.semantics.specs.Memory.{LINK, TYPE, Cell, tagged, markOf, cellAt, markAt, partAt, overwrite}
+use Rattle.semantics.specs.Layout.{Program}
+use Rattle.semantics.specs.Finding.{findOf, evalOf}
+use Rattle.semantics.specs.Stepping.{State, Next, Next.goes, Next.finished, Next.trapped, Next.stuck}
+use Rattle.semantics.specs.Stepping.{onPlace, onValue, onInteger, onBoolean, onMark, goTo}
+use Rattle.semantics.specs.Stepping.{following, withCells, written, onPart}
+use Rattle.semantics.specs.Stepping.{otherRecord, copied, assigned, jumped, returned}
+use Rattle.semantics.specs.Stepping.{inputAt, afterRead, received, sent, halted, perform, stepOf}
+use Rattle.semantics.specs.Sound.{Want, any-value, exactly, Fits, fits-value, fits-exactly}
+use Rattle.semantics.specs.Sound.{Matched, no-more, one-more, Frame, Inside, Object, Sound}
+use Rattle.semantics.specs.Sound.{Called, is-first, is-called, Stack, no-frame, a-frame, valuesOf, wants, frameWants}
+use Rattle.semantics.proofs.Holding.{matched-length, matched-part, matched-put, matched-at}
+use Rattle.semantics.proofs.Holding.{put-below, put-length, part-below, cell-below}
+use Rattle.semantics.proofs.Objects.{values-length, object-typed, object-part, object-front}
+use Rattle.semantics.proofs.Evaluating.{FoundOk, found-ok, found-trap, Designates, itself, find-ok, eval-ok}
+use Rattle.semantics.proofs.Kept.{Unchanged, NextOk, ok-goes, ok-finished, ok-trapped}
+
+-- ---- types
+
+base-record : {t : List ℕ} {r a b : ℕ} → Based t r a → a ≡ suc b → rowAt t b .kind ≡ 4
+base-record no-base e = absurd (omega arith)
+base-record {b = b} (on-base {b = c} low kind) e = let q : c ≡ b = omega arith in rw q at kind
+
+module _ {t f : List ℕ} {used r : ℕ} where
+  -- a type that has a base extends a record
+  shape-base : {x : Form} {b : ℕ} → Shape t f used r x → baseOf x ≡ suc b → rowAt t b .kind ≡ 4
+  unfolding baseOf
+  shape-base (is-scalar l) e = absurd (omega arith)
+  shape-base (is-array l a b c) e = absurd (omega arith)
+  shape-base (is-record l on rows own) e = base-record on e
+
+  shape-scalar : {x : Form} (layout : ℕ → List ℕ) → r ≤ 2 → Shape t f used r x → layoutBy f layout x ≡ r ∷ []
+  unfolding layoutBy
+  shape-scalar layout h (is-scalar l) = refl
+  shape-scalar layout h (is-array l a b c) = absurd (omega arith)
+  shape-scalar layout h (is-record l on rows own) = absurd (omega arith)
+
+-- an extension stands in no lower row
+extended-low : {t : List ℕ} {r u : ℕ} → Extends t r u → u ≤ r
+extended-low same = omega arith
+extended-low (up base low e) = let rest = extended-low e in omega arith
+
+pub extends-low : (t : List ℕ) (r u : ℕ) → extends t r u ≡ true → u ≤ r
+extends-low t r u e = extended-low (extends-yes t r u e)
+
+module _ (t f : List ℕ) (kept : TypesKept t f) where
+  extended-other : {r u : ℕ} → Extends t r u → r < rowsOf t → (rowAt t u .kind ≡ 4 → ⊥) → r ≡ u
+  extended-other same h other = refl
+  extended-other {r} {u} (up {b = b} base low e) h other =
+      let there : b ≡ u = extended-other e (omega arith) other in
+      absurd (other (rw there at (shape-base (kept .row r h .shape) base)))
+
+  -- an extension of a type that is no record is the type itself
+  pub extends-other : (r u : ℕ) → extends t r u ≡ true → r < rowsOf t → (rowAt t u .kind ≡ 4 → ⊥) → r ≡ u
+  extends-other r u e h other = extended-other (extends-yes t r u e) h other
+
+  -- a scalar type is no record
+  pub scalar-other : (r : ℕ) → r ≤ 2 → r < rowsOf t → rowAt t r .kind ≡ 4 → ⊥
+  unfolding form
+  scalar-other r h low kind =
+      let later = record-is (kept .row r low .shape) (form-record (rowAt t r) kind) .later in
+      omega arith
+
+  pub extends-scalar : (r u : ℕ) → u ≤ 2 → u < rowsOf t → extends t r u ≡ true → r < rowsOf t → r ≡ u
+  extends-scalar r u h low e within = extends-other r u e within (scalar-other u h low)
+
+  pub scalar-layout : (r : ℕ) → r ≤ 2 → r < rowsOf t → layoutOf t f r ≡ r ∷ []
+  scalar-layout r h low =
+      let shape = kept .row r low .shape in
+      layout-is t f r shape ∙ shape-scalar (layoutOf t f) h shape
+
+-- ---- what a step comes to, by the way it goes on
+
+module _ (g : Program) (s : State Cell) where
+  pub unchanged : Unchanged s s
+  unchanged = record { registers = refl; below = refl; cells = refl; output = refl }
+
+  pub ok-choose : (b : Bool) {x y : Next Cell} → (b ≡ true → NextOk g s x) → (b ≡ false → NextOk g s y)
+      → NextOk g s (choose b x y)
+  unfolding choose
+  ok-choose true f h = f refl
+  ok-choose false f h = h refl
+
+  -- the first of two, where its test holds
+  pub ok-yes : (b : Bool) {x : Next Cell} (y : Next Cell) → b ≡ true → NextOk g s x → NextOk g s (choose b x y)
+  ok-yes b {x} y e h = rw (choose-yes b x y e) h
+
+  -- to one of two states
+  ok-either : (b : Bool) {x y : State Cell} → NextOk g s (goes x) → NextOk g s (goes y) → NextOk g s (goes (choose b x y))
+  unfolding choose
+  ok-either true h k = h
+  ok-either false h k = k
+
+  pub on-place-ok : {fs : List Frame} {x : ℕ} {m : Found} (k : Place → Next Cell) → FoundOk g fs x m
+      → ((place : Place) → place .declared ≡ x → extends (g .types) (place .dynamic) (place .declared) ≡ true
+      → Object g fs (place .address) (place .dynamic) → NextOk g s (k place))
+      → NextOk g s (onPlace s m k)
+  unfolding onPlace
+  on-place-ok k (found-ok {place = place} declared extended object) f = f place declared extended object
+  on-place-ok k found-trap f = ok-trapped unchanged
+
+  pub on-value-ok : {x : ℕ} {m : Answer} (k : Value → Next Cell) → Gives x m
+      → ((v : Value) → kindOf v ≡ x → InRange v → NextOk g s (k v)) → NextOk g s (onValue s m k)
+  unfolding onValue
+  on-value-ok k (value {v = v} kind range) f = f v kind range
+  on-value-ok k gives-trap f = ok-trapped unchanged
+
+  pub on-integer-ok : (v : Value) (k : ℤ → Next Cell) → kindOf v ≡ INTEGER → ((z : ℤ) → NextOk g s (k z))
+      → NextOk g s (onInteger v k)
+  unfolding onInteger kindOf
+  on-integer-ok (Vs.Int z) k e f = f z
+  on-integer-ok (Vs.Bool b) k e f = absurd (omega arith)
+  on-integer-ok (Vs.Set t) k e f = absurd (omega arith)
+
+  pub on-boolean-ok : (v : Value) (k : Bool → Next Cell) → kindOf v ≡ BOOLEAN → ((b : Bool) → NextOk g s (k b))
+      → NextOk g s (onBoolean v k)
+  unfolding onBoolean kindOf
+  on-boolean-ok (Vs.Bool b) k e f = f b
+  on-boolean-ok (Vs.Int z) k e f = absurd (omega arith)
+  on-boolean-ok (Vs.Set t) k e f = absurd (omega arith)
+
+  pub on-mark-ok : {m : Mark} {n : ℕ} (k : ℕ → Next Cell) → m ≡ Number n → NextOk g s (k n) → NextOk g s (onMark m k)
+  unfolding onMark
+  on-mark-ok k e h = rw e h
+
+-- ---- cells
+
+-- a part ends within its list
+pub part-end : {X : Type 0} {l xs : List X} {a : ℕ} → Part l a xs → a + length xs ≤ length l
+part-end {l = l} {xs} {a} p =
+    let w = p .within in
+    omega (arith, length-append xs (p .rest), length-drop a l, ap length (p .seen))
+
+first-cells : (cells : List Cell) (n : ℕ) → partAt cells 0 n ≡ take n cells
+unfolding partAt
+first-cells cells n = refl
+
+-- a value in its range, put, fits a place of its kind
+pub put-fits : (v : Value) (k : ℕ) → kindOf v ≡ k → InRange v → Fits (tagged .put v) (any-value k)
+unfolding tagged
+put-fits v k e range = rw (← e) (fits-value refl (cell-back range))
+
+-- an input is an INTEGER
+input-range : (g : Program) (input : List ℤ) (i : ℕ) → isInteger (inputAt tagged g input i) ≡ true
+unfolding inputAt isInteger choose
+input-range g input i = go (isInteger (getD input i (pos 0))) (getD input i (pos 0)) refl
+  where
+    go : (b : Bool) (z : ℤ) → isInteger z ≡ b → isInteger (choose b z (pos 0)) ≡ true
+    go true z e = e
+    go false z e = refl
+
+-- a link, an address or a type reads as its number
+pub mark-fits : (c : Cell) (k n : ℕ) → n ≤ 65535 → Fits c (exactly k n) → tagged .marked k c ≡ Number n
+unfolding tagged markOf choose
+mark-fits c k n small (fits-exactly kind number) =
+    rw (kind, number, eq-eqb k k refl, lt-ltb n (choose (eqb k TYPE) 65536 4294967296) (below (eqb k TYPE)))
+  where
+    below : (b : Bool) → n < choose b 65536 4294967296
+    below true = omega arith
+    below false = omega arith
+
+-- such a cell below top
+pub mark-there : (top : ℕ) (cells : List Cell) {w ws : List Want} {k n a : ℕ} → Matched Fits (take top cells) w
+    → Part w a (exactly k n ∷ ws) → a < top → n ≤ 65535 → markAt tagged top cells k a ≡ Number n
+unfolding markAt cellAt
+mark-there top cells {k = k} {n} {a} h p low small =
+    let d : Cell = tagged .loose (pos 0) in
+    choose-yes _ _ _ (lt-ltb a top low)
+    ∙ mark-fits (getD cells a d) k n small (rw (cell-below cells d a top low) at (matched-at d h p))
+
+-- ---- objects and nodes of accepted tables
+
+designator-yes : (n : List ℕ) (k : ℕ) → 1 ≤ rowAt n k .kind → rowAt n k .kind ≤ 4 → isDesignator n k ≡ true
+unfolding isDesignator
+designator-yes n k low high = also-yes (le-leb 1 (rowAt n k .kind) low) (le-leb (rowAt n k .kind) 4 high)
+
+module _ (g : Program) (ok : AcceptedTables (g .types) (g .fields) (g .variables) (g .procedures) (g .nodes) (g .statements)) where
+  -- a node's type is a row
+  pub typed-low : (r x : ℕ) → typeOf (g .types) (g .fields) (g .variables) (g .nodes) r ≡ Kind x → x < rowsOf (g .types)
+  typed-low r x e =
+      let said = ok .questions in
+      type-low (g .types) (g .fields) (g .variables) (g .nodes) (said .types) (ok .scalars) (said .variables) (said .nodes) r x e
+
+  -- "Assign: .. another object's cells": only a designator has a structured type
+  pub structured-designator : (r x : ℕ) → Plain (g .nodes) r
+      → typeOf (g .types) (g .fields) (g .variables) (g .nodes) r ≡ Kind x → 3 ≤ x → isDesignator (g .nodes) r ≡ true
+  structured-designator r x plain type large =
+      go (typed-node (g .types) (g .fields) (g .variables) (g .nodes) (ok .questions .nodes) r (plain .within) type)
+    where
+      go : NodeTyped (g .types) (g .fields) (g .variables) (g .nodes) r x → isDesignator (g .nodes) r ≡ true
+      go (by-constant k e) =
+          let low = constant-is (g .types) (g .variables) (g .nodes) (ok .questions .nodes) r (plain .within) k .typed in
+          absurd (omega arith)
+      go (by-variable k e) = designator-yes (g .nodes) r (omega arith) (omega arith)
+      go (by-field k e) = designator-yes (g .nodes) r (omega arith) (omega arith)
+      go (by-element k e) = designator-yes (g .nodes) r (omega arith) (omega arith)
+      go (by-guard k e) = designator-yes (g .nodes) r (omega arith) (omega arith)
+      go (by-dyadic k e) =
+          let low = dyadic-low (rowAt (g .nodes) r .c) (e .left) (e .right) x (e .result) in
+          absurd (omega arith)
+      go (by-monadic k e) =
+          let low = monadic-low (rowAt (g .nodes) r .c) (e .operand) x (e .result) in
+          absurd (omega arith)
+      go (by-test k e) = let is = e .boolean in absurd (omega arith)
+      go (by-argument k e) = absurd (plain .plain k)
+
+  pub scalar-values : (x : ℕ) → x ≤ 2 → valuesOf g x ≡ any-value x ∷ []
+  unfolding valuesOf
+  scalar-values x h = let most = ok .scalars in rw (scalar-layout (g .types) (g .fields) (ok .types) x h (omega arith))
+
+  module _ {fs : List Frame} (stack : Stack g fs) (place : Place)
+      (extended : extends (g .types) (place .dynamic) (place .declared) ≡ true)
+      (object : Object g fs (place .address) (place .dynamic)) where
+    -- the cells of an object that was found, as those of a type that its declared one extends
+    pub found-front : (u : ℕ) → extends (g .types) (place .declared) u ≡ true → Part (wants g fs) (place .address) (valuesOf g u)
+    found-front u e =
+        object-front g ok u stack object (extends-trans (g .types) (place .dynamic) (place .declared) u extended e)
+
+    -- a scalar one's single cell
+    pub found-scalar : place .declared ≤ 2 → Part (wants g fs) (place .address) (any-value (place .declared) ∷ [])
+    found-scalar h =
+        rw (← scalar-values (place .declared) h)
+        (found-front (place .declared) (extends-refl (g .types) (place .declared)))
+
+-- ---- the newest frame is left
+
+module _ (g : Program) (f : Frame) (fs : List Frame) where
+  frame-part : Part (wants g (f ∷ fs)) (length (wants g fs)) (frameWants g f)
+  unfolding wants
+  frame-part = part-back (wants g fs) (frameWants g f)
+
+  older-part : Part (wants g (f ∷ fs)) 0 (wants g fs)
+  unfolding wants
+  older-part = record { rest = frameWants g f; seen = refl; within = omega arith }
+
+  back-part : Part (wants g (f ∷ fs)) (length (wants g fs) + 1) (exactly LINK (f .back) ∷ exactly LINK (f .callers-base) ∷ joined (f .slots))
+  unfolding frameWants
+  back-part = part-part frame-part (record { rest = []; seen = sym (append-nil _); within = omega arith })
+
+  base-part : Part (wants g (f ∷ fs)) (length (wants g fs) + 2) (exactly LINK (f .callers-base) ∷ joined (f .slots))
+  unfolding frameWants
+  base-part = part-part frame-part (record { rest = []; seen = sym (append-nil _); within = omega arith })
+
+-- ---- from a sound state
+
+module _ (g : Program) (ok : AcceptedTables (g .types) (g .fields) (g .variables) (g .procedures) (g .nodes) (g .statements))
+    (bytes : Bytes (g .nodes)) (s : State Cell) (sound : Sound g s) where
+  abbrev row : Row
+  row = rowAt (g .statements) (s .at .row)
+
+  abbrev frames : List Frame
+  frames = sound .newest ∷ sound .others
+
+  abbrev own-procedure : ℕ
+  own-procedure = sound .newest .procedure
+
+  abbrev found : ℕ → Found
+  found r = findOf tagged g (s .at .base) (s .at .top) (s .cells) r
+
+  abbrev answer : ℕ → Answer
+  answer r = evalOf tagged g (s .at .base) (s .at .top) (s .cells) r
+
+  -- ---- its row
+
+  pub row-within : s .at .row < rowsOf (g .statements)
+  row-within =
+      let low = sound .inside .end in
+      let high = end-within (g .variables) (g .procedures) (g .statements) (ok .procedures) own-procedure (sound .inside .procedure) in
+      omega arith
+
+  -- the top frame's procedure is the one whose body has the row
+  pub procedure-is : own-procedure ≡ procedureAt (g .procedures) (s .at .row)
+  procedure-is =
+      body-only (g .variables) (g .procedures) (g .statements) (ok .procedures) own-procedure (s .at .row)
+      (record { procedure = sound .inside .procedure; start = sound .inside .start; end = sound .inside .end })
+
+  body-inside : (r : ℕ) → InBody (g .procedures) (g .statements) (procedureAt (g .procedures) (s .at .row)) r → Inside g own-procedure r
+  body-inside r b = rw procedure-is (record { procedure = b .procedure; start = b .start; end = b .end })
+
+  pub target-inside : (b : ℕ) → Target (g .procedures) (g .statements) (procedureAt (g .procedures) (s .at .row)) b → Inside g own-procedure b
+  target-inside b t =
+      body-inside b (target-in (g .variables) (g .procedures) (g .statements) (ok .procedures) (ok .counts .some-procedure) (s .at .row) row-within b t)
+
+  -- the row behind one that ends no body
+  pub next-inside : (row .kind ≡ 3 → ⊥) → (row .kind ≡ 4 → ⊥) → (row .kind ≡ 7 → ⊥) → Inside g own-procedure (s .at .row + 1)
+  next-inside a b c =
+      body-inside (s .at .row + 1)
+      (behind-in (g .variables) (g .procedures) (g .statements) (ok .procedures) (ok .counts .some-procedure) (s .at .row) row-within
+      (g .nodes) (ok .questions .statements) (no-end row a b c))
+
+  -- the same for a kind that is known
+  pub kind-inside : (k : ℕ) → row .kind ≡ k → (k ≡ 3 → ⊥) → (k ≡ 4 → ⊥) → (k ≡ 7 → ⊥) → Inside g own-procedure (s .at .row + 1)
+  kind-inside k e a b c = next-inside (λ h. a (sym e ∙ h)) (λ h. b (sym e ∙ h)) (λ h. c (sym e ∙ h))
+
+  -- ---- the same frames, another row, other counts, cells and output
+
+  pub sound-with : (r read out : ℕ) (cells : List Cell) (output : List ℤ) → Inside g own-procedure r
+      → Matched Fits (take (s .at .top) cells) (wants g frames) → length cells ≡ length (s .cells)
+      → Sound g (record {
+        at = record { row = r; base = s .at .base; top = s .at .top; read = read; written = out };
+        cells = cells;
+        output = output;
+      })
+  sound-with r read out cells output inside holding size =
+      let stored = sound .stored in
+      let lent = sound .lent in
+      record {
+        newest = sound .newest;
+        others = sound .others;
+        stack = sound .stack;
+        holding = holding;
+        inside = inside;
+        begins = sound .begins;
+        ends = sound .ends;
+        stored = omega arith;
+        lent = omega arith;
+      }
+
+  -- a jump within the body
+  pub gone-ok : (r : ℕ) → Inside g own-procedure r → NextOk g s (goes (goTo s r))
+  unfolding goTo
+  gone-ok r inside = ok-goes (sound-with r (s .at .read) (s .at .written) (s .cells) (s .output) inside (sound .holding) refl) refl refl
+
+  -- ---- its cells
+
+  pub part-top : {a : ℕ} {ws : List Want} → Part (wants g frames) a ws → a + length ws ≤ s .at .top
+  part-top p = omega (arith, part-end p, sound .ends)
+
+  -- cells read below top
+  pub part-cells : {a : ℕ} {ws : List Want} → Part (wants g frames) a ws → Matched Fits (partAt (s .cells) a (length ws)) ws
+  part-cells {a} {ws} p =
+      rw (part-below (s .cells) a (length ws) (s .at .top) (part-top p)) at (matched-part (sound .holding) p)
+
+  pub on-part-ok : {a : ℕ} {ws : List Want} (n : ℕ) (k : List Cell → Next Cell) → Part (wants g frames) a ws → length ws ≡ n
+      → ((new : List Cell) → Matched Fits new ws → NextOk g s (k new)) → NextOk g s (onPart s a n k)
+  unfolding onPart
+  on-part-ok {a} {ws} n k p size f =
+      let top = part-top p in
+      ok-yes g s _ _ (le-leb (a + n) (s .at .top) (omega arith))
+      (f (partAt (s .cells) a n) (rw size at (part-cells p)))
+
+  -- cells written from address a on
+  pub written-ok : {a : ℕ} {new : List Cell} {ws : List Want} → Part (wants g frames) a ws → Matched Fits new ws
+      → Inside g own-procedure (s .at .row + 1) → NextOk g s (written s a new)
+  unfolding written following goTo withCells
+  written-ok {a} {new} {ws} p m inside =
+      let top = part-top p in
+      let stored = sound .stored in
+      let fill = matched-length m in
+      let within : a + length new ≤ s .at .top = omega arith in
+      let below = put-below (s .cells) new a (s .at .top) within stored in
+      let size = put-length (s .cells) new a (omega arith) in
+      ok-yes g s _ _ (le-leb (a + length new) (s .at .top) within)
+      (ok-goes (sound-with (s .at .row + 1) (s .at .read) (s .at .written) (overwrite (s .cells) a new) (s .output) inside
+      (rw below (matched-put (sound .holding) p m)) size) size refl)
+
+  -- a value written to a scalar object
+  pub put-ok : (place : Place) (v : Value) → extends (g .types) (place .dynamic) (place .declared) ≡ true
+      → Object g frames (place .address) (place .dynamic) → kindOf v ≡ place .declared → InRange v → place .declared ≤ 2
+      → Inside g own-procedure (s .at .row + 1) → NextOk g s (written s (place .address) (tagged .put v ∷ []))
+  put-ok place v extended object kind range low inside =
+      written-ok (found-scalar g ok (sound .stack) place extended object low)
+      (one-more (put-fits v (place .declared) kind range) no-more) inside
+
+  -- ---- its designators and expressions
+
+  own-here : (r : ℕ) → ownBelow (g .variables) (g .procedures) (g .nodes) (procedureAt (g .procedures) (s .at .row)) r ≡ true
+      → ownBelow (g .variables) (g .procedures) (g .nodes) own-procedure r ≡ true
+  own-here r e = rw procedure-is e
+
+  module _ (r x : ℕ) (low : r < rowsOf (g .nodes))
+      (typed : typeOf (g .types) (g .fields) (g .variables) (g .nodes) r ≡ Kind x)
+      (own : ownBelow (g .variables) (g .procedures) (g .nodes) (procedureAt (g .procedures) (s .at .row)) r ≡ true) where
+    pub found-here : Designates g r → FoundOk g frames x (found r)
+    found-here d = find-ok g ok bytes s sound r x low typed (own-here r own) d
+
+    pub given-here : x ≤ 2 → Gives x (answer r)
+    given-here h = eval-ok g ok bytes s sound r x low typed (own-here r own) h
+
+  -- ---- "0 assign b to designator a."
+
+  -- "then copy the target type's cells": those of an object whose type extends the target's
+  copied-ok : (target source : Place) → target .declared < rowsOf (g .types)
+      → extends (g .types) (target .dynamic) (target .declared) ≡ true → Object g frames (target .address) (target .dynamic)
+      → extends (g .types) (source .dynamic) (source .declared) ≡ true → Object g frames (source .address) (source .dynamic)
+      → extends (g .types) (source .declared) (target .declared) ≡ true
+      → Inside g own-procedure (s .at .row + 1) → NextOk g s (copied tagged g s target source)
+  unfolding copied
+  copied-ok target source low a into b from e inside =
+      let itself-too = extends-refl (g .types) (target .declared) in
+      ok-choose g s _ (λ other. ok-trapped (unchanged g s))
+      (λ other. on-part-ok (sizeOf (g .types) (g .fields) (target .declared)) (written s (target .address))
+      (found-front g ok (sound .stack) source b from (target .declared) e)
+      (values-length g ok (target .declared) low)
+      (λ new fit. written-ok (found-front g ok (sound .stack) target a into (target .declared) itself-too) fit inside))
+
+  pub assigned-ok : row .kind ≡ 0 → AssignRow (g .nodes) row → NextOk g s (assigned tagged g s row)
+  unfolding assigned
+  assigned-ok kind form =
+      let t = g .types in
+      let ruled = assign-ruled t (g .fields) (g .variables) (g .procedures) (g .nodes) (g .statements) (ok .questions .rules) (s .at .row) row-within kind in
+      let x = ruled .source in
+      let y = ruled .target in
+      let x-low = typed-low g ok (row .b) x (ruled .source-type) in
+      let y-low = typed-low g ok (row .a) y (ruled .target-type) in
+      let inside = kind-inside 0 kind (omega arith) (omega arith) (omega arith) in
+      let d = form .target in
+      on-place-ok g s _ (found-here (row .a) y (d .within) (ruled .target-type) (ruled .own-target)
+      (itself (designator-yes (g .nodes) (row .a) (d .least) (d .most)))) (λ target declared extended object.
+      ok-choose g s _
+      (λ scalar.
+      let y-scalar : y ≤ 2 = omega (arith, leb-true (target .declared) 2 scalar) in
+      let one : x ≡ y = extends-scalar t (g .fields) (ok .types) x y y-scalar y-low (ruled .extension) x-low in
+      on-value-ok g s _ (given-here (row .b) x (form .source .within) (ruled .source-type) (ruled .own-source) (omega arith))
+      (λ v k range. put-ok target v extended object (k ∙ one ∙ sym declared) range (omega arith) inside))
+      (λ structured.
+      let y-large : 3 ≤ y = omega (arith, leb-false (target .declared) 2 structured) in
+      let upward = extends-low t x y (ruled .extension) in
+      let from = structured-designator g ok (row .b) x (form .source) (ruled .source-type) (omega arith) in
+      on-place-ok g s _ (found-here (row .b) x (form .source .within) (ruled .source-type) (ruled .own-source) (itself from))
+      (λ source stated held there.
+      copied-ok target source (rw declared y-low) extended object held there (rw (declared, stated) (ruled .extension)) inside)))
+
+  -- ---- "2 go to b if a is FALSE."
+
+  pub jumped-ok : row .kind ≡ 2 → JumpRow (g .nodes) (g .procedures) (g .statements) (procedureAt (g .procedures) (s .at .row)) row
+      → NextOk g s (jumped tagged g row s)
+  unfolding jumped following
+  jumped-ok kind form =
+      let ruled = jump-ruled (g .types) (g .fields) (g .variables) (g .procedures) (g .nodes) (g .statements) (ok .questions .rules) (s .at .row) row-within kind in
+      let inside = kind-inside 2 kind (omega arith) (omega arith) (omega arith) in
+      on-value-ok g s _ (given-here (row .a) BOOLEAN (form .condition .within) (ruled .type) (ruled .own) (omega arith)) (λ v k range.
+      on-boolean-ok g s v _ k (λ holds.
+      ok-either g s holds (gone-ok (s .at .row + 1) inside) (gone-ok (row .b) (target-inside (row .b) (form .target)))))
+
+  -- ---- "4 RETURN."
+
+  -- to the frame of a call
+  left-ok : (f : Frame) (fs : List Frame) → Stack g (f ∷ fs) → Matched Fits (take (s .at .top) (s .cells)) (wants g (f ∷ fs))
+      → s .at .base ≡ length (wants g fs) → s .at .top ≡ length (wants g (f ∷ fs)) → (f .procedure ≡ 0 → ⊥)
+      → NextOk g s
+      (onMark (markAt tagged (s .at .top) (s .cells) LINK (s .at .base + 1)) λ r.
+      onMark (markAt tagged (s .at .top) (s .cells) LINK (s .at .base + 2)) λ base.
+      goes (record {
+        at = record { row = r; base = base; top = s .at .base; read = s .at .read; written = s .at .written };
+        cells = s .cells;
+        output = s .output;
+      }))
+  left-ok f fs (a-frame st low (is-first e a b c) slots) h begins ends other = absurd (other e)
+  left-ok f (c ∷ fs) (a-frame st low (is-called r kind a at next caller back base) slots) h begins ends other =
+      let w = wants g (c ∷ fs) in
+      let stored = sound .stored in
+      let lent = sound .lent in
+      let there : length w + 2 + length (exactly LINK (f .callers-base) ∷ joined (f .slots)) ≤ s .at .top =
+          omega (arith, part-end (base-part g f (c ∷ fs)), ends) in
+      let older : length (wants g fs) ≤ length w = omega (arith, part-end (older-part g c fs)) in
+      let few = ok .counts .statements in
+      let last = next .end in
+      let body = end-within (g .variables) (g .procedures) (g .statements) (ok .procedures) (c .procedure) (next .procedure) in
+      let kept : Matched Fits (take (length w) (s .cells)) w =
+          rw (part-below (s .cells) 0 (length w) (s .at .top) (omega arith), first-cells (s .cells) (length w))
+          at (matched-part h (older-part g f (c ∷ fs))) in
+      let base-link : List Want = exactly LINK (f .callers-base) ∷ joined (f .slots) in
+      let to : Part (wants g (f ∷ c ∷ fs)) (s .at .base + 1) (exactly LINK (f .back) ∷ base-link) = rw begins (back-part g f (c ∷ fs)) in
+      let from : Part (wants g (f ∷ c ∷ fs)) (s .at .base + 2) base-link = rw begins (base-part g f (c ∷ fs)) in
+      on-mark-ok g s _ (mark-there (s .at .top) (s .cells) h to (omega arith) (omega arith))
+      (on-mark-ok g s _ (mark-there (s .at .top) (s .cells) h from (omega arith) (omega arith))
+      (ok-goes (record {
+        newest = c;
+        others = fs;
+        stack = st;
+        holding = rw begins kept;
+        inside = rw back next;
+        begins = base;
+        ends = begins;
+        stored = omega arith;
+        lent = lent;
+      }) refl refl))
+
+  pub returned-ok : NextOk g s (returned tagged g s)
+  unfolding returned
+  returned-ok =
+      ok-choose g s _ (λ main. ok-finished)
+      (λ other. left-ok (sound .newest) (sound .others) (sound .stack) (sound .holding) (sound .begins) (sound .ends)
+      (λ e. eqb-false (procedureAt (g .procedures) (s .at .row)) 0 other (sym procedure-is ∙ e)))
+
+  -- ---- "5 read into designator a. 6 write a. 7 HALT(a)."
+
+  read-ok : {x : Next Cell} → NextOk g s x → NextOk g s (afterRead tagged g x)
+  unfolding afterRead
+  read-ok (ok-goes {s′ = u} h cells output) = ok-goes (record {
+    newest = h .newest;
+    others = h .others;
+    stack = h .stack;
+    holding = h .holding;
+    inside = h .inside;
+    begins = h .begins;
+    ends = h .ends;
+    stored = h .stored;
+    lent = h .lent;
+  }) cells output
+  read-ok ok-finished = ok-finished
+  read-ok (ok-trapped u) = ok-trapped u
+
+  pub received-ok : (input : List ℤ) → row .kind ≡ 5 → ReadRow (g .nodes) row → NextOk g s (received tagged g input row s)
+  unfolding received kindOf
+  received-ok input kind form =
+      let ruled = read-ruled (g .types) (g .fields) (g .variables) (g .procedures) (g .nodes) (g .statements) (ok .questions .rules) (s .at .row) row-within kind in
+      let inside = kind-inside 5 kind (omega arith) (omega arith) (omega arith) in
+      let d = form .target in
+      on-place-ok g s _ (found-here (row .a) INTEGER (d .within) (ruled .type) (ruled .own)
+      (itself (designator-yes (g .nodes) (row .a) (d .least) (d .most)))) (λ target declared extended object.
+      ok-choose g s _
+      (λ more. read-ok (put-ok target (Vs.Int (inputAt tagged g input (s .at .read))) extended object (sym declared)
+      (integer (input-range g input (s .at .read))) (omega arith) inside))
+      (λ none. ok-trapped (unchanged g s)))
+
+  pub sent-ok : row .kind ≡ 6 → ValueRow (g .nodes) row → NextOk g s (sent tagged g row s)
+  unfolding sent
+  sent-ok kind form =
+      let ruled = write-ruled (g .types) (g .fields) (g .variables) (g .procedures) (g .nodes) (g .statements) (ok .questions .rules) (s .at .row) row-within kind in
+      let inside = kind-inside 6 kind (omega arith) (omega arith) (omega arith) in
+      on-value-ok g s _ (given-here (row .a) INTEGER (form .value .within) (ruled .type) (ruled .own) (omega arith)) (λ v k range.
+      on-integer-ok g s v _ k (λ z.
+      ok-choose g s _
+      (λ more. ok-goes (sound-with (s .at .row + 1) (s .at .read) (s .at .written + 1) (s .cells) (set (s .output) (s .at .written) z)
+      inside (sound .holding) refl) refl (length-set (s .output) (s .at .written) z))
+      (λ full. ok-trapped (unchanged g s))))
+
+  pub halted-ok : row .kind ≡ 7 → ValueRow (g .nodes) row → NextOk g s (halted tagged g row s)
+  unfolding halted
+  halted-ok kind form =
+      let ruled = halt-ruled (g .types) (g .fields) (g .variables) (g .procedures) (g .nodes) (g .statements) (ok .questions .rules) (s .at .row) row-within kind .value in
+      on-value-ok g s _ (given-here (row .a) INTEGER (form .value .within) (ruled .type) (ruled .own) (omega arith)) (λ v k range.
+      on-integer-ok g s v _ k (λ z. ok-trapped (unchanged g s)))
+
+  -- ---- by the kind
+
+  module _ (input : List ℤ) where
+    -- a step is its row's statement
+    pub performed : (k : ℕ) → row .kind ≡ k → NextOk g s (perform tagged g input k row s) → NextOk g s (stepOf tagged g input s)
+    unfolding stepOf
+    performed k e h = subst (λ (j : ℕ). NextOk g s (perform tagged g input j row s)) (sym e) h
+
+    assign-step : row .kind ≡ 0 → AssignRow (g .nodes) row → NextOk g s (stepOf tagged g input s)
+    unfolding perform choose
+    assign-step kind form = performed 0 kind (assigned-ok kind form)
+
+    jump-step : row .kind ≡ 2 → JumpRow (g .nodes) (g .procedures) (g .statements) (procedureAt (g .procedures) (s .at .row)) row
+        → NextOk g s (stepOf tagged g input s)
+    unfolding perform choose
+    jump-step kind form = performed 2 kind (jumped-ok kind form)
+
+    goto-step : row .kind ≡ 3 → GotoRow (g .procedures) (g .statements) (procedureAt (g .procedures) (s .at .row)) row
+        → NextOk g s (stepOf tagged g input s)
+    unfolding perform choose
+    goto-step kind form = performed 3 kind (gone-ok (row .b) (target-inside (row .b) (form .target)))
+
+    return-step : row .kind ≡ 4 → NextOk g s (stepOf tagged g input s)
+    unfolding perform choose
+    return-step kind = performed 4 kind returned-ok
+
+    read-step : row .kind ≡ 5 → ReadRow (g .nodes) row → NextOk g s (stepOf tagged g input s)
+    unfolding perform choose
+    read-step kind form = performed 5 kind (received-ok input kind form)
+
+    write-step : row .kind ≡ 6 → ValueRow (g .nodes) row → NextOk g s (stepOf tagged g input s)
+    unfolding perform choose
+    write-step kind form = performed 6 kind (sent-ok kind form)
+
+    halt-step : row .kind ≡ 7 → ValueRow (g .nodes) row → NextOk g s (stepOf tagged g input s)
+    unfolding perform choose
+    halt-step kind form = performed 7 kind (halted-ok kind form)
+
+    -- each statement but the call goes on to a sound state, finishes or ends in a trap
+    pub simple-ok : (row .kind ≡ 1 → ⊥) → NextOk g s (stepOf tagged g input s)
+    simple-ok other = go (ok .statement (s .at .row) row-within)
+      where
+        go : StatementRow (g .nodes) (g .procedures) (g .statements) (s .at .row) → NextOk g s (stepOf tagged g input s)
+        go (is-assign z k c) = assign-step k c
+        go (is-call z k c) = absurd (other k)
+        go (is-jump z k c) = jump-step k c
+        go (is-goto z k c) = goto-step k c
+        go (is-return z k c) = return-step k
+        go (is-read z k c) = read-step k c
+        go (is-write z k c) = write-step k c
+        go (is-halt z k c) = halt-step k c
