@@ -4,3 +4,5 @@ pub mod Holding
 pub mod Objects
 pub mod Evaluating
 pub mod Kept
+pub mod Beginning
+pub mod Demand3
