@@ -6,3 +6,4 @@ pub mod Evaluating
 pub mod Kept
 pub mod Beginning
 pub mod Demand3
+pub mod Outcomes
