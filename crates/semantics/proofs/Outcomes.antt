@@ -1,21 +1,22 @@
 -- What demand 3 says of a run: its outcome has a number of the paper's, and the bare machine does the same.
 use mathlib.Core.Path.{_≡_, refl, sym, _∙_}
-use mathlib.Core.Bool.{true}
+use mathlib.Core.Bool.{Bool, true, false}
 use mathlib.Core.List.{List}
 use mathlib.Core.Logic.{⊎-elim}
 use Prim.Native.Nat.{ℕ, zero, suc, _+_, _≤_, _<_}
 use native.Mathlib.Omega.{arith}
-use borrow.Author.Tests.{leb-true, eqb-true}
+use borrow.Author.Tests.{leb-true, eqb-true, eq-eqb}
 use lib.Dec.{leb, eqb}
 use lib.IntN.{ℤ, pos}
 use lib.ListN.{length}
-use Rattle.prelude.proofs.Choice.{choose-cases}
+use Rattle.prelude.specs.Choice.{choose}
+use Rattle.prelude.proofs.Choice.{choose-cases, clash}
 use Rattle.image.proofs.Bytes.{Bytes}
 use Rattle.values.specs.declared.Trap.{Trap}
 use Rattle.values.specs.Values.{trapNumber}
 use Rattle.checker.specs.declared.CheckAnswer.{CheckAnswer}
 use Rattle.checker.specs.declared.CheckAnswer.the-variants.{Accepted, Refused}
-use Rattle.checker.specs.Check.{questionOf, checkOf, refusalOf}
+use Rattle.checker.specs.Check.{questionOf, checkOf, refusalOf, rowOf}
 use Rattle.checker.proofs.Chain.{refused-first}
 use Rattle.checker.proofs.Accepted.{AcceptedTables}
 use Rattle.semantics.specs.Memory.{Cell, tagged, bare}
@@ -98,11 +99,59 @@ steps-lent image input store output steps = go (reported (programOf image) input
     go (traps d low c r x) = omega arith
     go (sticks d low c r x) = omega arith
 
+-- as many cells and outputs as before
+pub record SameRoom (s s′ : State Cell) : Type 0 where
+  pub cells : length (s′ .cells) ≡ length (s .cells)
+  pub output : length (s′ .output) ≡ length (s .output)
+
+-- ---- who is not refused
+
+checked : (image : List ℕ) → refusalOf (checkOf image) ≡ 0 → checkOf image ≡ Accepted
+unfolding refusalOf checkOf
+checked image none = go (checkOf image) refl none
+  where
+    go : (x : CheckAnswer) → checkOf image ≡ x → refusalOf x ≡ 0 → checkOf image ≡ Accepted
+    go Accepted e h = e
+    go (Refused q row) e h = let low = refused-first (questionOf image) 11 1 q row e .least in absurd (omega arith)
+
+-- a run without refusal: the check accepts, and questions 12 and 13 are answered by yes
+pub refusal-none : (image : List ℕ) (store : List ℤ) → refusal image store ≡ 0
+    → (checkOf image ≡ Accepted) × (length store ≤ 65536) × (firstTop (programOf image) ≤ length store)
+unfolding refusal
+refusal-none image store e =
+    ⊎-elim
+    (λ a. ⊎-elim
+    (λ b. ⊎-elim
+    (λ c. (checked image (eqb-true _ _ (a .0)), leb-true _ _ (b .0), leb-true _ _ (c .0)))
+    (λ c. absurd (omega (arith, c .1)))
+    (choose-cases (leb (firstTop (programOf image)) (length store)) (b .1)))
+    (λ b. absurd (omega (arith, b .1)))
+    (choose-cases (leb (length store) 65536) (a .1)))
+    (λ a. clash (sym (eq-eqb _ 0 (a .1)) ∙ a .0))
+    (choose-cases (eqb (refusalOf (checkOf image)) 0) e)
+
 -- ---- what follows from demand 3
 
 module _ (step-ok : (g : Program)
     → AcceptedTables (g .types) (g .fields) (g .variables) (g .procedures) (g .nodes) (g .statements)
     → Bytes (g .nodes) → (s : State Cell) → Sound g s → (input : List ℤ) → NextOk g s (stepOf tagged g input s)) where
+  module _ (g : Program) (ok : AcceptedTables (g .types) (g .fields) (g .variables) (g .procedures) (g .nodes) (g .statements))
+      (bytes : Bytes (g .nodes)) (input : List ℤ) where
+    run-room : (n k : ℕ) (s : State Cell) → Sound g s → SameRoom s (runFrom tagged g input n k s .state)
+    unfolding runFrom onward
+    run-room zero k s sound = record { cells = refl; output = refl }
+    run-room (suc n) k s sound =
+        go (stepOf tagged g input s) (step-ok g ok bytes s sound input) (λ u h. run-room n (k + 1) u h)
+      where
+        go : (x : Next Cell) → NextOk g s x
+            → ((u : State Cell) → Sound g u → SameRoom u (runFrom tagged g input n (k + 1) u .state))
+            → SameRoom s (onward x s (k + 1) (λ u. runFrom tagged g input n (k + 1) u) .state)
+        go x (ok-goes {s′ = u} next cells output) later =
+            let rest = later u next in
+            record { cells = rest .cells ∙ cells; output = rest .output ∙ output }
+        go x ok-finished later = record { cells = refl; output = refl }
+        go x (ok-trapped same) later = record { cells = same .cells; output = rw (same .output) }
+
   module _ (image : List ℕ) (bytes : Bytes image) (accepted : checkOf image ≡ Accepted) (input store output : List ℤ)
       (most : length store ≤ 65536) (least : firstTop (programOf image) ≤ length store) (steps : ℕ) where
     abbrev first : State Cell
@@ -166,3 +215,41 @@ module _ (step-ok : (g : Program)
     ran-bare =
         rw (fresh-erased (programOf image) store output)
         (run-follows (programOf image) input steps 0 first never-stuck)
+
+    -- a run leaves as many cells and outputs as it was lent
+    pub ran-cells : length (ranOf image input store output steps .state .cells) ≡ length store
+    unfolding ranOf fresh
+    ran-cells =
+        let ok = program-accepted image accepted in
+        run-room (programOf image) ok (program-bytes image bytes) input steps 0 first
+        (fresh-sound (programOf image) ok store output most least) .cells
+        ∙ fresh-length (programOf image) ok store least
+
+    pub ran-output : length (ranOf image input store output steps .state .output) ≡ length output
+    unfolding ranOf fresh
+    ran-output =
+        let ok = program-accepted image accepted in
+        run-room (programOf image) ok (program-bytes image bytes) input steps 0 first
+        (fresh-sound (programOf image) ok store output most least) .output
+
+    ran-outcome : ranOf image input store output steps .outcome ≤ 2
+    ran-outcome = go ran never-stuck
+      where
+        go : {e : Ended Cell} → Reported (programOf image) input steps 0 first e → (e .outcome ≡ 3 → ⊥) → e .outcome ≤ 2
+        go (used-up c r) free = omega arith
+        go (finishes d low c r x) free = omega arith
+        go (traps d low c r x) free = omega arith
+        go (sticks d low c r x) free = absurd (free refl)
+
+  -- "outcome (0 steps used up, 1 finished, 2 trapped)": whatever the image and the store
+  pub result-outcome : (image : List ℕ) → Bytes image → (input store output : List ℤ) (steps : ℕ)
+      → resultOf image input store output steps .outcome ≤ 2
+  unfolding resultOf numbersOf refusedWith choose
+  result-outcome image bytes input store output steps = go (eqb (refusal image store) 0) refl
+    where
+      go : (b : Bool) → eqb (refusal image store) 0 ≡ b
+          → choose b (numbersOf (ranOf image input store output steps)) (refusedWith (refusal image store) (rowOf (checkOf image))) .outcome ≤ 2
+      go true e =
+          let (accepted, most, least) = refusal-none image store (eqb-true _ _ e) in
+          ran-outcome image bytes accepted input store output most least steps
+      go false e = omega arith
