@@ -7,7 +7,10 @@ pub mod Kinship
 pub mod Evaluating
 pub mod Kept
 pub mod Performing
+pub mod Beginning
+pub mod Demand3
 pub mod Opened
 pub mod Images
 pub mod Table
 pub mod Whole
+pub mod Outcomes

@@ -4,3 +4,4 @@ pub mod Finding
 pub mod Stepping
 pub mod Running
 pub mod Sound
+pub mod After

@@ -1,0 +1,255 @@
+-- What demand 3 says of a run: its outcome has a number of the paper's, and the bare machine does the same.
+use mathlib.Core.Path.{_≡_, refl, sym, _∙_}
+use mathlib.Core.Bool.{Bool, true, false}
+use mathlib.Core.List.{List}
+use mathlib.Core.Logic.{⊎-elim}
+use Prim.Native.Nat.{ℕ, zero, suc, _+_, _≤_, _<_}
+use native.Mathlib.Omega.{arith}
+use borrow.Author.Tests.{leb-true, eqb-true, eq-eqb}
+use lib.Dec.{leb, eqb}
+use lib.IntN.{ℤ, pos}
+use lib.ListN.{length}
+use Rattle.prelude.specs.Choice.{choose}
+use Rattle.prelude.proofs.Choice.{choose-cases, clash}
+use Rattle.image.proofs.Bytes.{Bytes}
+use Rattle.values.specs.declared.Trap.{Trap}
+use Rattle.values.specs.Values.{trapNumber}
+use Rattle.checker.specs.declared.CheckAnswer.{CheckAnswer}
+use Rattle.checker.specs.declared.CheckAnswer.the-variants.{Accepted, Refused}
+use Rattle.checker.specs.Check.{questionOf, checkOf, refusalOf, rowOf}
+use Rattle.checker.proofs.Chain.{refused-first}
+use Rattle.checker.proofs.Accepted.{AcceptedTables}
+use Rattle.semantics.specs.Memory.{Cell, tagged, bare}
+use Rattle.semantics.specs.Layout.{Program}
+use Rattle.semantics.specs.Stepping.{State, Next, Next.goes, Next.finished, Next.trapped, Next.stuck, stepOf}
+use Rattle.semantics.specs.Running.{programOf, firstTop, freshCells, fresh, Ended, onward, runFrom, refusal, ranOf}
+use Rattle.semantics.specs.Running.{numbersOf, refusedWith, resultOf}
+use Rattle.semantics.specs.Sound.{Sound}
+use Rattle.semantics.specs.After.{Machine, Machine.running, moved, after}
+use Rattle.semantics.proofs.Simulation.{eraseEnded, run-follows, fresh-erased}
+use Rattle.semantics.proofs.Kept.{Unchanged, NextOk, NextOk.ok-goes, NextOk.ok-finished, NextOk.ok-trapped}
+use Rattle.semantics.proofs.Beginning.{fresh-sound, fresh-length}
+use Rattle.semantics.proofs.Demand3.{SoundAfter, SoundAfter.sound-running, SoundAfter.sound-over}
+use Rattle.semantics.proofs.Demand3.{SoundAfter.sound-failed, program-accepted, program-bytes, sound-after}
+
+-- ---- what a run reports
+
+-- a run of at most n steps that trapped: the state before its last step, which is the machine's after the others, and which
+-- the trap left as it was
+pub record TrappedIn (g : Program) (input : List ℤ) (s : State Cell) (e : Ended Cell) : Type 0 where
+  pub before : State Cell
+  pub others : ℕ
+  pub count : e .steps ≡ suc others
+  pub reached : after tagged g input others s ≡ running before
+  pub sound : Sound g before
+  pub unchanged : Unchanged before (e .state)
+
+-- The run of n steps from s, where k were done before: its steps are used up, or it ended with a step from a state that the
+-- machine reached.
+pub data Reported (g : Program) (input : List ℤ) (n k : ℕ) (s : State Cell) : Ended Cell → Type 0 where
+  used-up : {u : State Cell} {c : ℕ} → c ≡ k + n → after tagged g input n s ≡ running u
+      → Reported g input n k s (record { outcome = 0; trap = 0; halt = pos 0; steps = c; state = u })
+  finishes : {u : State Cell} {c : ℕ} (d : ℕ) → d < n → c ≡ k + suc d → after tagged g input d s ≡ running u
+      → stepOf tagged g input u ≡ finished
+      → Reported g input n k s (record { outcome = 1; trap = 0; halt = pos 0; steps = c; state = u })
+  traps : {t : Trap} {z : ℤ} {u v : State Cell} {c : ℕ} (d : ℕ) → d < n → c ≡ k + suc d → after tagged g input d s ≡ running u
+      → stepOf tagged g input u ≡ trapped t z v
+      → Reported g input n k s (record { outcome = 2; trap = trapNumber t; halt = z; steps = c; state = v })
+  sticks : {u : State Cell} {c : ℕ} (d : ℕ) → d < n → c ≡ k + suc d → after tagged g input d s ≡ running u
+      → stepOf tagged g input u ≡ stuck
+      → Reported g input n k s (record { outcome = 3; trap = 0; halt = pos 0; steps = c; state = u })
+
+module _ (g : Program) (input : List ℤ) where
+  -- one step more
+  after-goes : (n : ℕ) (s u : State Cell) → stepOf tagged g input s ≡ goes u → after tagged g input (suc n) s ≡ after tagged g input n u
+  unfolding after moved
+  after-goes n s u e = rw e
+
+  reported-later : (n k : ℕ) (s u : State Cell) {e : Ended Cell} → stepOf tagged g input s ≡ goes u → Reported g input n (k + 1) u e
+      → Reported g input (suc n) k s e
+  reported-later n k s u step (used-up {c = c} count r) = used-up {c = c} (omega arith) (after-goes n s u step ∙ r)
+  reported-later n k s u step (finishes {c = c} d low count r x) =
+      finishes {c = c} (suc d) (omega arith) (omega arith) (after-goes d s u step ∙ r) x
+  reported-later n k s u step (traps {c = c} d low count r x) =
+      traps {c = c} (suc d) (omega arith) (omega arith) (after-goes d s u step ∙ r) x
+  reported-later n k s u step (sticks {c = c} d low count r x) =
+      sticks {c = c} (suc d) (omega arith) (omega arith) (after-goes d s u step ∙ r) x
+
+  reported : (n k : ℕ) (s : State Cell) → Reported g input n k s (runFrom tagged g input n k s)
+  unfolding runFrom onward after
+  reported zero k s = used-up {c = k} (omega arith) refl
+  reported (suc n) k s = go (stepOf tagged g input s) refl (λ u. reported n (k + 1) u)
+    where
+      go : (x : Next Cell) → stepOf tagged g input s ≡ x
+          → ((u : State Cell) → Reported g input n (k + 1) u (runFrom tagged g input n (k + 1) u))
+          → Reported g input (suc n) k s (onward x s (k + 1) (λ u. runFrom tagged g input n (k + 1) u))
+      go (goes u) e later = reported-later n k s u e (later u)
+      go finished e later = finishes {c = k + 1} 0 (omega arith) (omega arith) refl e
+      go (trapped t z u) e later = traps {c = k + 1} 0 (omega arith) (omega arith) refl e
+      go stuck e later = sticks {c = k + 1} 0 (omega arith) (omega arith) refl e
+
+-- a run takes no more steps than it is lent
+pub steps-lent : (image : List ℕ) (input store output : List ℤ) (steps : ℕ) → ranOf image input store output steps .steps ≤ steps
+unfolding ranOf
+steps-lent image input store output steps = go (reported (programOf image) input steps 0 (fresh tagged (programOf image) store output))
+  where
+    go : {s : State Cell} {e : Ended Cell} → Reported (programOf image) input steps 0 s e → e .steps ≤ steps
+    go (used-up c r) = omega arith
+    go (finishes d low c r x) = omega arith
+    go (traps d low c r x) = omega arith
+    go (sticks d low c r x) = omega arith
+
+-- as many cells and outputs as before
+pub record SameRoom (s s′ : State Cell) : Type 0 where
+  pub cells : length (s′ .cells) ≡ length (s .cells)
+  pub output : length (s′ .output) ≡ length (s .output)
+
+-- ---- who is not refused
+
+checked : (image : List ℕ) → refusalOf (checkOf image) ≡ 0 → checkOf image ≡ Accepted
+unfolding refusalOf checkOf
+checked image none = go (checkOf image) refl none
+  where
+    go : (x : CheckAnswer) → checkOf image ≡ x → refusalOf x ≡ 0 → checkOf image ≡ Accepted
+    go Accepted e h = e
+    go (Refused q row) e h = let low = refused-first (questionOf image) 11 1 q row e .least in absurd (omega arith)
+
+-- a run without refusal: the check accepts, and questions 12 and 13 are answered by yes
+pub refusal-none : (image : List ℕ) (store : List ℤ) → refusal image store ≡ 0
+    → (checkOf image ≡ Accepted) × (length store ≤ 65536) × (firstTop (programOf image) ≤ length store)
+unfolding refusal
+refusal-none image store e =
+    ⊎-elim
+    (λ a. ⊎-elim
+    (λ b. ⊎-elim
+    (λ c. (checked image (eqb-true _ _ (a .0)), leb-true _ _ (b .0), leb-true _ _ (c .0)))
+    (λ c. absurd (omega (arith, c .1)))
+    (choose-cases (leb (firstTop (programOf image)) (length store)) (b .1)))
+    (λ b. absurd (omega (arith, b .1)))
+    (choose-cases (leb (length store) 65536) (a .1)))
+    (λ a. clash (sym (eq-eqb _ 0 (a .1)) ∙ a .0))
+    (choose-cases (eqb (refusalOf (checkOf image)) 0) e)
+
+-- ---- what follows from demand 3
+
+module _ (step-ok : (g : Program)
+    → AcceptedTables (g .types) (g .fields) (g .variables) (g .procedures) (g .nodes) (g .statements)
+    → Bytes (g .nodes) → (s : State Cell) → Sound g s → (input : List ℤ) → NextOk g s (stepOf tagged g input s)) where
+  module _ (g : Program) (ok : AcceptedTables (g .types) (g .fields) (g .variables) (g .procedures) (g .nodes) (g .statements))
+      (bytes : Bytes (g .nodes)) (input : List ℤ) where
+    run-room : (n k : ℕ) (s : State Cell) → Sound g s → SameRoom s (runFrom tagged g input n k s .state)
+    unfolding runFrom onward
+    run-room zero k s sound = record { cells = refl; output = refl }
+    run-room (suc n) k s sound =
+        go (stepOf tagged g input s) (step-ok g ok bytes s sound input) (λ u h. run-room n (k + 1) u h)
+      where
+        go : (x : Next Cell) → NextOk g s x
+            → ((u : State Cell) → Sound g u → SameRoom u (runFrom tagged g input n (k + 1) u .state))
+            → SameRoom s (onward x s (k + 1) (λ u. runFrom tagged g input n (k + 1) u) .state)
+        go x (ok-goes {s′ = u} next cells output) later =
+            let rest = later u next in
+            record { cells = rest .cells ∙ cells; output = rest .output ∙ output }
+        go x ok-finished later = record { cells = refl; output = refl }
+        go x (ok-trapped same) later = record { cells = same .cells; output = rw (same .output) }
+
+  module _ (image : List ℕ) (bytes : Bytes image) (accepted : checkOf image ≡ Accepted) (input store output : List ℤ)
+      (most : length store ≤ 65536) (least : firstTop (programOf image) ≤ length store) (steps : ℕ) where
+    abbrev first : State Cell
+    first = fresh tagged (programOf image) store output
+
+    ran : Reported (programOf image) input steps 0 first (ranOf image input store output steps)
+    unfolding ranOf
+    ran = reported (programOf image) input steps 0 first
+
+    -- a state that the machine reached is sound, and so is its next step
+    running-sound : (d : ℕ) (u : State Cell) → after tagged (programOf image) input d first ≡ running u
+        → Sound (programOf image) u × NextOk (programOf image) u (stepOf tagged (programOf image) input u)
+    running-sound d u r = go (after tagged (programOf image) input d first) r (sound-after step-ok image bytes accepted input store output most least d)
+      where
+        go : (x : Machine Cell) → x ≡ running u → SoundAfter (programOf image) input x
+            → Sound (programOf image) u × NextOk (programOf image) u (stepOf tagged (programOf image) input u)
+        go x e (sound-running {s = s} sound next) = let same : s ≡ u = cc in (rw same at sound, rw same at next)
+        go x e (sound-over sound step) = let z : _≡_ {A = ℕ} 0 1 = cc in absurd (omega arith)
+        go x e (sound-failed sound step same left) = let z : _≡_ {A = ℕ} 0 1 = cc in absurd (omega arith)
+
+    -- a run is never stuck
+    pub never-stuck : ranOf image input store output steps .outcome ≡ 3 → ⊥
+    never-stuck = go ran
+      where
+        go : {e : Ended Cell} → Reported (programOf image) input steps 0 first e → e .outcome ≡ 3 → ⊥
+        go (used-up c r) three = absurd (omega arith)
+        go (finishes d low c r x) three = absurd (omega arith)
+        go (traps d low c r x) three = absurd (omega arith)
+        go (sticks {u = u} d low c r x) three = stuck-not (rw x at (running-sound d u r .1))
+          where
+            stuck-not : NextOk (programOf image) u stuck → ⊥
+            stuck-not h = elim h [ ]
+
+    -- "After any trap nothing below top, no output and no count but steps has changed, and row, base and top stay."
+    pub trap-unchanged : ranOf image input store output steps .outcome ≡ 2
+        → TrappedIn (programOf image) input first (ranOf image input store output steps)
+    trap-unchanged = go ran
+      where
+        left : {u v : State Cell} {t : Trap} {z : ℤ} → NextOk (programOf image) u (trapped t z v) → Unchanged u v
+        left (ok-trapped same) = same
+
+        go : {e : Ended Cell} → Reported (programOf image) input steps 0 first e → e .outcome ≡ 2 → TrappedIn (programOf image) input first e
+        go (used-up c r) two = absurd (omega arith)
+        go (finishes d low c r x) two = absurd (omega arith)
+        go (traps {u = u} d low c r x) two =
+            let (sound, next) = running-sound d u r in
+            record {
+              before = u;
+              others = d;
+              count = omega arith;
+              reached = r;
+              sound = sound;
+              unchanged = left (rw x at next);
+            }
+        go (sticks d low c r x) two = absurd (omega arith)
+
+    -- the bare machine, on the numbers alone, does the same
+    pub ran-bare : runFrom bare (programOf image) input steps 0 (fresh bare (programOf image) store output)
+        ≡ eraseEnded (ranOf image input store output steps)
+    unfolding ranOf
+    ran-bare =
+        rw (fresh-erased (programOf image) store output)
+        (run-follows (programOf image) input steps 0 first never-stuck)
+
+    -- a run leaves as many cells and outputs as it was lent
+    pub ran-cells : length (ranOf image input store output steps .state .cells) ≡ length store
+    unfolding ranOf fresh
+    ran-cells =
+        let ok = program-accepted image accepted in
+        run-room (programOf image) ok (program-bytes image bytes) input steps 0 first
+        (fresh-sound (programOf image) ok store output most least) .cells
+        ∙ fresh-length (programOf image) ok store least
+
+    pub ran-output : length (ranOf image input store output steps .state .output) ≡ length output
+    unfolding ranOf fresh
+    ran-output =
+        let ok = program-accepted image accepted in
+        run-room (programOf image) ok (program-bytes image bytes) input steps 0 first
+        (fresh-sound (programOf image) ok store output most least) .output
+
+    ran-outcome : ranOf image input store output steps .outcome ≤ 2
+    ran-outcome = go ran never-stuck
+      where
+        go : {e : Ended Cell} → Reported (programOf image) input steps 0 first e → (e .outcome ≡ 3 → ⊥) → e .outcome ≤ 2
+        go (used-up c r) free = omega arith
+        go (finishes d low c r x) free = omega arith
+        go (traps d low c r x) free = omega arith
+        go (sticks d low c r x) free = absurd (free refl)
+
+  -- "outcome (0 steps used up, 1 finished, 2 trapped)": whatever the image and the store
+  pub result-outcome : (image : List ℕ) → Bytes image → (input store output : List ℤ) (steps : ℕ)
+      → resultOf image input store output steps .outcome ≤ 2
+  unfolding resultOf numbersOf refusedWith choose
+  result-outcome image bytes input store output steps = go (eqb (refusal image store) 0) refl
+    where
+      go : (b : Bool) → eqb (refusal image store) 0 ≡ b
+          → choose b (numbersOf (ranOf image input store output steps)) (refusedWith (refusal image store) (rowOf (checkOf image))) .outcome ≤ 2
+      go true e =
+          let (accepted, most, least) = refusal-none image store (eqb-true _ _ e) in
+          ran-outcome image bytes accepted input store output most least steps
+      go false e = omega arith
