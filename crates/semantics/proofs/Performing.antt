@@ -1,40 +1,37 @@
 -- Each statement but the call, from a sound state: it goes on to a sound state, finishes, or ends in a trap.
 use mathlib.Core.Path.{_≡_, refl, sym, _∙_, ap, subst}
-use mathlib.Core.Bool.{Bool, true, false, not}
-use mathlib.Core.List.{List, [], _∷_, _++_, map, append-nil}
-use mathlib.Core.Logic.{⊎-elim}
-use Prim.Native.Nat.{ℕ, zero, suc, _+_, _≤_, _<_}
+use mathlib.Core.Bool.{Bool, true, false}
+use mathlib.Core.List.{List, [], _∷_, append-nil}
+use Prim.Native.Nat.{ℕ, suc, _+_, _≤_, _<_}
 use native.Mathlib.Omega.{arith}
-use native.Mathlib.Decide.{decLt}
-use borrow.Author.Tests.{ltb-true, leb-true, leb-false, eqb-true, eqb-false, lt-ltb, le-leb, eq-eqb, ne-eqb}
-use lib.Dec.{ltb, leb, eqb}
+use borrow.Author.Tests.{leb-true, leb-false, eqb-false, lt-ltb, le-leb, eq-eqb}
+use lib.Dec.{eqb}
 use lib.IntN.{ℤ, pos}
-use lib.ListN.{length, take, drop, getD, set, length-append, length-drop, length-set}
-use Rattle.prelude.specs.Choice.{choose, _also_}
+use lib.ListN.{length, take, getD, set, length-append, length-drop, length-set}
+use Rattle.prelude.specs.Choice.{choose}
 use Rattle.prelude.specs.Parts.{joined, Part}
-use Rattle.prelude.proofs.Choice.{choose-yes, choose-cases, also-true, also-yes, also-pass, clash}
-use Rattle.prelude.proofs.Parts.{part-part, part-front, part-back}
+use Rattle.prelude.proofs.Choice.{choose-yes, also-yes}
+use Rattle.prelude.proofs.Parts.{part-part, part-back}
 use Rattle.image.specs.declared.Row.{Row}
 use Rattle.image.specs.Rows.{rowAt, rowsOf}
 use Rattle.image.proofs.Bytes.{Bytes}
 use Rattle.shapes.specs.Forms.{Form, form, baseOf}
 use Rattle.shapes.specs.Sizes.{layoutBy, layoutOf, sizeOf}
 use Rattle.shapes.proofs.Rows.{form-record}
-use Rattle.shapes.proofs.Accepted.{TypesKept, RowKept, Shape, Shape.is-scalar, Shape.is-array, Shape.is-record}
+use Rattle.shapes.proofs.Accepted.{TypesKept, Shape, Shape.is-scalar, Shape.is-array, Shape.is-record}
 use Rattle.shapes.proofs.Accepted.{Based, Based.no-base, Based.on-base, record-is, layout-is}
 use Rattle.relations.specs.Extends.{extends}
 use Rattle.relations.proofs.Extension.{Extends, Extends.same, Extends.up, extends-yes, extends-refl, extends-trans}
-use Rattle.values.specs.Values.{BOOLEAN, INTEGER, kindOf, numberOf, isInteger, InRange, InRange.integer, cellOf, Gives}
+use Rattle.values.specs.Values.{BOOLEAN, INTEGER, kindOf, isInteger, InRange, InRange.integer, Gives}
 use Rattle.values.specs.Values.{Gives.value, Gives.trapped as gives-trap}
 use Rattle.values.specs.declared.Value.{Value}
 use Rattle.values.specs.declared.Value.the-variants as Vs
-use Rattle.values.specs.declared.Trap.{Trap}
 use Rattle.values.specs.declared.Answer.{Answer}
 use Rattle.values.specs.declared.Answer.the-variants as As
 use Rattle.values.proofs.Cells.{cell-back}
 use Rattle.kinds.specs.declared.KindAnswer.the-variants.{Kind}
 use Rattle.nodes.specs.Nodes.{isDesignator}
-use Rattle.nodes.proofs.Accepted.{Plain, Designator, constant-is}
+use Rattle.nodes.proofs.Accepted.{Plain, constant-is}
 use Rattle.typing.specs.Typing.{typeOf}
 use Rattle.typing.proofs.Lower.{dyadic-low, monadic-low}
 use Rattle.typing.proofs.Accepted.{NodeTyped, NodeTyped.by-constant, NodeTyped.by-variable, NodeTyped.by-field}
@@ -43,31 +40,32 @@ use Rattle.typing.proofs.Accepted.{NodeTyped.by-test, NodeTyped.by-argument, ty
 use Rattle.owners.specs.Owners.{ownBelow}
 use Rattle.statements.specs.Statements.{procedureAt}
 use Rattle.statements.proofs.Bodies.{InBody, end-within, body-only}
-use Rattle.statements.proofs.Accepted.{StatementRow, StatementRow.is-assign, StatementRow.is-call, StatementRow.is-jump}
-use Rattle.statements.proofs.Accepted.{StatementRow.is-goto, StatementRow.is-return, StatementRow.is-read}
-use Rattle.statements.proofs.Accepted.{StatementRow.is-write, StatementRow.is-halt, Target, target-in, behind-in, no-end}
-use Rattle.statements.proofs.Accepted.{AssignRow, JumpRow, GotoRow, ReadRow, ValueRow}
-use Rattle.rules.proofs.Accepted.{AssignRuled, ValueRuled, assign-ruled, jump-ruled, read-ruled, write-ruled, halt-ruled}
+use Rattle.statements.proofs.Accepted.{StatementRow, StatementRow.is-assign, StatementRow.is-call}
+use Rattle.statements.proofs.Accepted.{StatementRow.is-jump, StatementRow.is-goto, StatementRow.is-return}
+use Rattle.statements.proofs.Accepted.{StatementRow.is-read, StatementRow.is-write, StatementRow.is-halt}
+use Rattle.statements.proofs.Accepted.{AssignRow, JumpRow, GotoRow, ReadRow, ValueRow, Target}
+use Rattle.statements.proofs.Accepted.{target-in, behind-in, no-end}
+use Rattle.rules.proofs.Accepted.{assign-ruled, jump-ruled, read-ruled, write-ruled, halt-ruled}
 use Rattle.checker.proofs.Accepted.{AcceptedTables}
 use Rattle.semantics.specs.declared.Place.{Place}
 use Rattle.semantics.specs.declared.Found.{Found}
 use Rattle.semantics.specs.declared.Found.the-variants as Fs
 use Rattle.semantics.specs.declared.Mark.{Mark}
-use Rattle.semantics.specs.declared.Mark.the-variants.{Number, Nothing}
+use Rattle.semantics.specs.declared.Mark.the-variants.{Number}
 use Rattle.semantics.specs.Memory.{LINK, TYPE, Cell, tagged, markOf, cellAt, markAt, partAt, overwrite}
 use Rattle.semantics.specs.Layout.{Program}
 use Rattle.semantics.specs.Finding.{findOf, evalOf}
-use Rattle.semantics.specs.Stepping.{State, Next, Next.goes, Next.finished, Next.trapped, Next.stuck}
+use Rattle.semantics.specs.Stepping.{State, Next, Next.goes}
 use Rattle.semantics.specs.Stepping.{onPlace, onValue, onInteger, onBoolean, onMark, goTo}
 use Rattle.semantics.specs.Stepping.{following, withCells, written, onPart}
-use Rattle.semantics.specs.Stepping.{otherRecord, copied, assigned, jumped, returned}
+use Rattle.semantics.specs.Stepping.{copied, assigned, jumped, returned}
 use Rattle.semantics.specs.Stepping.{inputAt, afterRead, received, sent, halted, perform, stepOf}
 use Rattle.semantics.specs.Sound.{Want, any-value, exactly, Fits, fits-value, fits-exactly}
 use Rattle.semantics.specs.Sound.{Matched, no-more, one-more, Frame, Inside, Object, Sound}
-use Rattle.semantics.specs.Sound.{Called, is-first, is-called, Stack, no-frame, a-frame, valuesOf, wants, frameWants}
+use Rattle.semantics.specs.Sound.{is-first, is-called, Stack, a-frame, valuesOf, wants, frameWants}
 use Rattle.semantics.proofs.Holding.{matched-length, matched-part, matched-put, matched-at}
 use Rattle.semantics.proofs.Holding.{put-below, put-length, part-below, cell-below}
-use Rattle.semantics.proofs.Objects.{values-length, object-typed, object-part, object-front}
+use Rattle.semantics.proofs.Objects.{values-length, object-front}
 use Rattle.semantics.proofs.Evaluating.{FoundOk, found-ok, found-trap, Designates, itself, find-ok, eval-ok}
 use Rattle.semantics.proofs.Kept.{Unchanged, NextOk, ok-goes, ok-finished, ok-trapped}
 
@@ -142,7 +140,8 @@ module _ (g : Program) (s : State Cell) where
   ok-yes b {x} y e h = rw (choose-yes b x y e) h
 
   -- to one of two states
-  ok-either : (b : Bool) {x y : State Cell} → NextOk g s (goes x) → NextOk g s (goes y) → NextOk g s (goes (choose b x y))
+  ok-either : (b : Bool) {x y : State Cell} → NextOk g s (goes x) → NextOk g s (goes y)
+      → NextOk g s (goes (choose b x y))
   unfolding choose
   ok-either true h k = h
   ok-either false h k = k
@@ -230,12 +229,15 @@ designator-yes : (n : List ℕ) (k : ℕ) → 1 ≤ rowAt n k .kind → rowAt n 
 unfolding isDesignator
 designator-yes n k low high = also-yes (le-leb 1 (rowAt n k .kind) low) (le-leb (rowAt n k .kind) 4 high)
 
-module _ (g : Program) (ok : AcceptedTables (g .types) (g .fields) (g .variables) (g .procedures) (g .nodes) (g .statements)) where
+module _ (g : Program)
+    (ok : AcceptedTables (g .types) (g .fields) (g .variables) (g .procedures) (g .nodes) (g .statements)) where
   -- a node's type is a row
-  pub typed-low : (r x : ℕ) → typeOf (g .types) (g .fields) (g .variables) (g .nodes) r ≡ Kind x → x < rowsOf (g .types)
+  pub typed-low : (r x : ℕ) → typeOf (g .types) (g .fields) (g .variables) (g .nodes) r ≡ Kind x
+      → x < rowsOf (g .types)
   typed-low r x e =
       let said = ok .questions in
-      type-low (g .types) (g .fields) (g .variables) (g .nodes) (said .types) (ok .scalars) (said .variables) (said .nodes) r x e
+      type-low (g .types) (g .fields) (g .variables) (g .nodes)
+      (said .types) (ok .scalars) (said .variables) (said .nodes) r x e
 
   -- "Assign: .. another object's cells": only a designator has a structured type
   pub structured-designator : (r x : ℕ) → Plain (g .nodes) r
@@ -245,7 +247,8 @@ module _ (g : Program) (ok : AcceptedTables (g .types) (g .fields) (g .variables
     where
       go : NodeTyped (g .types) (g .fields) (g .variables) (g .nodes) r x → isDesignator (g .nodes) r ≡ true
       go (by-constant k e) =
-          let low = constant-is (g .types) (g .variables) (g .nodes) (ok .questions .nodes) r (plain .within) k .typed in
+          let said = ok .questions .nodes in
+          let low = constant-is (g .types) (g .variables) (g .nodes) said r (plain .within) k .typed in
           absurd (omega arith)
       go (by-variable k e) = designator-yes (g .nodes) r (omega arith) (omega arith)
       go (by-field k e) = designator-yes (g .nodes) r (omega arith) (omega arith)
@@ -268,7 +271,8 @@ module _ (g : Program) (ok : AcceptedTables (g .types) (g .fields) (g .variables
       (extended : extends (g .types) (place .dynamic) (place .declared) ≡ true)
       (object : Object g fs (place .address) (place .dynamic)) where
     -- the cells of an object that was found, as those of a type that its declared one extends
-    pub found-front : (u : ℕ) → extends (g .types) (place .declared) u ≡ true → Part (wants g fs) (place .address) (valuesOf g u)
+    pub found-front : (u : ℕ) → extends (g .types) (place .declared) u ≡ true
+        → Part (wants g fs) (place .address) (valuesOf g u)
     found-front u e =
         object-front g ok u stack object (extends-trans (g .types) (place .dynamic) (place .declared) u extended e)
 
@@ -289,7 +293,8 @@ module _ (g : Program) (f : Frame) (fs : List Frame) where
   unfolding wants
   older-part = record { rest = frameWants g f; seen = refl; within = omega arith }
 
-  back-part : Part (wants g (f ∷ fs)) (length (wants g fs) + 1) (exactly LINK (f .back) ∷ exactly LINK (f .callers-base) ∷ joined (f .slots))
+  back-part : Part (wants g (f ∷ fs)) (length (wants g fs) + 1)
+      (exactly LINK (f .back) ∷ exactly LINK (f .callers-base) ∷ joined (f .slots))
   unfolding frameWants
   back-part = part-part frame-part (record { rest = []; seen = sym (append-nil _); within = omega arith })
 
@@ -299,7 +304,8 @@ module _ (g : Program) (f : Frame) (fs : List Frame) where
 
 -- ---- from a sound state
 
-module _ (g : Program) (ok : AcceptedTables (g .types) (g .fields) (g .variables) (g .procedures) (g .nodes) (g .statements))
+module _ (g : Program)
+    (ok : AcceptedTables (g .types) (g .fields) (g .variables) (g .procedures) (g .nodes) (g .statements))
     (bytes : Bytes (g .nodes)) (s : State Cell) (sound : Sound g s) where
   abbrev row : Row
   row = rowAt (g .statements) (s .at .row)
@@ -309,6 +315,9 @@ module _ (g : Program) (ok : AcceptedTables (g .types) (g .fields) (g .variables
 
   abbrev own-procedure : ℕ
   own-procedure = sound .newest .procedure
+
+  abbrev here : ℕ
+  here = procedureAt (g .procedures) (s .at .row)
 
   abbrev found : ℕ → Found
   found r = findOf tagged g (s .at .base) (s .at .top) (s .cells) r
@@ -321,31 +330,36 @@ module _ (g : Program) (ok : AcceptedTables (g .types) (g .fields) (g .variables
   pub row-within : s .at .row < rowsOf (g .statements)
   row-within =
       let low = sound .inside .end in
-      let high = end-within (g .variables) (g .procedures) (g .statements) (ok .procedures) own-procedure (sound .inside .procedure) in
+      let last = end-within (g .variables) (g .procedures) (g .statements) (ok .procedures) in
+      let high = last own-procedure (sound .inside .procedure) in
       omega arith
 
   -- the top frame's procedure is the one whose body has the row
-  pub procedure-is : own-procedure ≡ procedureAt (g .procedures) (s .at .row)
+  pub procedure-is : own-procedure ≡ here
   procedure-is =
       body-only (g .variables) (g .procedures) (g .statements) (ok .procedures) own-procedure (s .at .row)
       (record { procedure = sound .inside .procedure; start = sound .inside .start; end = sound .inside .end })
 
-  body-inside : (r : ℕ) → InBody (g .procedures) (g .statements) (procedureAt (g .procedures) (s .at .row)) r → Inside g own-procedure r
+  body-inside : (r : ℕ) → InBody (g .procedures) (g .statements) here r → Inside g own-procedure r
   body-inside r b = rw procedure-is (record { procedure = b .procedure; start = b .start; end = b .end })
 
-  pub target-inside : (b : ℕ) → Target (g .procedures) (g .statements) (procedureAt (g .procedures) (s .at .row)) b → Inside g own-procedure b
+  pub target-inside : (b : ℕ) → Target (g .procedures) (g .statements) here b → Inside g own-procedure b
   target-inside b t =
-      body-inside b (target-in (g .variables) (g .procedures) (g .statements) (ok .procedures) (ok .counts .some-procedure) (s .at .row) row-within b t)
+      body-inside b
+      (target-in (g .variables) (g .procedures) (g .statements) (ok .procedures) (ok .counts .some-procedure)
+      (s .at .row) row-within b t)
 
   -- the row behind one that ends no body
-  pub next-inside : (row .kind ≡ 3 → ⊥) → (row .kind ≡ 4 → ⊥) → (row .kind ≡ 7 → ⊥) → Inside g own-procedure (s .at .row + 1)
+  next-inside : (row .kind ≡ 3 → ⊥) → (row .kind ≡ 4 → ⊥) → (row .kind ≡ 7 → ⊥)
+      → Inside g own-procedure (s .at .row + 1)
   next-inside a b c =
       body-inside (s .at .row + 1)
-      (behind-in (g .variables) (g .procedures) (g .statements) (ok .procedures) (ok .counts .some-procedure) (s .at .row) row-within
-      (g .nodes) (ok .questions .statements) (no-end row a b c))
+      (behind-in (g .variables) (g .procedures) (g .statements) (ok .procedures) (ok .counts .some-procedure)
+      (s .at .row) row-within (g .nodes) (ok .questions .statements) (no-end row a b c))
 
   -- the same for a kind that is known
-  pub kind-inside : (k : ℕ) → row .kind ≡ k → (k ≡ 3 → ⊥) → (k ≡ 4 → ⊥) → (k ≡ 7 → ⊥) → Inside g own-procedure (s .at .row + 1)
+  pub kind-inside : (k : ℕ) → row .kind ≡ k → (k ≡ 3 → ⊥) → (k ≡ 4 → ⊥) → (k ≡ 7 → ⊥)
+      → Inside g own-procedure (s .at .row + 1)
   kind-inside k e a b c = next-inside (λ h. a (sym e ∙ h)) (λ h. b (sym e ∙ h)) (λ h. c (sym e ∙ h))
 
   -- ---- the same frames, another row, other counts, cells and output
@@ -375,7 +389,9 @@ module _ (g : Program) (ok : AcceptedTables (g .types) (g .fields) (g .variables
   -- a jump within the body
   pub gone-ok : (r : ℕ) → Inside g own-procedure r → NextOk g s (goes (goTo s r))
   unfolding goTo
-  gone-ok r inside = ok-goes (sound-with r (s .at .read) (s .at .written) (s .cells) (s .output) inside (sound .holding) refl) refl refl
+  gone-ok r inside =
+      let at = s .at in
+      ok-goes (sound-with r (at .read) (at .written) (s .cells) (s .output) inside (sound .holding) refl) refl refl
 
   -- ---- its cells
 
@@ -383,12 +399,13 @@ module _ (g : Program) (ok : AcceptedTables (g .types) (g .fields) (g .variables
   part-top p = omega (arith, part-end p, sound .ends)
 
   -- cells read below top
-  pub part-cells : {a : ℕ} {ws : List Want} → Part (wants g frames) a ws → Matched Fits (partAt (s .cells) a (length ws)) ws
+  pub part-cells : {a : ℕ} {ws : List Want} → Part (wants g frames) a ws
+      → Matched Fits (partAt (s .cells) a (length ws)) ws
   part-cells {a} {ws} p =
       rw (part-below (s .cells) a (length ws) (s .at .top) (part-top p)) at (matched-part (sound .holding) p)
 
-  pub on-part-ok : {a : ℕ} {ws : List Want} (n : ℕ) (k : List Cell → Next Cell) → Part (wants g frames) a ws → length ws ≡ n
-      → ((new : List Cell) → Matched Fits new ws → NextOk g s (k new)) → NextOk g s (onPart s a n k)
+  pub on-part-ok : {a : ℕ} {ws : List Want} (n : ℕ) (k : List Cell → Next Cell) → Part (wants g frames) a ws
+      → length ws ≡ n → ((new : List Cell) → Matched Fits new ws → NextOk g s (k new)) → NextOk g s (onPart s a n k)
   unfolding onPart
   on-part-ok {a} {ws} n k p size f =
       let top = part-top p in
@@ -407,26 +424,27 @@ module _ (g : Program) (ok : AcceptedTables (g .types) (g .fields) (g .variables
       let below = put-below (s .cells) new a (s .at .top) within stored in
       let size = put-length (s .cells) new a (omega arith) in
       ok-yes g s _ _ (le-leb (a + length new) (s .at .top) within)
-      (ok-goes (sound-with (s .at .row + 1) (s .at .read) (s .at .written) (overwrite (s .cells) a new) (s .output) inside
-      (rw below (matched-put (sound .holding) p m)) size) size refl)
+      (ok-goes (sound-with (s .at .row + 1) (s .at .read) (s .at .written) (overwrite (s .cells) a new) (s .output)
+      inside (rw below (matched-put (sound .holding) p m)) size) size refl)
 
   -- a value written to a scalar object
   pub put-ok : (place : Place) (v : Value) → extends (g .types) (place .dynamic) (place .declared) ≡ true
-      → Object g frames (place .address) (place .dynamic) → kindOf v ≡ place .declared → InRange v → place .declared ≤ 2
-      → Inside g own-procedure (s .at .row + 1) → NextOk g s (written s (place .address) (tagged .put v ∷ []))
+      → Object g frames (place .address) (place .dynamic) → kindOf v ≡ place .declared → InRange v
+      → place .declared ≤ 2 → Inside g own-procedure (s .at .row + 1)
+      → NextOk g s (written s (place .address) (tagged .put v ∷ []))
   put-ok place v extended object kind range low inside =
       written-ok (found-scalar g ok (sound .stack) place extended object low)
       (one-more (put-fits v (place .declared) kind range) no-more) inside
 
   -- ---- its designators and expressions
 
-  own-here : (r : ℕ) → ownBelow (g .variables) (g .procedures) (g .nodes) (procedureAt (g .procedures) (s .at .row)) r ≡ true
+  own-here : (r : ℕ) → ownBelow (g .variables) (g .procedures) (g .nodes) here r ≡ true
       → ownBelow (g .variables) (g .procedures) (g .nodes) own-procedure r ≡ true
   own-here r e = rw procedure-is e
 
   module _ (r x : ℕ) (low : r < rowsOf (g .nodes))
       (typed : typeOf (g .types) (g .fields) (g .variables) (g .nodes) r ≡ Kind x)
-      (own : ownBelow (g .variables) (g .procedures) (g .nodes) (procedureAt (g .procedures) (s .at .row)) r ≡ true) where
+      (own : ownBelow (g .variables) (g .procedures) (g .nodes) here r ≡ true) where
     pub found-here : Designates g r → FoundOk g frames x (found r)
     found-here d = find-ok g ok bytes s sound r x low typed (own-here r own) d
 
@@ -437,8 +455,10 @@ module _ (g : Program) (ok : AcceptedTables (g .types) (g .fields) (g .variables
 
   -- "then copy the target type's cells": those of an object whose type extends the target's
   copied-ok : (target source : Place) → target .declared < rowsOf (g .types)
-      → extends (g .types) (target .dynamic) (target .declared) ≡ true → Object g frames (target .address) (target .dynamic)
-      → extends (g .types) (source .dynamic) (source .declared) ≡ true → Object g frames (source .address) (source .dynamic)
+      → extends (g .types) (target .dynamic) (target .declared) ≡ true
+      → Object g frames (target .address) (target .dynamic)
+      → extends (g .types) (source .dynamic) (source .declared) ≡ true
+      → Object g frames (source .address) (source .dynamic)
       → extends (g .types) (source .declared) (target .declared) ≡ true
       → Inside g own-procedure (s .at .row + 1) → NextOk g s (copied tagged g s target source)
   unfolding copied
@@ -454,7 +474,8 @@ module _ (g : Program) (ok : AcceptedTables (g .types) (g .fields) (g .variables
   unfolding assigned
   assigned-ok kind form =
       let t = g .types in
-      let ruled = assign-ruled t (g .fields) (g .variables) (g .procedures) (g .nodes) (g .statements) (ok .questions .rules) (s .at .row) row-within kind in
+      let rules = assign-ruled (g .types) (g .fields) (g .variables) (g .procedures) (g .nodes) (g .statements) in
+      let ruled = rules (ok .questions .rules) (s .at .row) row-within kind in
       let x = ruled .source in
       let y = ruled .target in
       let x-low = typed-low g ok (row .b) x (ruled .source-type) in
@@ -467,33 +488,40 @@ module _ (g : Program) (ok : AcceptedTables (g .types) (g .fields) (g .variables
       (λ scalar.
       let y-scalar : y ≤ 2 = omega (arith, leb-true (target .declared) 2 scalar) in
       let one : x ≡ y = extends-scalar t (g .fields) (ok .types) x y y-scalar y-low (ruled .extension) x-low in
-      on-value-ok g s _ (given-here (row .b) x (form .source .within) (ruled .source-type) (ruled .own-source) (omega arith))
+      let known = form .source .within in
+      on-value-ok g s _ (given-here (row .b) x known (ruled .source-type) (ruled .own-source) (omega arith))
       (λ v k range. put-ok target v extended object (k ∙ one ∙ sym declared) range (omega arith) inside))
       (λ structured.
       let y-large : 3 ≤ y = omega (arith, leb-false (target .declared) 2 structured) in
       let upward = extends-low t x y (ruled .extension) in
       let from = structured-designator g ok (row .b) x (form .source) (ruled .source-type) (omega arith) in
-      on-place-ok g s _ (found-here (row .b) x (form .source .within) (ruled .source-type) (ruled .own-source) (itself from))
+      let known = form .source .within in
+      on-place-ok g s _ (found-here (row .b) x known (ruled .source-type) (ruled .own-source) (itself from))
       (λ source stated held there.
-      copied-ok target source (rw declared y-low) extended object held there (rw (declared, stated) (ruled .extension)) inside)))
+      copied-ok target source (rw declared y-low) extended object held there
+      (rw (declared, stated) (ruled .extension)) inside)))
 
   -- ---- "2 go to b if a is FALSE."
 
-  pub jumped-ok : row .kind ≡ 2 → JumpRow (g .nodes) (g .procedures) (g .statements) (procedureAt (g .procedures) (s .at .row)) row
+  pub jumped-ok : row .kind ≡ 2 → JumpRow (g .nodes) (g .procedures) (g .statements) here row
       → NextOk g s (jumped tagged g row s)
   unfolding jumped following
   jumped-ok kind form =
-      let ruled = jump-ruled (g .types) (g .fields) (g .variables) (g .procedures) (g .nodes) (g .statements) (ok .questions .rules) (s .at .row) row-within kind in
+      let rules = jump-ruled (g .types) (g .fields) (g .variables) (g .procedures) (g .nodes) (g .statements) in
+      let ruled = rules (ok .questions .rules) (s .at .row) row-within kind in
       let inside = kind-inside 2 kind (omega arith) (omega arith) (omega arith) in
-      on-value-ok g s _ (given-here (row .a) BOOLEAN (form .condition .within) (ruled .type) (ruled .own) (omega arith)) (λ v k range.
-      on-boolean-ok g s v _ k (λ holds.
-      ok-either g s holds (gone-ok (s .at .row + 1) inside) (gone-ok (row .b) (target-inside (row .b) (form .target)))))
+      let known = form .condition .within in
+      on-value-ok g s _ (given-here (row .a) BOOLEAN known (ruled .type) (ruled .own) (omega arith))
+      (λ v k range. on-boolean-ok g s v _ k (λ holds.
+      ok-either g s holds (gone-ok (s .at .row + 1) inside)
+      (gone-ok (row .b) (target-inside (row .b) (form .target)))))
 
   -- ---- "4 RETURN."
 
   -- to the frame of a call
-  left-ok : (f : Frame) (fs : List Frame) → Stack g (f ∷ fs) → Matched Fits (take (s .at .top) (s .cells)) (wants g (f ∷ fs))
-      → s .at .base ≡ length (wants g fs) → s .at .top ≡ length (wants g (f ∷ fs)) → (f .procedure ≡ 0 → ⊥)
+  left-ok : (f : Frame) (fs : List Frame) → Stack g (f ∷ fs)
+      → Matched Fits (take (s .at .top) (s .cells)) (wants g (f ∷ fs)) → s .at .base ≡ length (wants g fs)
+      → s .at .top ≡ length (wants g (f ∷ fs)) → (f .procedure ≡ 0 → ⊥)
       → NextOk g s
       (onMark (markAt tagged (s .at .top) (s .cells) LINK (s .at .base + 1)) λ r.
       onMark (markAt tagged (s .at .top) (s .cells) LINK (s .at .base + 2)) λ base.
@@ -508,16 +536,18 @@ module _ (g : Program) (ok : AcceptedTables (g .types) (g .fields) (g .variables
       let stored = sound .stored in
       let lent = sound .lent in
       let there : length w + 2 + length (exactly LINK (f .callers-base) ∷ joined (f .slots)) ≤ s .at .top =
-          omega (arith, part-end (base-part g f (c ∷ fs)), ends) in
+      omega (arith, part-end (base-part g f (c ∷ fs)), ends) in
       let older : length (wants g fs) ≤ length w = omega (arith, part-end (older-part g c fs)) in
       let few = ok .counts .statements in
       let last = next .end in
-      let body = end-within (g .variables) (g .procedures) (g .statements) (ok .procedures) (c .procedure) (next .procedure) in
+      let bodies = end-within (g .variables) (g .procedures) (g .statements) (ok .procedures) in
+      let body = bodies (c .procedure) (next .procedure) in
       let kept : Matched Fits (take (length w) (s .cells)) w =
-          rw (part-below (s .cells) 0 (length w) (s .at .top) (omega arith), first-cells (s .cells) (length w))
-          at (matched-part h (older-part g f (c ∷ fs))) in
+      rw (part-below (s .cells) 0 (length w) (s .at .top) (omega arith), first-cells (s .cells) (length w))
+      at (matched-part h (older-part g f (c ∷ fs))) in
       let base-link : List Want = exactly LINK (f .callers-base) ∷ joined (f .slots) in
-      let to : Part (wants g (f ∷ c ∷ fs)) (s .at .base + 1) (exactly LINK (f .back) ∷ base-link) = rw begins (back-part g f (c ∷ fs)) in
+      let to : Part (wants g (f ∷ c ∷ fs)) (s .at .base + 1) (exactly LINK (f .back) ∷ base-link) =
+      rw begins (back-part g f (c ∷ fs)) in
       let from : Part (wants g (f ∷ c ∷ fs)) (s .at .base + 2) base-link = rw begins (base-part g f (c ∷ fs)) in
       on-mark-ok g s _ (mark-there (s .at .top) (s .cells) h to (omega arith) (omega arith))
       (on-mark-ok g s _ (mark-there (s .at .top) (s .cells) h from (omega arith) (omega arith))
@@ -538,7 +568,7 @@ module _ (g : Program) (ok : AcceptedTables (g .types) (g .fields) (g .variables
   returned-ok =
       ok-choose g s _ (λ main. ok-finished)
       (λ other. left-ok (sound .newest) (sound .others) (sound .stack) (sound .holding) (sound .begins) (sound .ends)
-      (λ e. eqb-false (procedureAt (g .procedures) (s .at .row)) 0 other (sym procedure-is ∙ e)))
+      (λ e. eqb-false here 0 other (sym procedure-is ∙ e)))
 
   -- ---- "5 read into designator a. 6 write a. 7 HALT(a)."
 
@@ -558,10 +588,12 @@ module _ (g : Program) (ok : AcceptedTables (g .types) (g .fields) (g .variables
   read-ok ok-finished = ok-finished
   read-ok (ok-trapped u) = ok-trapped u
 
-  pub received-ok : (input : List ℤ) → row .kind ≡ 5 → ReadRow (g .nodes) row → NextOk g s (received tagged g input row s)
+  pub received-ok : (input : List ℤ) → row .kind ≡ 5 → ReadRow (g .nodes) row
+      → NextOk g s (received tagged g input row s)
   unfolding received kindOf
   received-ok input kind form =
-      let ruled = read-ruled (g .types) (g .fields) (g .variables) (g .procedures) (g .nodes) (g .statements) (ok .questions .rules) (s .at .row) row-within kind in
+      let rules = read-ruled (g .types) (g .fields) (g .variables) (g .procedures) (g .nodes) (g .statements) in
+      let ruled = rules (ok .questions .rules) (s .at .row) row-within kind in
       let inside = kind-inside 5 kind (omega arith) (omega arith) (omega arith) in
       let d = form .target in
       on-place-ok g s _ (found-here (row .a) INTEGER (d .within) (ruled .type) (ruled .own)
@@ -574,27 +606,31 @@ module _ (g : Program) (ok : AcceptedTables (g .types) (g .fields) (g .variables
   pub sent-ok : row .kind ≡ 6 → ValueRow (g .nodes) row → NextOk g s (sent tagged g row s)
   unfolding sent
   sent-ok kind form =
-      let ruled = write-ruled (g .types) (g .fields) (g .variables) (g .procedures) (g .nodes) (g .statements) (ok .questions .rules) (s .at .row) row-within kind in
+      let rules = write-ruled (g .types) (g .fields) (g .variables) (g .procedures) (g .nodes) (g .statements) in
+      let ruled = rules (ok .questions .rules) (s .at .row) row-within kind in
       let inside = kind-inside 6 kind (omega arith) (omega arith) (omega arith) in
-      on-value-ok g s _ (given-here (row .a) INTEGER (form .value .within) (ruled .type) (ruled .own) (omega arith)) (λ v k range.
-      on-integer-ok g s v _ k (λ z.
+      on-value-ok g s _ (given-here (row .a) INTEGER (form .value .within) (ruled .type) (ruled .own) (omega arith))
+      (λ v k range. on-integer-ok g s v _ k (λ z.
       ok-choose g s _
-      (λ more. ok-goes (sound-with (s .at .row + 1) (s .at .read) (s .at .written + 1) (s .cells) (set (s .output) (s .at .written) z)
-      inside (sound .holding) refl) refl (length-set (s .output) (s .at .written) z))
+      (λ more. ok-goes (sound-with (s .at .row + 1) (s .at .read) (s .at .written + 1) (s .cells)
+      (set (s .output) (s .at .written) z) inside (sound .holding) refl) refl
+      (length-set (s .output) (s .at .written) z))
       (λ full. ok-trapped (unchanged g s))))
 
   pub halted-ok : row .kind ≡ 7 → ValueRow (g .nodes) row → NextOk g s (halted tagged g row s)
   unfolding halted
   halted-ok kind form =
-      let ruled = halt-ruled (g .types) (g .fields) (g .variables) (g .procedures) (g .nodes) (g .statements) (ok .questions .rules) (s .at .row) row-within kind .value in
-      on-value-ok g s _ (given-here (row .a) INTEGER (form .value .within) (ruled .type) (ruled .own) (omega arith)) (λ v k range.
-      on-integer-ok g s v _ k (λ z. ok-trapped (unchanged g s)))
+      let rules = halt-ruled (g .types) (g .fields) (g .variables) (g .procedures) (g .nodes) (g .statements) in
+      let ruled = rules (ok .questions .rules) (s .at .row) row-within kind .value in
+      on-value-ok g s _ (given-here (row .a) INTEGER (form .value .within) (ruled .type) (ruled .own) (omega arith))
+      (λ v k range. on-integer-ok g s v _ k (λ z. ok-trapped (unchanged g s)))
 
   -- ---- by the kind
 
   module _ (input : List ℤ) where
     -- a step is its row's statement
-    pub performed : (k : ℕ) → row .kind ≡ k → NextOk g s (perform tagged g input k row s) → NextOk g s (stepOf tagged g input s)
+    pub performed : (k : ℕ) → row .kind ≡ k → NextOk g s (perform tagged g input k row s)
+        → NextOk g s (stepOf tagged g input s)
     unfolding stepOf
     performed k e h = subst (λ (j : ℕ). NextOk g s (perform tagged g input j row s)) (sym e) h
 
@@ -602,12 +638,12 @@ module _ (g : Program) (ok : AcceptedTables (g .types) (g .fields) (g .variables
     unfolding perform choose
     assign-step kind form = performed 0 kind (assigned-ok kind form)
 
-    jump-step : row .kind ≡ 2 → JumpRow (g .nodes) (g .procedures) (g .statements) (procedureAt (g .procedures) (s .at .row)) row
+    jump-step : row .kind ≡ 2 → JumpRow (g .nodes) (g .procedures) (g .statements) here row
         → NextOk g s (stepOf tagged g input s)
     unfolding perform choose
     jump-step kind form = performed 2 kind (jumped-ok kind form)
 
-    goto-step : row .kind ≡ 3 → GotoRow (g .procedures) (g .statements) (procedureAt (g .procedures) (s .at .row)) row
+    goto-step : row .kind ≡ 3 → GotoRow (g .procedures) (g .statements) here row
         → NextOk g s (stepOf tagged g input s)
     unfolding perform choose
     goto-step kind form = performed 3 kind (gone-ok (row .b) (target-inside (row .b) (form .target)))
@@ -632,7 +668,8 @@ module _ (g : Program) (ok : AcceptedTables (g .types) (g .fields) (g .variables
     pub simple-ok : (row .kind ≡ 1 → ⊥) → NextOk g s (stepOf tagged g input s)
     simple-ok other = go (ok .statement (s .at .row) row-within)
       where
-        go : StatementRow (g .nodes) (g .procedures) (g .statements) (s .at .row) → NextOk g s (stepOf tagged g input s)
+        go : StatementRow (g .nodes) (g .procedures) (g .statements) (s .at .row)
+            → NextOk g s (stepOf tagged g input s)
         go (is-assign z k c) = assign-step k c
         go (is-call z k c) = absurd (other k)
         go (is-jump z k c) = jump-step k c
