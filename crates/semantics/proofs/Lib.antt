@@ -9,8 +9,8 @@ pub mod Kept
 pub mod Performing
 pub mod Beginning
 pub mod Demand3
+pub mod Outcomes
 pub mod Opened
 pub mod Images
 pub mod Table
 pub mod Whole
-pub mod Outcomes
