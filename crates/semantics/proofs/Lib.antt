@@ -4,3 +4,4 @@ pub mod Holding
 pub mod Objects
 pub mod Evaluating
 pub mod Kept
+pub mod Calling
