@@ -12,7 +12,7 @@ use lib.ListN.{length, take, drop, replicate, length-append, length-drop, length
 use lib.Seq.{length-take-le, take-add, take-at, take-append-seam, take-append-add, drop-at}
 use Rattle.prelude.specs.Choice.{choose, _also_}
 use Rattle.prelude.specs.Parts.{joined, Part}
-use Rattle.prelude.proofs.Choice.{choose-no, also-true, also-yes}
+use Rattle.prelude.proofs.Choice.{choose-yes, choose-no, also-true, also-yes}
 use Rattle.prelude.proofs.Parts.{map-append}
 use Rattle.prelude.proofs.Rec.{rec-ind}
 use Rattle.image.specs.declared.Row.{Row}
@@ -21,6 +21,19 @@ use Rattle.image.specs.Faults.{KeptIn}
 use Rattle.image.proofs.Bytes.{Bytes}
 use Rattle.shapes.specs.Forms.{Form, Form.scalar, Form.array, Form.recordOf, Form.noForm, form, formOf, baseOf, ofBase, ownTypes}
 use Rattle.shapes.specs.Sizes.{layoutBy, layoutOf, sizeOf}
+use Rattle.shapes.proofs.Rows.{form-record}
+use Rattle.shapes.proofs.Accepted.{TypesKept, Shape, Shape.is-scalar, Shape.is-array, Shape.is-record, record-is}
+use Rattle.shapes.proofs.Accepted.{Based, Based.no-base, Based.on-base, layout-is}
+use Rattle.relations.specs.Extends.{extends}
+use Rattle.relations.proofs.Extension.{Extends, Extends.same, Extends.up, extends-yes, extends-trans}
+use Rattle.image.specs.declared.Verdict.the-variants.{Kept}
+use Rattle.nodes.specs.Nodes.{isDesignator, isArgument, question7}
+use Rattle.nodes.proofs.Accepted.{constant-is, argument-is, argument-kind, argument-within}
+use Rattle.typing.specs.Typing.{typeOf}
+use Rattle.typing.proofs.Lower.{dyadic-low, monadic-low}
+use Rattle.typing.proofs.Accepted.{NodeTyped, NodeTyped.by-constant, NodeTyped.by-variable, NodeTyped.by-field}
+use Rattle.typing.proofs.Accepted.{NodeTyped.by-element, NodeTyped.by-guard, NodeTyped.by-dyadic, NodeTyped.by-monadic}
+use Rattle.typing.proofs.Accepted.{NodeTyped.by-test, NodeTyped.by-argument, typed-node, argument-typed, type-low}
 use Rattle.values.specs.Values.{kindOf, numberOf, cellOf, booleanCell, integerCell, setCell, isInteger, isSet, InRange, Gives}
 use Rattle.values.specs.Values.{Gives.value, Gives.trapped}
 use Rattle.values.proofs.Cells.{cell-back}
@@ -165,3 +178,97 @@ blanks-layout t f r =
         → (j : ℕ) → Dec (j < k) → BlanksFit (layout j)
     each layout k low high j (yes h) = low j h
     each layout k low high j (no h) = rw (high j (omega arith)) blanks-none
+
+-- ---- types
+
+-- a type extends lower rows only
+extends-low : {t : List ℕ} {r u : ℕ} → Extends t r u → u ≤ r
+extends-low same = omega arith
+extends-low (up base low e) = let below = extends-low e in omega arith
+
+scalar-shape : {t f : List ℕ} {used r : ℕ} {x : Form} → Shape t f used r x → r < 3 → x ≡ scalar r
+scalar-shape (is-scalar l) h = refl
+scalar-shape (is-array l a b c) h = absurd (omega arith)
+scalar-shape (is-record l a b c) h = absurd (omega arith)
+
+shape-based : {t f : List ℕ} {used r b : ℕ} {x : Form} → Shape t f used r x → baseOf x ≡ suc b → Based t r (suc b)
+unfolding baseOf
+shape-based (is-scalar l) e = absurd (omega arith)
+shape-based (is-array l a b c) e = absurd (omega arith)
+shape-based (is-record l on rows own) e = rw e at on
+
+based-kind : {t : List ℕ} {r b : ℕ} → Based t r (suc b) → rowAt t b .kind ≡ 4
+based-kind (on-base low kind) = kind
+
+module _ (t f : List ℕ) (kept : TypesKept t f) where
+  -- a base is no scalar
+  base-later : (r b : ℕ) → r < rowsOf t → b < r → baseOf (form t r) ≡ suc b → 3 ≤ b
+  unfolding form
+  base-later r b h low e =
+      let kind = based-kind (shape-based (kept .row r h .shape) e) in
+      record-is (kept .row b (omega arith) .shape) (form-record (rowAt t b) kind) .later
+
+  -- nothing else extends a scalar
+  scalar-extended : {r u : ℕ} → Extends t r u → r < rowsOf t → u ≤ 2 → r ≡ u
+  scalar-extended same h few = refl
+  scalar-extended {r} (up {b = b} base low e) h few =
+      let later = base-later r b h low base in
+      let there = scalar-extended e (omega arith) few in
+      absurd (omega arith)
+
+  scalar-values : (r : ℕ) → r < 3 → r < rowsOf t → layoutOf t f r ≡ r ∷ []
+  unfolding layoutBy
+  scalar-values r h low =
+      let shape = kept .row r low .shape in
+      layout-is t f r shape ∙ ap (layoutBy f (layoutOf t f)) (scalar-shape shape h)
+
+-- only a designator has a type that is no scalar
+module _ (t f v n : List ℕ) (kept : question7 t v n ≡ Kept) (r : ℕ) (h : r < rowsOf n) where
+  designator-by : 1 ≤ rowAt n r .kind → rowAt n r .kind ≤ 4 → isDesignator n r ≡ true
+  unfolding isDesignator
+  designator-by low high = also-yes (le-leb _ _ low) (le-leb _ _ high)
+
+  designator-typed : {x : ℕ} → NodeTyped t f v n r x → 3 ≤ x → (rowAt n r .kind ≡ 8 → ⊥) → isDesignator n r ≡ true
+  designator-typed (by-constant k e) l plain = let low = constant-is t v n kept r h k .typed in absurd (omega arith)
+  designator-typed (by-variable k e) l plain = designator-by (omega arith) (omega arith)
+  designator-typed (by-field k e) l plain = designator-by (omega arith) (omega arith)
+  designator-typed (by-element k e) l plain = designator-by (omega arith) (omega arith)
+  designator-typed (by-guard k e) l plain = designator-by (omega arith) (omega arith)
+  designator-typed {x} (by-dyadic k e) l plain =
+      let low = dyadic-low (rowAt n r .c) (e .left) (e .right) x (e .result) in
+      absurd (omega arith)
+  designator-typed {x} (by-monadic k e) l plain =
+      let low = monadic-low (rowAt n r .c) (e .operand) x (e .result) in
+      absurd (omega arith)
+  designator-typed (by-test k e) l plain = let zero-row = e .boolean in absurd (omega arith)
+  designator-typed (by-argument k e) l plain = absurd (plain k)
+
+-- ---- ways to go on from cells that differ above top
+
+module _ (g : Program) (s : State Cell) where
+  either-ok : (b : Bool) {x y : Next Cell} → (b ≡ true → NextOk g s x) → (b ≡ false → NextOk g s y)
+      → NextOk g s (choose b x y)
+  unfolding choose
+  either-ok true f h = f refl
+  either-ok false f h = h refl
+
+  module _ {s′ : State Cell} (same-below : Unchanged s s′) where
+    place-ok : {fs : List Frame} {x : ℕ} {found : Found} (next : Place → Next Cell) → FoundOk g fs x found
+        → ((place : Place) → place .declared ≡ x → extends (g .types) (place .dynamic) (place .declared) ≡ true
+        → Object g fs (place .address) (place .dynamic) → NextOk g s (next place))
+        → NextOk g s (onPlace s′ found next)
+    unfolding onPlace
+    place-ok next (found-ok {place = place} d e o) more = more place d e o
+    place-ok next found-trap more = ok-trapped same-below
+
+    value-ok : {k : ℕ} {answer : Answer} (next : Value → Next Cell) → Gives k answer
+        → ((v : Value) → kindOf v ≡ k → InRange v → NextOk g s (next v))
+        → NextOk g s (onValue s′ answer next)
+    unfolding onValue
+    value-ok next (Gives.value {v = v} e h) more = more v e h
+    value-ok next Gives.trapped more = ok-trapped same-below
+
+    part-ok : (a n : ℕ) (next : List Cell → Next Cell) → a + n ≤ s′ .at .top
+        → NextOk g s (next (partAt (s′ .cells) a n)) → NextOk g s (onPart s′ a n next)
+    unfolding onPart
+    part-ok a n next h more = rw (choose-yes (leb (a + n) (s′ .at .top)) (next (partAt (s′ .cells) a n)) _ (le-leb _ _ h)) more
