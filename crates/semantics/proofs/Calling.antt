@@ -1,7 +1,7 @@
 -- A call from a sound state: arguments are passed one by one, then the procedure's frame is entered.
 use mathlib.Core.Path.{_≡_, refl, sym, _∙_, ap, subst}
 use mathlib.Core.Bool.{Bool, true, false}
-use mathlib.Core.List.{List, [], _∷_, _++_, map, append-assoc}
+use mathlib.Core.List.{List, [], _∷_, _++_, map, append-assoc, append-nil}
 use Prim.Native.Nat.{ℕ, zero, suc, _+_, _-_, _≤_, _<_}
 use native.Mathlib.Omega.{arith}
 use native.Mathlib.Decide.{decLt}
@@ -36,8 +36,10 @@ use Rattle.typing.proofs.Accepted.{NodeTyped.by-element, NodeTyped.by-guard, No
 use Rattle.typing.proofs.Accepted.{NodeTyped.by-test, NodeTyped.by-argument, typed-node, argument-typed, type-low}
 use Rattle.frames.specs.Variables.{isLocal, isParameter, kindWithin}
 use Rattle.frames.specs.Procedures.{firstVariable, claimedBy}
-use Rattle.places.specs.Places.{widthOf, roomFrom, frameSize, placeIn}
-use Rattle.places.proofs.Rooms.{width-var, width-other}
+use Rattle.places.specs.Places.{roomBy, widthOf, roomFrom, frameSize, placeIn}
+use Rattle.places.proofs.Rooms.{width-var, width-other, room-more}
+use Rattle.places.proofs.Counting.{first-next}
+use Rattle.places.proofs.Owning.{own-within}
 use Rattle.rules.proofs.Accepted.{ArgumentRuled}
 use Rattle.checker.proofs.Accepted.{AcceptedTables}
 use Rattle.values.specs.Values.{kindOf, numberOf, cellOf, booleanCell, integerCell, setCell, isInteger, isSet, InRange, Gives}
@@ -292,6 +294,42 @@ module _ (g : Program) (ok : AcceptedTables (g .types) (g .fields) (g .variables
       ∙ sym (width-other (sizeOf (g .types) (g .fields)) (g .variables) a (λ e. absurd (omega arith)))
   slot-width {a = a} h (by-reference k o e) = sym (width-var (sizeOf (g .types) (g .fields)) (g .variables) a k)
 
+-- ---- "then locals zero"
+
+-- slots that the zeroed cells of n variables from row k on fit
+record LocalsFit (g : Program) (fs : List Frame) (k n : ℕ) : Type 0 where
+  slots : List (List Want)
+  fits : Matched Fits (map (tagged .blank) (kindsFrom g k n)) (joined slots)
+  slotted : Matched (Slot g fs) (rowsFrom k n) slots
+
+local-kind : (v : List ℕ) (k : ℕ) → isLocal v k ≡ true → rowAt v k .kind ≡ 1
+unfolding kindWithin
+local-kind v k e =
+    let (low, high) = also-true _ _ e in
+    let least : 1 ≤ rowAt v k .kind = leb-true _ _ low in
+    let most : rowAt v k .kind ≤ 1 = leb-true _ _ high in
+    omega arith
+
+local-kinds : (g : Program) (k : ℕ) → rowAt (g .variables) k .kind ≡ 1
+    → kindsOf g k ≡ layoutOf (g .types) (g .fields) (rowAt (g .variables) k .a)
+unfolding kindsOf
+local-kinds g k e = choose-no _ _ _ (ne-eqb (rowAt (g .variables) k .kind) 3 (λ z. absurd (omega arith)))
+
+locals-fit : (g : Program) (fs : List Frame) (n k : ℕ) → KeptIn (isLocal (g .variables)) k (k + n) → LocalsFit g fs k n
+unfolding kindsFrom rowsFrom joined valuesOf
+locals-fit g fs zero k kept = record { slots = []; fits = no-more; slotted = no-more }
+locals-fit g fs (suc n) k kept =
+    let rest = locals-fit g fs n (k + 1) (record { each = λ j low high. kept .each j (omega arith) (omega arith) }) in
+    let kind = local-kind (g .variables) k (kept .each k (omega arith) (omega arith)) in
+    let own = blanks-layout (g .types) (g .fields) (rowAt (g .variables) k .a) .matched in
+    let all = matched-both own (rest .fits) in
+    let slot : Slot g fs k (valuesOf g (rowAt (g .variables) k .a)) = by-value (omega arith) in
+    record {
+      slots = valuesOf g (rowAt (g .variables) k .a) ∷ rest .slots;
+      fits = rw (local-kinds g k kind, map-append (tagged .blank) (layoutOf (g .types) (g .fields) (rowAt (g .variables) k .a)) (kindsFrom g (k + 1) n)) all;
+      slotted = one-more slot (rest .slotted);
+    }
+
 module _ (g : Program) (ok : AcceptedTables (g .types) (g .fields) (g .variables) (g .procedures) (g .nodes) (g .statements))
     (bytes : Bytes (g .nodes)) (s : State Cell) (sound : Sound g s) where
   -- the same state with other cells above top
@@ -410,3 +448,80 @@ module _ (g : Program) (ok : AcceptedTables (g .types) (g .fields) (g .variables
         let plain = parameter-kind (eqb-false _ _ e) in
         either-ok g s (leb (rowAt (g .variables) a .a) 2) (λ l. scalar-ok plain (leb-true _ _ l)) λ l.
         copied-ok plain (leb-false _ _ l)
+
+  -- ---- all arguments
+
+  module _ (q : ℕ) (exists : q < rowsOf (g .procedures))
+      (fitting : s .at .top + frameSize (g .types) (g .fields) (g .variables) (g .procedures) q ≤ length (s .cells)) where
+    abbrev first : ℕ
+    first = firstVariable (g .variables) (g .procedures) q
+
+    -- the first j variables of the new frame hold what their slots say
+    record Passing (j : ℕ) (cells : List Cell) : Type 0 where
+      above : Above cells
+      arguments : List Cell
+      slots : List (List Want)
+      placed : Part cells (s .at .top + 3) arguments
+      filled : length arguments ≡ roomFrom (g .types) (g .fields) (g .variables) first j
+      fits : Matched Fits arguments (joined slots)
+      slotted : Matched (Slot g (sound .newest ∷ sound .others)) (rowsFrom first j) slots
+
+    passing-none : Passing 0 (s .cells)
+    unfolding roomBy joined rowsFrom frameSize
+    passing-none = record {
+      above = record { as-many = refl; same-below = refl };
+      arguments = [];
+      slots = [];
+      placed = record { rest = drop (s .at .top + 3) (s .cells); seen = refl; within = omega arith };
+      filled = refl;
+      fits = no-more;
+      slotted = no-more;
+    }
+
+    module _ (j : ℕ) (claimed : j < claimedBy (rowAt (g .procedures) q)) where
+      variable-there : first + j < rowsOf (g .variables)
+      unfolding claimedBy
+      variable-there = let room = ok .procedures .row q exists .room in omega arith
+
+      variable-own : first + j < firstVariable (g .variables) (g .procedures) (q + 1)
+      variable-own =
+          let one : q + 1 ≡ suc q = omega arith in
+          rw one (omega (arith, first-next (g .variables) (g .procedures) q))
+
+      place-next : placeOf g (first + j) ≡ 3 + roomFrom (g .types) (g .fields) (g .variables) first j
+      unfolding placeIn
+      place-next =
+          let back : (first + j) - first ≡ j = omega arith in
+          place-own g ok q (first + j) exists (record { low = omega arith; high = variable-own }) ∙ rw back
+
+      place-within : placeOf g (first + j) + widthOf (g .types) (g .fields) (g .variables) (first + j)
+          ≤ frameSize (g .types) (g .fields) (g .variables) (g .procedures) q
+      place-within =
+          let at = place-own g ok q (first + j) exists (record { low = omega arith; high = variable-own }) in
+          rw at (own-within (g .types) (g .fields) (g .variables) (g .procedures) q (first + j) (record { low = omega arith; high = variable-own }))
+
+      passing-next : (cells : List Cell) → Passing j cells → (new : List Cell) (ws : List Want)
+          → Slot g (sound .newest ∷ sound .others) (first + j) ws → Matched Fits new ws
+          → Passing (j + 1) (overwrite cells (s .at .top + placeOf g (first + j)) new)
+      unfolding joined rowsFrom
+      passing-next cells p new ws slot matched =
+          let args : List Cell = p .arguments in
+          let width : length new ≡ widthOf (g .types) (g .fields) (g .variables) (first + j) =
+          matched-length matched ∙ slot-width g ok variable-there slot in
+          let at : s .at .top + placeOf g (first + j) ≡ s .at .top + 3 + length args = omega (arith, place-next, p .filled) in
+          let most = place-within in
+          let many = p .above .as-many in
+          let room : s .at .top + 3 + length args + length new ≤ length cells = omega arith in
+          let one : j + 1 ≡ suc j = omega arith in
+          rw at (record {
+            above = record {
+              as-many = put-length cells new (s .at .top + 3 + length args) room ∙ many;
+              same-below = put-above cells new (s .at .top + 3 + length args) (s .at .top) (omega arith) (omega arith) ∙ p .above .same-below;
+            };
+            arguments = args ++ new;
+            slots = p .slots ++ (ws ∷ []);
+            placed = part-put cells args new (s .at .top + 3) (p .placed) room;
+            filled = rw one (omega (arith, length-append args new, p .filled, room-more (sizeOf (g .types) (g .fields)) (g .variables) first j));
+            fits = rw (joined-both (p .slots) (ws ∷ []), append-nil ws) (matched-both (p .fits) matched);
+            slotted = rw (rows-both first j 1) (matched-both (p .slotted) (one-more slot no-more));
+          })
