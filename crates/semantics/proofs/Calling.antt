@@ -40,7 +40,10 @@ use Rattle.places.specs.Places.{roomBy, widthOf, roomFrom, frameSize, placeIn}
 use Rattle.places.proofs.Rooms.{width-var, width-other, room-more}
 use Rattle.places.proofs.Counting.{first-next}
 use Rattle.places.proofs.Owning.{own-within}
-use Rattle.rules.proofs.Accepted.{ArgumentRuled}
+use Rattle.statements.specs.Statements.{procedureAt}
+use Rattle.statements.proofs.Accepted.{CallRow, call-is, behind-in, no-end}
+use Rattle.statements.proofs.Bodies.{InBody, start-in, end-within, body-only}
+use Rattle.rules.proofs.Accepted.{ArgumentRuled, CallRuled, call-ruled}
 use Rattle.checker.proofs.Accepted.{AcceptedTables}
 use Rattle.values.specs.Values.{kindOf, numberOf, cellOf, booleanCell, integerCell, setCell, isInteger, isSet, InRange, Gives}
 use Rattle.values.specs.Values.{Gives.value, Gives.trapped}
@@ -525,3 +528,149 @@ module _ (g : Program) (ok : AcceptedTables (g .types) (g .fields) (g .variables
             fits = rw (joined-both (p .slots) (ws ∷ []), append-nil ws) (matched-both (p .fits) matched);
             slotted = rw (rows-both first j 1) (matched-both (p .slotted) (one-more slot no-more));
           })
+
+    -- ---- the frame is entered
+
+    module _ (call : rowAt (g .statements) (s .at .row) .kind ≡ 1) (named : rowAt (g .statements) (s .at .row) .a ≡ q) where
+      abbrev count : ℕ
+      count = rowAt (g .procedures) q .b
+
+      row-there : s .at .row < rowsOf (g .statements)
+      row-there =
+          let within = end-within (g .variables) (g .procedures) (g .statements) (ok .procedures) (sound .newest .procedure) (sound .inside .procedure) in
+          let end = sound .inside .end in
+          omega arith
+
+      caller : procedureAt (g .procedures) (s .at .row) ≡ sound .newest .procedure
+      caller =
+          let inside = sound .inside in
+          sym (body-only (g .variables) (g .procedures) (g .statements) (ok .procedures) (sound .newest .procedure) (s .at .row)
+          (record { procedure = inside .procedure; start = inside .start; end = inside .end }))
+
+      -- the row behind a call is in the same body
+      behind : Inside g (sound .newest .procedure) (s .at .row + 1)
+      behind =
+          let last = no-end (rowAt (g .statements) (s .at .row)) (λ e. absurd (omega arith)) (λ e. absurd (omega arith)) (λ e. absurd (omega arith)) in
+          let b = behind-in (g .variables) (g .procedures) (g .statements) (ok .procedures) (ok .counts .some-procedure) (s .at .row) row-there
+          (g .nodes) (ok .questions .statements) last in
+          let c = rw caller at b in
+          record { procedure = c .procedure; start = c .start; end = c .end }
+
+      module _ (cells : List Cell) (p : Passing count cells) where
+        own-locals : LocalsFit g (sound .newest ∷ sound .others) (first + count) (rowAt (g .procedures) q .c)
+        own-locals =
+            locals-fit g (sound .newest ∷ sound .others) (rowAt (g .procedures) q .c) (first + count) (ok .procedures .row q exists .locals)
+
+        abbrev locals : List Cell
+        locals = map (tagged .blank) (kindsFrom g (first + count) (rowAt (g .procedures) q .c))
+
+        abbrev links : List Cell
+        links =
+            tagged .mark LINK (procedureAt (g .procedures) (s .at .row)) ∷ tagged .mark LINK (s .at .row + 1)
+            ∷ tagged .mark LINK (s .at .base) ∷ []
+
+        abbrev frame : Frame
+        frame = record {
+          procedure = q;
+          caller = procedureAt (g .procedures) (s .at .row);
+          back = s .at .row + 1;
+          callers-base = s .at .base;
+          slots = p .slots ++ own-locals .slots;
+        }
+
+        frame-slots : Matched (Slot g (sound .newest ∷ sound .others)) (rowsFrom first (claimedBy (rowAt (g .procedures) q))) (frame .slots)
+        unfolding claimedBy
+        frame-slots = rw (rows-both first count (rowAt (g .procedures) q .c)) (matched-both (p .slotted) (own-locals .slotted))
+
+        frame-stack : Stack g (frame ∷ sound .newest ∷ sound .others)
+        frame-stack =
+            a-frame (sound .stack) exists
+            (is-called (s .at .row) call named (sound .inside) behind caller refl (sound .begins)) frame-slots
+
+        frame-fits : Matched Fits (links ++ (p .arguments ++ locals)) (frameWants g frame)
+        unfolding frameWants tagged
+        frame-fits =
+            let slots : Matched Fits (p .arguments ++ locals) (joined (p .slots ++ own-locals .slots)) =
+            rw (joined-both (p .slots) (own-locals .slots)) (matched-both (p .fits) (own-locals .fits)) in
+            one-more (fits-exactly refl refl) (one-more (fits-exactly refl refl) (one-more (fits-exactly refl refl) slots))
+
+        frame-length : length (links ++ (p .arguments ++ locals)) ≡ frameSize (g .types) (g .fields) (g .variables) (g .procedures) q
+        frame-length = matched-length frame-fits ∙ slots-length g ok frame-stack
+
+        abbrev zeroed : List Cell
+        zeroed = overwrite cells (s .at .top + (3 + roomFrom (g .types) (g .fields) (g .variables) first count)) locals
+
+        zeroed-room : s .at .top + 3 + length (p .arguments) + length locals ≤ length cells
+        zeroed-room =
+            let size = frame-length in
+            let many = p .above .as-many in
+            omega (arith, length-append (p .arguments) locals)
+
+        zeroed-at : s .at .top + (3 + roomFrom (g .types) (g .fields) (g .variables) first count) ≡ s .at .top + 3 + length (p .arguments)
+        zeroed-at = omega (arith, p .filled)
+
+        zeroed-part : Part zeroed (s .at .top + 3) (p .arguments ++ locals)
+        zeroed-part = rw zeroed-at (part-put cells (p .arguments) locals (s .at .top + 3) (p .placed) zeroed-room)
+
+        zeroed-length : length zeroed ≡ length (s .cells)
+        zeroed-length =
+            rw zeroed-at (put-length cells locals (s .at .top + 3 + length (p .arguments)) zeroed-room) ∙ p .above .as-many
+
+        zeroed-below : take (s .at .top) zeroed ≡ take (s .at .top) (s .cells)
+        zeroed-below =
+            let room = zeroed-room in
+            rw zeroed-at (put-above cells locals (s .at .top + 3 + length (p .arguments)) (s .at .top) (omega arith) (omega arith))
+            ∙ p .above .same-below
+
+        final-length : length (overwrite zeroed (s .at .top) links) ≡ length (s .cells)
+        final-length =
+            let size = frame-length in
+            let many = zeroed-length in
+            put-length zeroed links (s .at .top) (omega (arith, length-append links (p .arguments ++ locals))) ∙ many
+
+        final-holds : Matched Fits (take (s .at .top + frameSize (g .types) (g .fields) (g .variables) (g .procedures) q) (overwrite zeroed (s .at .top) links))
+            (wants g (frame ∷ sound .newest ∷ sound .others))
+        unfolding wants
+        final-holds =
+            let many = zeroed-length in
+            let stored = sound .stored in
+            rw (frame-cells zeroed links (p .arguments ++ locals) (s .at .top) (frameSize (g .types) (g .fields) (g .variables) (g .procedures) q) (omega arith) frame-length zeroed-part, zeroed-below)
+            (matched-both (sound .holding) frame-fits)
+
+        entered-sound : Sound g (record {
+          at = record {
+            row = rowAt (g .procedures) q .a;
+            base = s .at .top;
+            top = s .at .top + frameSize (g .types) (g .fields) (g .variables) (g .procedures) q;
+            read = s .at .read;
+            written = s .at .written;
+          };
+          cells = overwrite zeroed (s .at .top) links;
+          output = s .output;
+        })
+        entered-sound =
+            let start = start-in (g .variables) (g .procedures) (g .statements) (ok .procedures) q exists in
+            let end = sound .ends in
+            let many = final-length in
+            let lent = sound .lent in
+            let next = room-next g ok frame-stack in
+            record {
+              newest = frame;
+              others = sound .newest ∷ sound .others;
+              stack = frame-stack;
+              holding = final-holds;
+              inside = record { procedure = start .procedure; start = start .start; end = start .end };
+              begins = end;
+              ends = omega arith;
+              stored = omega arith;
+              lent = omega arith;
+            }
+
+        entered-ok : NextOk g s (entered tagged g q (rowAt (g .procedures) q) (over cells))
+        unfolding entered
+        entered-ok = ok-goes entered-sound final-length refl
+
+      -- ---- the call
+
+      call-row : CallRow (g .nodes) (g .procedures) (rowAt (g .statements) (s .at .row))
+      call-row = call-is (g .nodes) (g .procedures) (g .statements) (ok .questions .statements) (s .at .row) row-there call
