@@ -674,3 +674,53 @@ module _ (g : Program) (ok : AcceptedTables (g .types) (g .fields) (g .variables
 
       call-row : CallRow (g .nodes) (g .procedures) (rowAt (g .statements) (s .at .row))
       call-row = call-is (g .nodes) (g .procedures) (g .statements) (ok .questions .statements) (s .at .row) row-there call
+
+      argument-there : (j : ℕ) → j < count → isArgument (g .nodes) (rowAt (g .statements) (s .at .row) .b + j) ≡ true
+      argument-there j less =
+          let counted : rowAt (g .procedures) (rowAt (g .statements) (s .at .row) .a) .b ≡ count =
+          ap (λ x. rowAt (g .procedures) x .b) named in
+          call-row .arguments .each (rowAt (g .statements) (s .at .row) .b + j) (omega arith) (omega arith)
+
+      argument-ruled : (j : ℕ) → j < count
+          → ArgumentRuled (g .types) (g .fields) (g .variables) (g .procedures) (g .nodes) (sound .newest .procedure)
+          (rowAt (g .statements) (s .at .row) .b + j) (first + j)
+      argument-ruled j less =
+          let counted : rowAt (g .procedures) (rowAt (g .statements) (s .at .row) .a) .b ≡ count =
+          ap (λ x. rowAt (g .procedures) x .b) named in
+          let ruled = call-ruled (g .types) (g .fields) (g .variables) (g .procedures) (g .nodes) (g .statements) (ok .questions .rules)
+          (s .at .row) row-there call in
+          rw (caller, named) at (ruled .argument j (omega arith))
+
+      -- n more arguments, where j are passed
+      passed-ok : (n j k a : ℕ) → j + n ≡ count → k ≡ rowAt (g .statements) (s .at .row) .b + j → a ≡ first + j
+          → (cells : List Cell) → Passing j cells
+          → NextOk g s (passed tagged g k a n (over cells) (entered tagged g q (rowAt (g .procedures) q)))
+      unfolding passed withCells claimedBy
+      passed-ok zero j k a e from to cells p = let all : j ≡ count = omega arith in entered-ok cells (rw all at p)
+      passed-ok (suc n) j k a e from to cells p =
+          rw (from, to)
+          (argument-ok (rowAt (g .statements) (s .at .row) .b + j) (first + j) (variable-there j (omega arith))
+          (ok .procedures .row q exists .parameters .each (first + j) (omega arith) (omega arith))
+          (argument-there j (omega arith)) (argument-ruled j (omega arith)) cells (p .above) _
+          λ new ws slot matched.
+          passed-ok n (j + 1) (rowAt (g .statements) (s .at .row) .b + j + 1) (first + j + 1) (omega arith) (omega arith) (omega arith) _
+          (passing-next j (omega arith) cells p new ws slot matched))
+
+  -- the procedure of a call
+  callee-there : rowAt (g .statements) (s .at .row) .kind ≡ 1 → rowAt (g .statements) (s .at .row) .a < rowsOf (g .procedures)
+  callee-there call =
+      let within = end-within (g .variables) (g .procedures) (g .statements) (ok .procedures) (sound .newest .procedure) (sound .inside .procedure) in
+      let end = sound .inside .end in
+      call-is (g .nodes) (g .procedures) (g .statements) (ok .questions .statements) (s .at .row) (omega arith) call .procedure
+
+  -- a call goes on to a sound state or ends in a trap
+  pub called-ok : rowAt (g .statements) (s .at .row) .kind ≡ 1
+      → NextOk g s (called tagged g (rowAt (g .statements) (s .at .row)) s)
+  unfolding called
+  called-ok call =
+      let q : ℕ = rowAt (g .statements) (s .at .row) .a in
+      let there = callee-there call in
+      either-ok g s _ (λ e. ok-trapped (above-unchanged (s .cells) (record { as-many = refl; same-below = refl }))) λ e.
+      let fitting : s .at .top + frameSize (g .types) (g .fields) (g .variables) (g .procedures) q ≤ length (s .cells) = ltb-false _ _ e in
+      passed-ok q there fitting call refl (rowAt (g .procedures) q .b) 0 (rowAt (g .statements) (s .at .row) .b)
+      (firstVariable (g .variables) (g .procedures) q) (omega arith) (omega arith) (omega arith) (s .cells) (passing-none q there fitting)
