@@ -7,6 +7,7 @@ pub mod Kinship
 pub mod Evaluating
 pub mod Kept
 pub mod Performing
+pub mod Calling
 pub mod Beginning
 pub mod Demand3
 pub mod Outcomes

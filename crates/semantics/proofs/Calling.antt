@@ -1,0 +1,726 @@
+-- A call from a sound state: arguments are passed one by one, then the procedure's frame is entered.
+use mathlib.Core.Path.{_≡_, refl, sym, _∙_, ap, subst}
+use mathlib.Core.Bool.{Bool, true, false}
+use mathlib.Core.List.{List, [], _∷_, _++_, map, append-assoc, append-nil}
+use Prim.Native.Nat.{ℕ, zero, suc, _+_, _-_, _≤_, _<_}
+use native.Mathlib.Omega.{arith}
+use native.Mathlib.Decide.{decLt}
+use borrow.Author.Tests.{eqb-true, eqb-false, leb-true, leb-false, ltb-false, eq-eqb, ne-eqb, le-leb}
+use lib.Dec.{ltb, leb, eqb}
+use lib.IntN.{ℤ, pos}
+use lib.ListN.{length, take, drop, replicate, length-append, length-drop, length-map}
+use lib.Seq.{length-take-le, take-add, take-at, take-append-seam, take-append-add, drop-at}
+use Rattle.prelude.specs.Choice.{choose, _also_}
+use Rattle.prelude.specs.Parts.{joined, Part}
+use Rattle.prelude.proofs.Choice.{choose-yes, choose-no, also-true, also-yes}
+use Rattle.prelude.proofs.Parts.{map-append}
+use Rattle.prelude.proofs.Rec.{rec-ind}
+use Rattle.image.specs.declared.Row.{Row}
+use Rattle.image.specs.Rows.{rowAt, rowsOf}
+use Rattle.image.specs.Faults.{KeptIn}
+use Rattle.image.proofs.Bytes.{Bytes}
+use Rattle.shapes.specs.Forms.{Form, Form.scalar, Form.array, Form.recordOf, Form.noForm, form, formOf, baseOf, ofBase, ownTypes}
+use Rattle.shapes.specs.Sizes.{layoutBy, layoutOf, sizeOf}
+use Rattle.shapes.proofs.Rows.{form-record}
+use Rattle.shapes.proofs.Accepted.{TypesKept, Shape, Shape.is-scalar, Shape.is-array, Shape.is-record, record-is}
+use Rattle.shapes.proofs.Accepted.{Based, Based.no-base, Based.on-base, layout-is}
+use Rattle.relations.specs.Extends.{extends}
+use Rattle.relations.proofs.Extension.{Extends, Extends.same, Extends.up, extends-yes, extends-trans}
+use Rattle.image.specs.declared.Verdict.the-variants.{Kept}
+use Rattle.nodes.specs.Nodes.{isDesignator, isArgument, question7}
+use Rattle.nodes.proofs.Accepted.{constant-is, argument-is, argument-kind, argument-within}
+use Rattle.typing.specs.Typing.{typeOf}
+use Rattle.typing.proofs.Lower.{dyadic-low, monadic-low}
+use Rattle.typing.proofs.Accepted.{NodeTyped, NodeTyped.by-constant, NodeTyped.by-variable, NodeTyped.by-field}
+use Rattle.typing.proofs.Accepted.{NodeTyped.by-element, NodeTyped.by-guard, NodeTyped.by-dyadic, NodeTyped.by-monadic}
+use Rattle.typing.proofs.Accepted.{NodeTyped.by-test, NodeTyped.by-argument, typed-node, argument-typed, type-low}
+use Rattle.frames.specs.Variables.{isLocal, isParameter, kindWithin}
+use Rattle.frames.specs.Procedures.{firstVariable, claimedBy}
+use Rattle.places.specs.Places.{roomBy, widthOf, roomFrom, frameSize, placeIn}
+use Rattle.places.proofs.Rooms.{width-var, width-other, room-more}
+use Rattle.places.proofs.Counting.{first-next}
+use Rattle.places.proofs.Owning.{own-within}
+use Rattle.statements.specs.Statements.{procedureAt}
+use Rattle.statements.proofs.Accepted.{CallRow, call-is, behind-in, no-end}
+use Rattle.statements.proofs.Bodies.{InBody, start-in, end-within, body-only}
+use Rattle.rules.proofs.Accepted.{ArgumentRuled, CallRuled, call-ruled}
+use Rattle.checker.proofs.Accepted.{AcceptedTables}
+use Rattle.values.specs.Values.{kindOf, numberOf, cellOf, booleanCell, integerCell, setCell, isInteger, isSet, InRange, Gives}
+use Rattle.values.specs.Values.{Gives.value, Gives.trapped}
+use Rattle.values.proofs.Cells.{cell-back}
+use Rattle.values.specs.declared.Value.{Value}
+use Rattle.values.specs.declared.Value.the-variants as Vs
+use Rattle.values.specs.declared.Answer.{Answer}
+use Rattle.values.specs.declared.Answer.the-variants as As
+use Rattle.semantics.specs.declared.Place.{Place}
+use Rattle.semantics.specs.declared.Found.{Found}
+use Rattle.semantics.specs.declared.Found.the-variants as Fs
+use Rattle.semantics.specs.Memory.{LINK, ADDRESS, TYPE, Cell, tagged, partAt, overwrite}
+use Rattle.semantics.specs.Layout.{Program, placeOf, kindsOf, kindsFrom}
+use Rattle.semantics.specs.Finding.{findOf, evalOf}
+use Rattle.semantics.specs.Stepping.{State, Next, onPlace, onValue, onPart, withCells, argumentCells, passed, entered, called}
+use Rattle.semantics.specs.Sound.{Want, Want.any-value, Want.exactly, Fits, Fits.fits-value, Fits.fits-exactly}
+use Rattle.semantics.specs.Sound.{Matched, Matched.no-more, Matched.one-more, Frame, rowsFrom, valuesOf}
+use Rattle.semantics.specs.Sound.{frameWants, wants, room, Inside, Own, Object, Slot, Slot.by-value, Slot.by-reference}
+use Rattle.semantics.specs.Sound.{Called, Called.is-called, Stack, Stack.a-frame, Sound}
+use Rattle.semantics.proofs.Holding.{matched-length, matched-part, put-above, put-length, part-below}
+use Rattle.semantics.proofs.Kept.{Unchanged, NextOk, NextOk.ok-goes, NextOk.ok-trapped}
+use Rattle.semantics.proofs.Evaluating.{FoundOk, FoundOk.found-ok, FoundOk.found-trap, Designates, Designates.as-argument}
+use Rattle.semantics.proofs.Evaluating.{find-ok, eval-ok}
+use Rattle.semantics.proofs.Objects.{values-length, object-front, slots-length, room-next, place-own}
+
+-- ---- lists
+
+module _ {A B : Type 0} {R : A → B → Type 0} where
+  matched-both : {l m : List A} {w x : List B} → Matched R l w → Matched R m x → Matched R (l ++ m) (w ++ x)
+  matched-both no-more k = k
+  matched-both (one-more r h) k = one-more r (matched-both h k)
+
+rows-both : (k m n : ℕ) → rowsFrom k (m + n) ≡ rowsFrom k m ++ rowsFrom (k + m) n
+unfolding rowsFrom
+rows-both k zero n = let e : k + 0 ≡ k = omega arith in let z : 0 + n ≡ n = omega arith in rw (e, z)
+rows-both k (suc m) n =
+    let e : k + 1 + m ≡ k + suc m = omega arith in
+    let z : suc m + n ≡ suc (m + n) = omega arith in
+    rw (z, ← e) (ap (λ l. k ∷ l) (rows-both (k + 1) m n))
+
+module _ {A : Type 0} where
+  joined-both : (xs ys : List (List A)) → joined (xs ++ ys) ≡ joined xs ++ joined ys
+  unfolding joined
+  joined-both [] ys = refl
+  joined-both (x ∷ xs) ys = ap (λ l. x ++ l) (joined-both xs ys) ∙ sym (append-assoc x (joined xs) (joined ys))
+
+  part-ends : {l xs : List A} {at : ℕ} → Part l at xs → at + length xs ≤ length l
+  part-ends {l} {xs} {at} p =
+      let w = p .within in
+      omega (arith, length-append xs (p .rest), length-drop at l, ap length (p .seen))
+
+  -- a part grows by what is written behind it
+  part-put : (l xs new : List A) (at : ℕ) → Part l at xs → at + length xs + length new ≤ length l
+      → Part (overwrite l (at + length xs) new) at (xs ++ new)
+  unfolding overwrite
+  part-put l xs new at p h =
+      let behind : List A = drop (at + length xs + length new) l in
+      let w = p .within in
+      let front : take (at + length xs) l ≡ take at l ++ xs =
+      take-add at (length xs) l ∙ rw (p .seen, take-append-seam xs (p .rest)) in
+      let size : length (take at l) ≡ at = length-take-le at l w in
+      let whole : take (at + length xs) l ++ (new ++ behind) ≡ take at l ++ (xs ++ (new ++ behind)) =
+      rw front (append-assoc (take at l) xs (new ++ behind)) in
+      record {
+        rest = behind;
+        seen = ap (drop at) whole ∙ drop-at (take at l) (xs ++ (new ++ behind)) at size ∙ sym (append-assoc xs new behind);
+        within = rw whole (omega (arith, size, length-append (take at l) (xs ++ (new ++ behind))));
+      }
+
+  -- n cells from top on, once the links before a part are written
+  frame-cells : (l links xs : List A) (top n : ℕ) → top ≤ length l → length (links ++ xs) ≡ n
+      → Part l (top + length links) xs → take (top + n) (overwrite l top links) ≡ take top l ++ (links ++ xs)
+  unfolding overwrite
+  frame-cells l links xs top n h e p =
+      let size : length (take top l) ≡ top = length-take-le top l h in
+      let behind : links ++ drop (top + length links) l ≡ (links ++ xs) ++ p .rest =
+      rw (p .seen) (sym (append-assoc links xs (p .rest))) in
+      let from : take (length (take top l) + n) (take top l ++ ((links ++ xs) ++ p .rest)) ≡ take top l ++ (links ++ xs) =
+      take-append-add (take top l) ((links ++ xs) ++ p .rest) n ∙ rw (take-at (links ++ xs) (p .rest) n e) in
+      rw behind (rw size at from)
+
+-- ---- cells
+
+put-fits : {v : Value} {k : ℕ} → kindOf v ≡ k → InRange v → Fits (tagged .put v) (any-value k)
+unfolding tagged
+put-fits {v} {k} e h =
+    let back : cellOf k (numberOf v) ≡ As.Val v = rw (← e) (cell-back h) in
+    fits-value {c = record { kind = kindOf v; number = numberOf v }} {v = v} e back
+
+-- a zeroed cell of a scalar kind
+blank-fits : (k : ℕ) → k ≤ 2 → Fits (tagged .blank k) (any-value k)
+unfolding tagged cellOf booleanCell integerCell setCell isInteger isSet choose
+blank-fits zero h = fits-value refl refl
+blank-fits (suc zero) h = fits-value refl refl
+blank-fits (suc (suc zero)) h = fits-value refl refl
+blank-fits (suc (suc (suc k))) h = absurd (omega arith)
+
+-- zeroed cells of these kinds
+record BlanksFit (l : List ℕ) : Type 0 where
+  matched : Matched Fits (map (tagged .blank) l) (map any-value l)
+
+blanks-none : BlanksFit []
+blanks-none = record { matched = no-more }
+
+blanks-both : (l m : List ℕ) → BlanksFit l → BlanksFit m → BlanksFit (l ++ m)
+blanks-both l m a b = record {
+  matched = rw (map-append (tagged .blank) l m, map-append any-value l m) (matched-both (a .matched) (b .matched));
+}
+
+blanks-replicated : (n : ℕ) (l : List ℕ) → BlanksFit l → BlanksFit (joined (replicate n l))
+unfolding joined
+blanks-replicated zero l h = blanks-none
+blanks-replicated (suc n) l h = blanks-both l (joined (replicate n l)) h (blanks-replicated n l h)
+
+module _ (layout : ℕ → List ℕ) (each : (k : ℕ) → BlanksFit (layout k)) where
+  blanks-joined : (l : List ℕ) → BlanksFit (joined (map layout l))
+  unfolding joined
+  blanks-joined [] = blanks-none
+  blanks-joined (k ∷ l) = blanks-both (layout k) (joined (map layout l)) (each k) (blanks-joined l)
+
+  blanks-based : (a : ℕ) → BlanksFit (ofBase [] layout a)
+  unfolding ofBase
+  blanks-based zero = blanks-none
+  blanks-based (suc b) = each b
+
+  blanks-by : (f : List ℕ) (row : Row) → BlanksFit (layoutBy f layout (formOf row))
+  unfolding formOf layoutBy choose
+  blanks-by f row = go (leb (row .kind) 2) refl (eqb (row .kind) 3) (eqb (row .kind) 4)
+    where
+      go : (x : Bool) → leb (row .kind) 2 ≡ x → (y z : Bool)
+          → BlanksFit (layoutBy f layout (choose x (scalar (row .kind)) (choose y (array (row .a) (row .b)) (choose z (recordOf (row .a) (row .b) (row .c)) noForm))))
+      go true e y z = record { matched = one-more (blank-fits (row .kind) (leb-true _ _ e)) no-more }
+      go false e true z = blanks-replicated (row .b) (layout (row .a)) (each (row .a))
+      go false e false true = blanks-both (ofBase [] layout (row .a)) _ (blanks-based (row .a)) (blanks-joined (ownTypes f (row .b) (row .c)))
+      go false e false false = blanks-none
+
+-- zeroed cells are of their layout
+blanks-layout : (t f : List ℕ) (r : ℕ) → BlanksFit (layoutOf t f r)
+unfolding layoutOf form
+blanks-layout t f r =
+    rec-ind [] (λ layout k. layoutBy f layout (form t k)) (λ k l. BlanksFit l)
+    (λ k layout low high. blanks-by layout (λ j. each layout k low high j (decLt j k)) f (rowAt t k)) r
+  where
+    each : (layout : ℕ → List ℕ) (k : ℕ) → ((j : ℕ) → j < k → BlanksFit (layout j)) → ((j : ℕ) → k ≤ j → layout j ≡ [])
+        → (j : ℕ) → Dec (j < k) → BlanksFit (layout j)
+    each layout k low high j (yes h) = low j h
+    each layout k low high j (no h) = rw (high j (omega arith)) blanks-none
+
+-- ---- types
+
+-- a type extends lower rows only
+extends-low : {t : List ℕ} {r u : ℕ} → Extends t r u → u ≤ r
+extends-low same = omega arith
+extends-low (up base low e) = let below = extends-low e in omega arith
+
+scalar-shape : {t f : List ℕ} {used r : ℕ} {x : Form} → Shape t f used r x → r < 3 → x ≡ scalar r
+scalar-shape (is-scalar l) h = refl
+scalar-shape (is-array l a b c) h = absurd (omega arith)
+scalar-shape (is-record l a b c) h = absurd (omega arith)
+
+shape-based : {t f : List ℕ} {used r b : ℕ} {x : Form} → Shape t f used r x → baseOf x ≡ suc b → Based t r (suc b)
+unfolding baseOf
+shape-based (is-scalar l) e = absurd (omega arith)
+shape-based (is-array l a b c) e = absurd (omega arith)
+shape-based (is-record l on rows own) e = rw e at on
+
+based-kind : {t : List ℕ} {r b : ℕ} → Based t r (suc b) → rowAt t b .kind ≡ 4
+based-kind (on-base low kind) = kind
+
+module _ (t f : List ℕ) (kept : TypesKept t f) where
+  -- a base is no scalar
+  base-later : (r b : ℕ) → r < rowsOf t → b < r → baseOf (form t r) ≡ suc b → 3 ≤ b
+  unfolding form
+  base-later r b h low e =
+      let kind = based-kind (shape-based (kept .row r h .shape) e) in
+      record-is (kept .row b (omega arith) .shape) (form-record (rowAt t b) kind) .later
+
+  -- nothing else extends a scalar
+  scalar-extended : {r u : ℕ} → Extends t r u → r < rowsOf t → u ≤ 2 → r ≡ u
+  scalar-extended same h few = refl
+  scalar-extended {r} (up {b = b} base low e) h few =
+      let later = base-later r b h low base in
+      let there = scalar-extended e (omega arith) few in
+      absurd (omega arith)
+
+  scalar-values : (r : ℕ) → r < 3 → r < rowsOf t → layoutOf t f r ≡ r ∷ []
+  unfolding layoutBy
+  scalar-values r h low =
+      let shape = kept .row r low .shape in
+      layout-is t f r shape ∙ ap (layoutBy f (layoutOf t f)) (scalar-shape shape h)
+
+-- only a designator has a type that is no scalar
+module _ (t f v n : List ℕ) (kept : question7 t v n ≡ Kept) (r : ℕ) (h : r < rowsOf n) where
+  designator-by : 1 ≤ rowAt n r .kind → rowAt n r .kind ≤ 4 → isDesignator n r ≡ true
+  unfolding isDesignator
+  designator-by low high = also-yes (le-leb _ _ low) (le-leb _ _ high)
+
+  designator-typed : {x : ℕ} → NodeTyped t f v n r x → 3 ≤ x → (rowAt n r .kind ≡ 8 → ⊥) → isDesignator n r ≡ true
+  designator-typed (by-constant k e) l plain = let low = constant-is t v n kept r h k .typed in absurd (omega arith)
+  designator-typed (by-variable k e) l plain = designator-by (omega arith) (omega arith)
+  designator-typed (by-field k e) l plain = designator-by (omega arith) (omega arith)
+  designator-typed (by-element k e) l plain = designator-by (omega arith) (omega arith)
+  designator-typed (by-guard k e) l plain = designator-by (omega arith) (omega arith)
+  designator-typed {x} (by-dyadic k e) l plain =
+      let low = dyadic-low (rowAt n r .c) (e .left) (e .right) x (e .result) in
+      absurd (omega arith)
+  designator-typed {x} (by-monadic k e) l plain =
+      let low = monadic-low (rowAt n r .c) (e .operand) x (e .result) in
+      absurd (omega arith)
+  designator-typed (by-test k e) l plain = let zero-row = e .boolean in absurd (omega arith)
+  designator-typed (by-argument k e) l plain = absurd (plain k)
+
+-- ---- ways to go on from cells that differ above top
+
+module _ (g : Program) (s : State Cell) where
+  either-ok : (b : Bool) {x y : Next Cell} → (b ≡ true → NextOk g s x) → (b ≡ false → NextOk g s y)
+      → NextOk g s (choose b x y)
+  unfolding choose
+  either-ok true f h = f refl
+  either-ok false f h = h refl
+
+  module _ {s′ : State Cell} (same-below : Unchanged s s′) where
+    place-ok : {fs : List Frame} {x : ℕ} {found : Found} (next : Place → Next Cell) → FoundOk g fs x found
+        → ((place : Place) → place .declared ≡ x → extends (g .types) (place .dynamic) (place .declared) ≡ true
+        → Object g fs (place .address) (place .dynamic) → NextOk g s (next place))
+        → NextOk g s (onPlace s′ found next)
+    unfolding onPlace
+    place-ok next (found-ok {place = place} d e o) more = more place d e o
+    place-ok next found-trap more = ok-trapped same-below
+
+    value-ok : {k : ℕ} {answer : Answer} (next : Value → Next Cell) → Gives k answer
+        → ((v : Value) → kindOf v ≡ k → InRange v → NextOk g s (next v))
+        → NextOk g s (onValue s′ answer next)
+    unfolding onValue
+    value-ok next (Gives.value {v = v} e h) more = more v e h
+    value-ok next Gives.trapped more = ok-trapped same-below
+
+    part-ok : (a n : ℕ) (next : List Cell → Next Cell) → a + n ≤ s′ .at .top
+        → NextOk g s (next (partAt (s′ .cells) a n)) → NextOk g s (onPart s′ a n next)
+    unfolding onPart
+    part-ok a n next h more = rw (choose-yes (leb (a + n) (s′ .at .top)) (next (partAt (s′ .cells) a n)) _ (le-leb _ _ h)) more
+
+-- ---- one argument
+
+module _ (g : Program) (ok : AcceptedTables (g .types) (g .fields) (g .variables) (g .procedures) (g .nodes) (g .statements)) where
+  -- a variable's cells are as many as its width
+  slot-width : {fs : List Frame} {a : ℕ} {ws : List Want} → a < rowsOf (g .variables) → Slot g fs a ws
+      → length ws ≡ widthOf (g .types) (g .fields) (g .variables) a
+  slot-width {a = a} h (by-value k) =
+      values-length g ok (rowAt (g .variables) a .a) (ok .variable a h .typed)
+      ∙ sym (width-other (sizeOf (g .types) (g .fields)) (g .variables) a (λ e. absurd (omega arith)))
+  slot-width {a = a} h (by-reference k o e) = sym (width-var (sizeOf (g .types) (g .fields)) (g .variables) a k)
+
+-- ---- "then locals zero"
+
+-- slots that the zeroed cells of n variables from row k on fit
+record LocalsFit (g : Program) (fs : List Frame) (k n : ℕ) : Type 0 where
+  slots : List (List Want)
+  fits : Matched Fits (map (tagged .blank) (kindsFrom g k n)) (joined slots)
+  slotted : Matched (Slot g fs) (rowsFrom k n) slots
+
+local-kind : (v : List ℕ) (k : ℕ) → isLocal v k ≡ true → rowAt v k .kind ≡ 1
+unfolding kindWithin
+local-kind v k e =
+    let (low, high) = also-true _ _ e in
+    let least : 1 ≤ rowAt v k .kind = leb-true _ _ low in
+    let most : rowAt v k .kind ≤ 1 = leb-true _ _ high in
+    omega arith
+
+local-kinds : (g : Program) (k : ℕ) → rowAt (g .variables) k .kind ≡ 1
+    → kindsOf g k ≡ layoutOf (g .types) (g .fields) (rowAt (g .variables) k .a)
+unfolding kindsOf
+local-kinds g k e = choose-no _ _ _ (ne-eqb (rowAt (g .variables) k .kind) 3 (λ z. absurd (omega arith)))
+
+locals-fit : (g : Program) (fs : List Frame) (n k : ℕ) → KeptIn (isLocal (g .variables)) k (k + n) → LocalsFit g fs k n
+unfolding kindsFrom rowsFrom joined valuesOf
+locals-fit g fs zero k kept = record { slots = []; fits = no-more; slotted = no-more }
+locals-fit g fs (suc n) k kept =
+    let rest = locals-fit g fs n (k + 1) (record { each = λ j low high. kept .each j (omega arith) (omega arith) }) in
+    let kind = local-kind (g .variables) k (kept .each k (omega arith) (omega arith)) in
+    let own = blanks-layout (g .types) (g .fields) (rowAt (g .variables) k .a) .matched in
+    let all = matched-both own (rest .fits) in
+    let slot : Slot g fs k (valuesOf g (rowAt (g .variables) k .a)) = by-value (omega arith) in
+    record {
+      slots = valuesOf g (rowAt (g .variables) k .a) ∷ rest .slots;
+      fits = rw (local-kinds g k kind, map-append (tagged .blank) (layoutOf (g .types) (g .fields) (rowAt (g .variables) k .a)) (kindsFrom g (k + 1) n)) all;
+      slotted = one-more slot (rest .slotted);
+    }
+
+module _ (g : Program) (ok : AcceptedTables (g .types) (g .fields) (g .variables) (g .procedures) (g .nodes) (g .statements))
+    (bytes : Bytes (g .nodes)) (s : State Cell) (sound : Sound g s) where
+  -- the same state with other cells above top
+  record Above (cells : List Cell) : Type 0 where
+    as-many : length cells ≡ length (s .cells)
+    same-below : take (s .at .top) cells ≡ take (s .at .top) (s .cells)
+
+  abbrev over : List Cell → State Cell
+  over cells = record { at = s .at; cells = cells; output = s .output }
+
+  above-unchanged : (cells : List Cell) → Above cells → Unchanged s (over cells)
+  above-unchanged cells k = record { registers = refl; below = k .same-below; cells = k .as-many; output = refl }
+
+  -- is sound in the same frames
+  abbrev above-sound : (cells : List Cell) → Above cells → Sound g (over cells)
+  above-sound cells k = record {
+    newest = sound .newest;
+    others = sound .others;
+    stack = sound .stack;
+    holding = rw (k .same-below) (sound .holding);
+    inside = sound .inside;
+    begins = sound .begins;
+    ends = sound .ends;
+    stored = let h = sound .stored in omega (arith, k .as-many);
+    lent = let h = sound .lent in omega (arith, k .as-many);
+  }
+
+  module _ (k a : ℕ) (there : a < rowsOf (g .variables)) (parameter : isParameter (g .variables) a ≡ true)
+      (argument : isArgument (g .nodes) k ≡ true)
+      (ruled : ArgumentRuled (g .types) (g .fields) (g .variables) (g .procedures) (g .nodes) (sound .newest .procedure) k a)
+      (cells : List Cell) (above : Above cells) (next : List Cell → Next Cell)
+      (more : (new : List Cell) (ws : List Want) → Slot g (sound .newest ∷ sound .others) a ws → Matched Fits new ws → NextOk g s (next new))
+      where
+    within : k < rowsOf (g .nodes)
+    within = argument-within (g .nodes) k argument
+
+    kind : rowAt (g .nodes) k .kind ≡ 8
+    kind = argument-kind (g .nodes) k argument
+
+    passed-row : ruled .passed < rowsOf (g .types)
+    passed-row =
+        type-low (g .types) (g .fields) (g .variables) (g .nodes) (ok .questions .types) (ok .scalars) (ok .questions .variables)
+        (ok .questions .nodes) k (ruled .passed) (ruled .passed-type)
+
+    found : isDesignator (g .nodes) (rowAt (g .nodes) k .a) ≡ true
+        → FoundOk g (sound .newest ∷ sound .others) (ruled .passed) (findOf tagged g (s .at .base) (s .at .top) cells k)
+    found d =
+        find-ok g ok bytes (over cells) (above-sound cells above) k (ruled .passed) within (ruled .passed-type) (ruled .own)
+        (as-argument kind d)
+
+    extended : (place : Place) → place .declared ≡ ruled .passed → extends (g .types) (place .dynamic) (place .declared) ≡ true
+        → extends (g .types) (place .dynamic) (rowAt (g .variables) a .a) ≡ true
+    extended place d e =
+        extends-trans (g .types) (place .dynamic) (ruled .passed) (rowAt (g .variables) a .a) (rw d at e) (ruled .extension)
+
+    -- "A VAR argument passes its object's address and dynamic type."
+    reference-ok : rowAt (g .variables) a .kind ≡ 3
+        → NextOk g s (onPlace (over cells) (findOf tagged g (s .at .base) (s .at .top) cells k)
+        λ place. next (tagged .mark ADDRESS (place .address) ∷ tagged .mark TYPE (place .dynamic) ∷ []))
+    unfolding tagged
+    reference-ok var =
+        place-ok g s (above-unchanged cells above) _ (found (ruled .designator var)) λ place d e o.
+        more _ (exactly ADDRESS (place .address) ∷ exactly TYPE (place .dynamic) ∷ []) (by-reference var o (extended place d e))
+        (one-more (fits-exactly refl refl) (one-more (fits-exactly refl refl) no-more))
+
+    -- a scalar's value
+    scalar-ok : rowAt (g .variables) a .kind ≤ 2 → rowAt (g .variables) a .a ≤ 2
+        → NextOk g s (onValue (over cells) (evalOf tagged g (s .at .base) (s .at .top) cells k) λ v. next (tagged .put v ∷ []))
+    unfolding valuesOf
+    scalar-ok plain few =
+        let same-type : ruled .passed ≡ rowAt (g .variables) a .a =
+        scalar-extended (g .types) (g .fields) (ok .types) (extends-yes (g .types) _ _ (ruled .extension)) passed-row few in
+        let values : valuesOf g (rowAt (g .variables) a .a) ≡ any-value (rowAt (g .variables) a .a) ∷ [] =
+        ap (map any-value) (scalar-values (g .types) (g .fields) (ok .types) (rowAt (g .variables) a .a) (omega arith) (ok .variable a there .typed)) in
+        let slot : Slot g (sound .newest ∷ sound .others) a (valuesOf g (rowAt (g .variables) a .a)) = by-value plain in
+        value-ok g s (above-unchanged cells above) _
+        (eval-ok g ok bytes (over cells) (above-sound cells above) k (ruled .passed) within (ruled .passed-type) (ruled .own) (omega arith))
+        λ v e h. more _ (any-value (rowAt (g .variables) a .a) ∷ []) (rw values at slot) (one-more (put-fits (e ∙ same-type) h) no-more)
+
+    -- another object's cells
+    holds : 3 ≤ rowAt (g .variables) a .a → isDesignator (g .nodes) (rowAt (g .nodes) k .a) ≡ true
+    holds many =
+        let low = extends-low (extends-yes (g .types) (ruled .passed) (rowAt (g .variables) a .a) (ruled .extension)) in
+        let child = argument-is (g .types) (g .variables) (g .nodes) (ok .questions .nodes) k within kind .holds .node in
+        let type = argument-typed (g .types) (g .fields) (g .variables) (g .nodes) (ok .questions .nodes) k within (ruled .passed-type) kind in
+        designator-typed (g .types) (g .fields) (g .variables) (g .nodes) (ok .questions .nodes) (rowAt (g .nodes) k .a) (child .within)
+        (typed-node (g .types) (g .fields) (g .variables) (g .nodes) (ok .questions .nodes) (rowAt (g .nodes) k .a) (child .within) type)
+        (omega arith) (child .plain)
+
+    copied-ok : rowAt (g .variables) a .kind ≤ 2 → 3 ≤ rowAt (g .variables) a .a
+        → NextOk g s (onPlace (over cells) (findOf tagged g (s .at .base) (s .at .top) cells k)
+        λ place. onPart (over cells) (place .address) (sizeOf (g .types) (g .fields) (rowAt (g .variables) a .a)) next)
+    copied-ok plain many =
+        place-ok g s (above-unchanged cells above) _ (found (holds many)) λ place d e o.
+        let r : ℕ = rowAt (g .variables) a .a in
+        let size = values-length g ok r (ok .variable a there .typed) in
+        let part = object-front g ok r (sound .stack) o (extended place d e) in
+        let matched = matched-part (above-sound cells above .holding) part in
+        let end = part-ends part in
+        let top = sound .ends in
+        let low : place .address + sizeOf (g .types) (g .fields) r ≤ s .at .top = omega arith in
+        part-ok g s (above-unchanged cells above) (place .address) (sizeOf (g .types) (g .fields) r) next low
+        (more _ (valuesOf g r) (by-value plain)
+        (rw (part-below cells (place .address) (sizeOf (g .types) (g .fields) r) (s .at .top) low) at (rw size at matched)))
+
+    parameter-kind : (rowAt (g .variables) a .kind ≡ 3 → ⊥) → rowAt (g .variables) a .kind ≤ 2
+    unfolding kindWithin
+    parameter-kind other =
+        let most : rowAt (g .variables) a .kind ≤ 3 = leb-true _ _ (also-true _ _ parameter .1) in
+        omega arith
+
+    argument-ok : NextOk g s (argumentCells tagged g (over cells) k (rowAt (g .variables) a) next)
+    unfolding argumentCells
+    argument-ok =
+        either-ok g s (eqb (rowAt (g .variables) a .kind) 3) (λ e. reference-ok (eqb-true _ _ e)) λ e.
+        let plain = parameter-kind (eqb-false _ _ e) in
+        either-ok g s (leb (rowAt (g .variables) a .a) 2) (λ l. scalar-ok plain (leb-true _ _ l)) λ l.
+        copied-ok plain (leb-false _ _ l)
+
+  -- ---- all arguments
+
+  module _ (q : ℕ) (exists : q < rowsOf (g .procedures))
+      (fitting : s .at .top + frameSize (g .types) (g .fields) (g .variables) (g .procedures) q ≤ length (s .cells)) where
+    abbrev first : ℕ
+    first = firstVariable (g .variables) (g .procedures) q
+
+    -- the first j variables of the new frame hold what their slots say
+    record Passing (j : ℕ) (cells : List Cell) : Type 0 where
+      above : Above cells
+      arguments : List Cell
+      slots : List (List Want)
+      placed : Part cells (s .at .top + 3) arguments
+      filled : length arguments ≡ roomFrom (g .types) (g .fields) (g .variables) first j
+      fits : Matched Fits arguments (joined slots)
+      slotted : Matched (Slot g (sound .newest ∷ sound .others)) (rowsFrom first j) slots
+
+    passing-none : Passing 0 (s .cells)
+    unfolding roomBy joined rowsFrom frameSize
+    passing-none = record {
+      above = record { as-many = refl; same-below = refl };
+      arguments = [];
+      slots = [];
+      placed = record { rest = drop (s .at .top + 3) (s .cells); seen = refl; within = omega arith };
+      filled = refl;
+      fits = no-more;
+      slotted = no-more;
+    }
+
+    module _ (j : ℕ) (claimed : j < claimedBy (rowAt (g .procedures) q)) where
+      variable-there : first + j < rowsOf (g .variables)
+      unfolding claimedBy
+      variable-there = let room = ok .procedures .row q exists .room in omega arith
+
+      variable-own : first + j < firstVariable (g .variables) (g .procedures) (q + 1)
+      variable-own =
+          let one : q + 1 ≡ suc q = omega arith in
+          rw one (omega (arith, first-next (g .variables) (g .procedures) q))
+
+      place-next : placeOf g (first + j) ≡ 3 + roomFrom (g .types) (g .fields) (g .variables) first j
+      unfolding placeIn
+      place-next =
+          let back : (first + j) - first ≡ j = omega arith in
+          place-own g ok q (first + j) exists (record { low = omega arith; high = variable-own }) ∙ rw back
+
+      place-within : placeOf g (first + j) + widthOf (g .types) (g .fields) (g .variables) (first + j)
+          ≤ frameSize (g .types) (g .fields) (g .variables) (g .procedures) q
+      place-within =
+          let at = place-own g ok q (first + j) exists (record { low = omega arith; high = variable-own }) in
+          rw at (own-within (g .types) (g .fields) (g .variables) (g .procedures) q (first + j) (record { low = omega arith; high = variable-own }))
+
+      passing-next : (cells : List Cell) → Passing j cells → (new : List Cell) (ws : List Want)
+          → Slot g (sound .newest ∷ sound .others) (first + j) ws → Matched Fits new ws
+          → Passing (j + 1) (overwrite cells (s .at .top + placeOf g (first + j)) new)
+      unfolding joined rowsFrom
+      passing-next cells p new ws slot matched =
+          let args : List Cell = p .arguments in
+          let width : length new ≡ widthOf (g .types) (g .fields) (g .variables) (first + j) =
+          matched-length matched ∙ slot-width g ok variable-there slot in
+          let at : s .at .top + placeOf g (first + j) ≡ s .at .top + 3 + length args = omega (arith, place-next, p .filled) in
+          let most = place-within in
+          let many = p .above .as-many in
+          let room : s .at .top + 3 + length args + length new ≤ length cells = omega arith in
+          let one : j + 1 ≡ suc j = omega arith in
+          rw at (record {
+            above = record {
+              as-many = put-length cells new (s .at .top + 3 + length args) room ∙ many;
+              same-below = put-above cells new (s .at .top + 3 + length args) (s .at .top) (omega arith) (omega arith) ∙ p .above .same-below;
+            };
+            arguments = args ++ new;
+            slots = p .slots ++ (ws ∷ []);
+            placed = part-put cells args new (s .at .top + 3) (p .placed) room;
+            filled = rw one (omega (arith, length-append args new, p .filled, room-more (sizeOf (g .types) (g .fields)) (g .variables) first j));
+            fits = rw (joined-both (p .slots) (ws ∷ []), append-nil ws) (matched-both (p .fits) matched);
+            slotted = rw (rows-both first j 1) (matched-both (p .slotted) (one-more slot no-more));
+          })
+
+    -- ---- the frame is entered
+
+    module _ (call : rowAt (g .statements) (s .at .row) .kind ≡ 1) (named : rowAt (g .statements) (s .at .row) .a ≡ q) where
+      abbrev count : ℕ
+      count = rowAt (g .procedures) q .b
+
+      row-there : s .at .row < rowsOf (g .statements)
+      row-there =
+          let within = end-within (g .variables) (g .procedures) (g .statements) (ok .procedures) (sound .newest .procedure) (sound .inside .procedure) in
+          let end = sound .inside .end in
+          omega arith
+
+      caller : procedureAt (g .procedures) (s .at .row) ≡ sound .newest .procedure
+      caller =
+          let inside = sound .inside in
+          sym (body-only (g .variables) (g .procedures) (g .statements) (ok .procedures) (sound .newest .procedure) (s .at .row)
+          (record { procedure = inside .procedure; start = inside .start; end = inside .end }))
+
+      -- the row behind a call is in the same body
+      behind : Inside g (sound .newest .procedure) (s .at .row + 1)
+      behind =
+          let last = no-end (rowAt (g .statements) (s .at .row)) (λ e. absurd (omega arith)) (λ e. absurd (omega arith)) (λ e. absurd (omega arith)) in
+          let b = behind-in (g .variables) (g .procedures) (g .statements) (ok .procedures) (ok .counts .some-procedure) (s .at .row) row-there
+          (g .nodes) (ok .questions .statements) last in
+          let c = rw caller at b in
+          record { procedure = c .procedure; start = c .start; end = c .end }
+
+      module _ (cells : List Cell) (p : Passing count cells) where
+        own-locals : LocalsFit g (sound .newest ∷ sound .others) (first + count) (rowAt (g .procedures) q .c)
+        own-locals =
+            locals-fit g (sound .newest ∷ sound .others) (rowAt (g .procedures) q .c) (first + count) (ok .procedures .row q exists .locals)
+
+        abbrev locals : List Cell
+        locals = map (tagged .blank) (kindsFrom g (first + count) (rowAt (g .procedures) q .c))
+
+        abbrev links : List Cell
+        links =
+            tagged .mark LINK (procedureAt (g .procedures) (s .at .row)) ∷ tagged .mark LINK (s .at .row + 1)
+            ∷ tagged .mark LINK (s .at .base) ∷ []
+
+        abbrev frame : Frame
+        frame = record {
+          procedure = q;
+          caller = procedureAt (g .procedures) (s .at .row);
+          back = s .at .row + 1;
+          callers-base = s .at .base;
+          slots = p .slots ++ own-locals .slots;
+        }
+
+        frame-slots : Matched (Slot g (sound .newest ∷ sound .others)) (rowsFrom first (claimedBy (rowAt (g .procedures) q))) (frame .slots)
+        unfolding claimedBy
+        frame-slots = rw (rows-both first count (rowAt (g .procedures) q .c)) (matched-both (p .slotted) (own-locals .slotted))
+
+        frame-stack : Stack g (frame ∷ sound .newest ∷ sound .others)
+        frame-stack =
+            a-frame (sound .stack) exists
+            (is-called (s .at .row) call named (sound .inside) behind caller refl (sound .begins)) frame-slots
+
+        frame-fits : Matched Fits (links ++ (p .arguments ++ locals)) (frameWants g frame)
+        unfolding frameWants tagged
+        frame-fits =
+            let slots : Matched Fits (p .arguments ++ locals) (joined (p .slots ++ own-locals .slots)) =
+            rw (joined-both (p .slots) (own-locals .slots)) (matched-both (p .fits) (own-locals .fits)) in
+            one-more (fits-exactly refl refl) (one-more (fits-exactly refl refl) (one-more (fits-exactly refl refl) slots))
+
+        frame-length : length (links ++ (p .arguments ++ locals)) ≡ frameSize (g .types) (g .fields) (g .variables) (g .procedures) q
+        frame-length = matched-length frame-fits ∙ slots-length g ok frame-stack
+
+        abbrev zeroed : List Cell
+        zeroed = overwrite cells (s .at .top + (3 + roomFrom (g .types) (g .fields) (g .variables) first count)) locals
+
+        zeroed-room : s .at .top + 3 + length (p .arguments) + length locals ≤ length cells
+        zeroed-room =
+            let size = frame-length in
+            let many = p .above .as-many in
+            omega (arith, length-append (p .arguments) locals)
+
+        zeroed-at : s .at .top + (3 + roomFrom (g .types) (g .fields) (g .variables) first count) ≡ s .at .top + 3 + length (p .arguments)
+        zeroed-at = omega (arith, p .filled)
+
+        zeroed-part : Part zeroed (s .at .top + 3) (p .arguments ++ locals)
+        zeroed-part = rw zeroed-at (part-put cells (p .arguments) locals (s .at .top + 3) (p .placed) zeroed-room)
+
+        zeroed-length : length zeroed ≡ length (s .cells)
+        zeroed-length =
+            rw zeroed-at (put-length cells locals (s .at .top + 3 + length (p .arguments)) zeroed-room) ∙ p .above .as-many
+
+        zeroed-below : take (s .at .top) zeroed ≡ take (s .at .top) (s .cells)
+        zeroed-below =
+            let room = zeroed-room in
+            rw zeroed-at (put-above cells locals (s .at .top + 3 + length (p .arguments)) (s .at .top) (omega arith) (omega arith))
+            ∙ p .above .same-below
+
+        final-length : length (overwrite zeroed (s .at .top) links) ≡ length (s .cells)
+        final-length =
+            let size = frame-length in
+            let many = zeroed-length in
+            put-length zeroed links (s .at .top) (omega (arith, length-append links (p .arguments ++ locals))) ∙ many
+
+        final-holds : Matched Fits (take (s .at .top + frameSize (g .types) (g .fields) (g .variables) (g .procedures) q) (overwrite zeroed (s .at .top) links))
+            (wants g (frame ∷ sound .newest ∷ sound .others))
+        unfolding wants
+        final-holds =
+            let many = zeroed-length in
+            let stored = sound .stored in
+            rw (frame-cells zeroed links (p .arguments ++ locals) (s .at .top) (frameSize (g .types) (g .fields) (g .variables) (g .procedures) q) (omega arith) frame-length zeroed-part, zeroed-below)
+            (matched-both (sound .holding) frame-fits)
+
+        entered-sound : Sound g (record {
+          at = record {
+            row = rowAt (g .procedures) q .a;
+            base = s .at .top;
+            top = s .at .top + frameSize (g .types) (g .fields) (g .variables) (g .procedures) q;
+            read = s .at .read;
+            written = s .at .written;
+          };
+          cells = overwrite zeroed (s .at .top) links;
+          output = s .output;
+        })
+        entered-sound =
+            let start = start-in (g .variables) (g .procedures) (g .statements) (ok .procedures) q exists in
+            let end = sound .ends in
+            let many = final-length in
+            let lent = sound .lent in
+            let next = room-next g ok frame-stack in
+            record {
+              newest = frame;
+              others = sound .newest ∷ sound .others;
+              stack = frame-stack;
+              holding = final-holds;
+              inside = record { procedure = start .procedure; start = start .start; end = start .end };
+              begins = end;
+              ends = omega arith;
+              stored = omega arith;
+              lent = omega arith;
+            }
+
+        entered-ok : NextOk g s (entered tagged g q (rowAt (g .procedures) q) (over cells))
+        unfolding entered
+        entered-ok = ok-goes entered-sound final-length refl
+
+      -- ---- the call
+
+      call-row : CallRow (g .nodes) (g .procedures) (rowAt (g .statements) (s .at .row))
+      call-row = call-is (g .nodes) (g .procedures) (g .statements) (ok .questions .statements) (s .at .row) row-there call
+
+      argument-there : (j : ℕ) → j < count → isArgument (g .nodes) (rowAt (g .statements) (s .at .row) .b + j) ≡ true
+      argument-there j less =
+          let counted : rowAt (g .procedures) (rowAt (g .statements) (s .at .row) .a) .b ≡ count =
+          ap (λ x. rowAt (g .procedures) x .b) named in
+          call-row .arguments .each (rowAt (g .statements) (s .at .row) .b + j) (omega arith) (omega arith)
+
+      argument-ruled : (j : ℕ) → j < count
+          → ArgumentRuled (g .types) (g .fields) (g .variables) (g .procedures) (g .nodes) (sound .newest .procedure)
+          (rowAt (g .statements) (s .at .row) .b + j) (first + j)
+      argument-ruled j less =
+          let counted : rowAt (g .procedures) (rowAt (g .statements) (s .at .row) .a) .b ≡ count =
+          ap (λ x. rowAt (g .procedures) x .b) named in
+          let ruled = call-ruled (g .types) (g .fields) (g .variables) (g .procedures) (g .nodes) (g .statements) (ok .questions .rules)
+          (s .at .row) row-there call in
+          rw (caller, named) at (ruled .argument j (omega arith))
+
+      -- n more arguments, where j are passed
+      passed-ok : (n j k a : ℕ) → j + n ≡ count → k ≡ rowAt (g .statements) (s .at .row) .b + j → a ≡ first + j
+          → (cells : List Cell) → Passing j cells
+          → NextOk g s (passed tagged g k a n (over cells) (entered tagged g q (rowAt (g .procedures) q)))
+      unfolding passed withCells claimedBy
+      passed-ok zero j k a e from to cells p = let all : j ≡ count = omega arith in entered-ok cells (rw all at p)
+      passed-ok (suc n) j k a e from to cells p =
+          rw (from, to)
+          (argument-ok (rowAt (g .statements) (s .at .row) .b + j) (first + j) (variable-there j (omega arith))
+          (ok .procedures .row q exists .parameters .each (first + j) (omega arith) (omega arith))
+          (argument-there j (omega arith)) (argument-ruled j (omega arith)) cells (p .above) _
+          λ new ws slot matched.
+          passed-ok n (j + 1) (rowAt (g .statements) (s .at .row) .b + j + 1) (first + j + 1) (omega arith) (omega arith) (omega arith) _
+          (passing-next j (omega arith) cells p new ws slot matched))
+
+  -- the procedure of a call
+  callee-there : rowAt (g .statements) (s .at .row) .kind ≡ 1 → rowAt (g .statements) (s .at .row) .a < rowsOf (g .procedures)
+  callee-there call =
+      let within = end-within (g .variables) (g .procedures) (g .statements) (ok .procedures) (sound .newest .procedure) (sound .inside .procedure) in
+      let end = sound .inside .end in
+      call-is (g .nodes) (g .procedures) (g .statements) (ok .questions .statements) (s .at .row) (omega arith) call .procedure
+
+  -- a call goes on to a sound state or ends in a trap
+  pub called-ok : rowAt (g .statements) (s .at .row) .kind ≡ 1
+      → NextOk g s (called tagged g (rowAt (g .statements) (s .at .row)) s)
+  unfolding called
+  called-ok call =
+      let q : ℕ = rowAt (g .statements) (s .at .row) .a in
+      let there = callee-there call in
+      either-ok g s _ (λ e. ok-trapped (above-unchanged (s .cells) (record { as-many = refl; same-below = refl }))) λ e.
+      let fitting : s .at .top + frameSize (g .types) (g .fields) (g .variables) (g .procedures) q ≤ length (s .cells) = ltb-false _ _ e in
+      passed-ok q there fitting call refl (rowAt (g .procedures) q .b) 0 (rowAt (g .statements) (s .at .row) .b)
+      (firstVariable (g .variables) (g .procedures) q) (omega arith) (omega arith) (omega arith) (s .cells) (passing-none q there fitting)
