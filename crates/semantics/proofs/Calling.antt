@@ -365,92 +365,92 @@ module _ (g : Program) (ok : AcceptedTables (g .types) (g .fields) (g .variables
       (ruled : ArgumentRuled (g .types) (g .fields) (g .variables) (g .procedures) (g .nodes) (sound .newest .procedure) k a)
       (cells : List Cell) (above : Above cells) (next : List Cell → Next Cell)
       (more : (new : List Cell) (ws : List Want) → Slot g (sound .newest ∷ sound .others) a ws → Matched Fits new ws → NextOk g s (next new))
-      where
-    within : k < rowsOf (g .nodes)
-    within = argument-within (g .nodes) k argument
+    where
+      within : k < rowsOf (g .nodes)
+      within = argument-within (g .nodes) k argument
 
-    kind : rowAt (g .nodes) k .kind ≡ 8
-    kind = argument-kind (g .nodes) k argument
+      kind : rowAt (g .nodes) k .kind ≡ 8
+      kind = argument-kind (g .nodes) k argument
 
-    passed-row : ruled .passed < rowsOf (g .types)
-    passed-row =
-        type-low (g .types) (g .fields) (g .variables) (g .nodes) (ok .questions .types) (ok .scalars) (ok .questions .variables)
-        (ok .questions .nodes) k (ruled .passed) (ruled .passed-type)
+      passed-row : ruled .passed < rowsOf (g .types)
+      passed-row =
+          type-low (g .types) (g .fields) (g .variables) (g .nodes) (ok .questions .types) (ok .scalars) (ok .questions .variables)
+          (ok .questions .nodes) k (ruled .passed) (ruled .passed-type)
 
-    found : isDesignator (g .nodes) (rowAt (g .nodes) k .a) ≡ true
-        → FoundOk g (sound .newest ∷ sound .others) (ruled .passed) (findOf tagged g (s .at .base) (s .at .top) cells k)
-    found d =
-        find-ok g ok bytes (over cells) (above-sound cells above) k (ruled .passed) within (ruled .passed-type) (ruled .own)
-        (as-argument kind d)
+      found : isDesignator (g .nodes) (rowAt (g .nodes) k .a) ≡ true
+          → FoundOk g (sound .newest ∷ sound .others) (ruled .passed) (findOf tagged g (s .at .base) (s .at .top) cells k)
+      found d =
+          find-ok g ok bytes (over cells) (above-sound cells above) k (ruled .passed) within (ruled .passed-type) (ruled .own)
+          (as-argument kind d)
 
-    extended : (place : Place) → place .declared ≡ ruled .passed → extends (g .types) (place .dynamic) (place .declared) ≡ true
-        → extends (g .types) (place .dynamic) (rowAt (g .variables) a .a) ≡ true
-    extended place d e =
-        extends-trans (g .types) (place .dynamic) (ruled .passed) (rowAt (g .variables) a .a) (rw d at e) (ruled .extension)
+      extended : (place : Place) → place .declared ≡ ruled .passed → extends (g .types) (place .dynamic) (place .declared) ≡ true
+          → extends (g .types) (place .dynamic) (rowAt (g .variables) a .a) ≡ true
+      extended place d e =
+          extends-trans (g .types) (place .dynamic) (ruled .passed) (rowAt (g .variables) a .a) (rw d at e) (ruled .extension)
 
-    -- "A VAR argument passes its object's address and dynamic type."
-    reference-ok : rowAt (g .variables) a .kind ≡ 3
-        → NextOk g s (onPlace (over cells) (findOf tagged g (s .at .base) (s .at .top) cells k)
-        λ place. next (tagged .mark ADDRESS (place .address) ∷ tagged .mark TYPE (place .dynamic) ∷ []))
-    unfolding tagged
-    reference-ok var =
-        place-ok g s (above-unchanged cells above) _ (found (ruled .designator var)) λ place d e o.
-        more _ (exactly ADDRESS (place .address) ∷ exactly TYPE (place .dynamic) ∷ []) (by-reference var o (extended place d e))
-        (one-more (fits-exactly refl refl) (one-more (fits-exactly refl refl) no-more))
+      -- "A VAR argument passes its object's address and dynamic type."
+      reference-ok : rowAt (g .variables) a .kind ≡ 3
+          → NextOk g s (onPlace (over cells) (findOf tagged g (s .at .base) (s .at .top) cells k)
+          λ place. next (tagged .mark ADDRESS (place .address) ∷ tagged .mark TYPE (place .dynamic) ∷ []))
+      unfolding tagged
+      reference-ok var =
+          place-ok g s (above-unchanged cells above) _ (found (ruled .designator var)) λ place d e o.
+          more _ (exactly ADDRESS (place .address) ∷ exactly TYPE (place .dynamic) ∷ []) (by-reference var o (extended place d e))
+          (one-more (fits-exactly refl refl) (one-more (fits-exactly refl refl) no-more))
 
-    -- a scalar's value
-    scalar-ok : rowAt (g .variables) a .kind ≤ 2 → rowAt (g .variables) a .a ≤ 2
-        → NextOk g s (onValue (over cells) (evalOf tagged g (s .at .base) (s .at .top) cells k) λ v. next (tagged .put v ∷ []))
-    unfolding valuesOf
-    scalar-ok plain few =
-        let same-type : ruled .passed ≡ rowAt (g .variables) a .a =
-        scalar-extended (g .types) (g .fields) (ok .types) (extends-yes (g .types) _ _ (ruled .extension)) passed-row few in
-        let values : valuesOf g (rowAt (g .variables) a .a) ≡ any-value (rowAt (g .variables) a .a) ∷ [] =
-        ap (map any-value) (scalar-values (g .types) (g .fields) (ok .types) (rowAt (g .variables) a .a) (omega arith) (ok .variable a there .typed)) in
-        let slot : Slot g (sound .newest ∷ sound .others) a (valuesOf g (rowAt (g .variables) a .a)) = by-value plain in
-        value-ok g s (above-unchanged cells above) _
-        (eval-ok g ok bytes (over cells) (above-sound cells above) k (ruled .passed) within (ruled .passed-type) (ruled .own) (omega arith))
-        λ v e h. more _ (any-value (rowAt (g .variables) a .a) ∷ []) (rw values at slot) (one-more (put-fits (e ∙ same-type) h) no-more)
+      -- a scalar's value
+      scalar-ok : rowAt (g .variables) a .kind ≤ 2 → rowAt (g .variables) a .a ≤ 2
+          → NextOk g s (onValue (over cells) (evalOf tagged g (s .at .base) (s .at .top) cells k) λ v. next (tagged .put v ∷ []))
+      unfolding valuesOf
+      scalar-ok plain few =
+          let same-type : ruled .passed ≡ rowAt (g .variables) a .a =
+          scalar-extended (g .types) (g .fields) (ok .types) (extends-yes (g .types) _ _ (ruled .extension)) passed-row few in
+          let values : valuesOf g (rowAt (g .variables) a .a) ≡ any-value (rowAt (g .variables) a .a) ∷ [] =
+          ap (map any-value) (scalar-values (g .types) (g .fields) (ok .types) (rowAt (g .variables) a .a) (omega arith) (ok .variable a there .typed)) in
+          let slot : Slot g (sound .newest ∷ sound .others) a (valuesOf g (rowAt (g .variables) a .a)) = by-value plain in
+          value-ok g s (above-unchanged cells above) _
+          (eval-ok g ok bytes (over cells) (above-sound cells above) k (ruled .passed) within (ruled .passed-type) (ruled .own) (omega arith))
+          λ v e h. more _ (any-value (rowAt (g .variables) a .a) ∷ []) (rw values at slot) (one-more (put-fits (e ∙ same-type) h) no-more)
 
-    -- another object's cells
-    holds : 3 ≤ rowAt (g .variables) a .a → isDesignator (g .nodes) (rowAt (g .nodes) k .a) ≡ true
-    holds many =
-        let low = extends-low (extends-yes (g .types) (ruled .passed) (rowAt (g .variables) a .a) (ruled .extension)) in
-        let child = argument-is (g .types) (g .variables) (g .nodes) (ok .questions .nodes) k within kind .holds .node in
-        let type = argument-typed (g .types) (g .fields) (g .variables) (g .nodes) (ok .questions .nodes) k within (ruled .passed-type) kind in
-        designator-typed (g .types) (g .fields) (g .variables) (g .nodes) (ok .questions .nodes) (rowAt (g .nodes) k .a) (child .within)
-        (typed-node (g .types) (g .fields) (g .variables) (g .nodes) (ok .questions .nodes) (rowAt (g .nodes) k .a) (child .within) type)
-        (omega arith) (child .plain)
+      -- another object's cells
+      holds : 3 ≤ rowAt (g .variables) a .a → isDesignator (g .nodes) (rowAt (g .nodes) k .a) ≡ true
+      holds many =
+          let low = extends-low (extends-yes (g .types) (ruled .passed) (rowAt (g .variables) a .a) (ruled .extension)) in
+          let child = argument-is (g .types) (g .variables) (g .nodes) (ok .questions .nodes) k within kind .holds .node in
+          let type = argument-typed (g .types) (g .fields) (g .variables) (g .nodes) (ok .questions .nodes) k within (ruled .passed-type) kind in
+          designator-typed (g .types) (g .fields) (g .variables) (g .nodes) (ok .questions .nodes) (rowAt (g .nodes) k .a) (child .within)
+          (typed-node (g .types) (g .fields) (g .variables) (g .nodes) (ok .questions .nodes) (rowAt (g .nodes) k .a) (child .within) type)
+          (omega arith) (child .plain)
 
-    copied-ok : rowAt (g .variables) a .kind ≤ 2 → 3 ≤ rowAt (g .variables) a .a
-        → NextOk g s (onPlace (over cells) (findOf tagged g (s .at .base) (s .at .top) cells k)
-        λ place. onPart (over cells) (place .address) (sizeOf (g .types) (g .fields) (rowAt (g .variables) a .a)) next)
-    copied-ok plain many =
-        place-ok g s (above-unchanged cells above) _ (found (holds many)) λ place d e o.
-        let r : ℕ = rowAt (g .variables) a .a in
-        let size = values-length g ok r (ok .variable a there .typed) in
-        let part = object-front g ok r (sound .stack) o (extended place d e) in
-        let matched = matched-part (above-sound cells above .holding) part in
-        let end = part-ends part in
-        let top = sound .ends in
-        let low : place .address + sizeOf (g .types) (g .fields) r ≤ s .at .top = omega arith in
-        part-ok g s (above-unchanged cells above) (place .address) (sizeOf (g .types) (g .fields) r) next low
-        (more _ (valuesOf g r) (by-value plain)
-        (rw (part-below cells (place .address) (sizeOf (g .types) (g .fields) r) (s .at .top) low) at (rw size at matched)))
+      copied-ok : rowAt (g .variables) a .kind ≤ 2 → 3 ≤ rowAt (g .variables) a .a
+          → NextOk g s (onPlace (over cells) (findOf tagged g (s .at .base) (s .at .top) cells k)
+          λ place. onPart (over cells) (place .address) (sizeOf (g .types) (g .fields) (rowAt (g .variables) a .a)) next)
+      copied-ok plain many =
+          place-ok g s (above-unchanged cells above) _ (found (holds many)) λ place d e o.
+          let r : ℕ = rowAt (g .variables) a .a in
+          let size = values-length g ok r (ok .variable a there .typed) in
+          let part = object-front g ok r (sound .stack) o (extended place d e) in
+          let matched = matched-part (above-sound cells above .holding) part in
+          let end = part-ends part in
+          let top = sound .ends in
+          let low : place .address + sizeOf (g .types) (g .fields) r ≤ s .at .top = omega arith in
+          part-ok g s (above-unchanged cells above) (place .address) (sizeOf (g .types) (g .fields) r) next low
+          (more _ (valuesOf g r) (by-value plain)
+          (rw (part-below cells (place .address) (sizeOf (g .types) (g .fields) r) (s .at .top) low) at (rw size at matched)))
 
-    parameter-kind : (rowAt (g .variables) a .kind ≡ 3 → ⊥) → rowAt (g .variables) a .kind ≤ 2
-    unfolding kindWithin
-    parameter-kind other =
-        let most : rowAt (g .variables) a .kind ≤ 3 = leb-true _ _ (also-true _ _ parameter .1) in
-        omega arith
+      parameter-kind : (rowAt (g .variables) a .kind ≡ 3 → ⊥) → rowAt (g .variables) a .kind ≤ 2
+      unfolding kindWithin
+      parameter-kind other =
+          let most : rowAt (g .variables) a .kind ≤ 3 = leb-true _ _ (also-true _ _ parameter .1) in
+          omega arith
 
-    argument-ok : NextOk g s (argumentCells tagged g (over cells) k (rowAt (g .variables) a) next)
-    unfolding argumentCells
-    argument-ok =
-        either-ok g s (eqb (rowAt (g .variables) a .kind) 3) (λ e. reference-ok (eqb-true _ _ e)) λ e.
-        let plain = parameter-kind (eqb-false _ _ e) in
-        either-ok g s (leb (rowAt (g .variables) a .a) 2) (λ l. scalar-ok plain (leb-true _ _ l)) λ l.
-        copied-ok plain (leb-false _ _ l)
+      argument-ok : NextOk g s (argumentCells tagged g (over cells) k (rowAt (g .variables) a) next)
+      unfolding argumentCells
+      argument-ok =
+          either-ok g s (eqb (rowAt (g .variables) a .kind) 3) (λ e. reference-ok (eqb-true _ _ e)) λ e.
+          let plain = parameter-kind (eqb-false _ _ e) in
+          either-ok g s (leb (rowAt (g .variables) a .a) 2) (λ l. scalar-ok plain (leb-true _ _ l)) λ l.
+          copied-ok plain (leb-false _ _ l)
 
   -- ---- all arguments
 

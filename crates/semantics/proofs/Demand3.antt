@@ -31,6 +31,7 @@ use Rattle.semantics.specs.Sound.{Sound}
 use Rattle.semantics.specs.After.{Machine, Machine.running, Machine.over, Machine.failed, moved, after}
 use Rattle.semantics.proofs.Kept.{Unchanged, NextOk, NextOk.ok-goes, NextOk.ok-finished, NextOk.ok-trapped}
 use Rattle.semantics.proofs.Beginning.{fresh-sound}
+use Rattle.semantics.proofs.AnyStep.{step-ok}
 
 -- the machine is in a sound state whose next step goes on to a sound one, finishes or traps; or its last step, from a sound
 -- state, finished, or trapped and changed nothing below top. It is not lost.
@@ -72,31 +73,28 @@ unchanged-sound sound same = record {
 
 -- ---- the claim
 
-module _ (step-ok : (g : Program)
-    → AcceptedTables (g .types) (g .fields) (g .variables) (g .procedures) (g .nodes) (g .statements)
-    → Bytes (g .nodes) → (s : State Cell) → Sound g s → (input : List ℤ) → NextOk g s (stepOf tagged g input s)) where
-  module _ (g : Program) (ok : AcceptedTables (g .types) (g .fields) (g .variables) (g .procedures) (g .nodes) (g .statements))
-      (bytes : Bytes (g .nodes)) (input : List ℤ) where
-    step-sound : (s : State Cell) → Sound g s → (x : Next Cell) → stepOf tagged g input s ≡ x → NextOk g s x
-        → (more : State Cell → Machine Cell) → ((u : State Cell) → Sound g u → SoundAfter g input (more u))
-        → SoundAfter g input (moved x s more)
-    unfolding moved
-    step-sound s sound x e (ok-goes {s′ = u} next cells output) more f = f u next
-    step-sound s sound x e ok-finished more f = sound-over sound e
-    step-sound s sound x e (ok-trapped same) more f = sound-failed sound e same (unchanged-sound sound same)
+module _ (g : Program) (ok : AcceptedTables (g .types) (g .fields) (g .variables) (g .procedures) (g .nodes) (g .statements))
+    (bytes : Bytes (g .nodes)) (input : List ℤ) where
+  step-sound : (s : State Cell) → Sound g s → (x : Next Cell) → stepOf tagged g input s ≡ x → NextOk g s x
+      → (more : State Cell → Machine Cell) → ((u : State Cell) → Sound g u → SoundAfter g input (more u))
+      → SoundAfter g input (moved x s more)
+  unfolding moved
+  step-sound s sound x e (ok-goes {s′ = u} next cells output) more f = f u next
+  step-sound s sound x e ok-finished more f = sound-over sound e
+  step-sound s sound x e (ok-trapped same) more f = sound-failed sound e same (unchanged-sound sound same)
 
-    machine-sound : (n : ℕ) (s : State Cell) → Sound g s → SoundAfter g input (after tagged g input n s)
-    unfolding after
-    machine-sound zero s sound = sound-running sound (step-ok g ok bytes s sound input)
-    machine-sound (suc n) s sound =
-        step-sound s sound (stepOf tagged g input s) refl (step-ok g ok bytes s sound input) (after tagged g input n)
-        (λ u h. machine-sound n u h)
+  machine-sound : (n : ℕ) (s : State Cell) → Sound g s → SoundAfter g input (after tagged g input n s)
+  unfolding after
+  machine-sound zero s sound = sound-running sound (step-ok g ok bytes s sound input)
+  machine-sound (suc n) s sound =
+      step-sound s sound (stepOf tagged g input s) refl (step-ok g ok bytes s sound input) (after tagged g input n)
+      (λ u h. machine-sound n u h)
 
-  -- "Demand 3 is a single claim, about every number of steps from the fresh state"
-  pub sound-after : (image : List ℕ) → Bytes image → checkOf image ≡ Accepted
-      → (input store output : List ℤ) → length store ≤ 65536 → firstTop (programOf image) ≤ length store
-      → (n : ℕ) → SoundAfter (programOf image) input (after tagged (programOf image) input n (fresh tagged (programOf image) store output))
-  sound-after image bytes accepted input store output most least n =
-      let ok = program-accepted image accepted in
-      machine-sound (programOf image) ok (program-bytes image bytes) input n _
-      (fresh-sound (programOf image) ok store output most least)
+-- "Demand 3 is a single claim, about every number of steps from the fresh state"
+pub sound-after : (image : List ℕ) → Bytes image → checkOf image ≡ Accepted
+    → (input store output : List ℤ) → length store ≤ 65536 → firstTop (programOf image) ≤ length store
+    → (n : ℕ) → SoundAfter (programOf image) input (after tagged (programOf image) input n (fresh tagged (programOf image) store output))
+sound-after image bytes accepted input store output most least n =
+    let ok = program-accepted image accepted in
+    machine-sound (programOf image) ok (program-bytes image bytes) input n _
+    (fresh-sound (programOf image) ok store output most least)

@@ -8,6 +8,7 @@ pub mod Evaluating
 pub mod Kept
 pub mod Performing
 pub mod Calling
+pub mod AnyStep
 pub mod Beginning
 pub mod Demand3
 pub mod Outcomes

@@ -29,6 +29,7 @@ use Rattle.semantics.specs.After.{Machine, Machine.running, moved, after
 use Rattle.semantics.proofs.Simulation.{eraseEnded, run-follows, fresh-erased}
 use Rattle.semantics.proofs.Kept.{Unchanged, NextOk, NextOk.ok-goes, NextOk.ok-finished, NextOk.ok-trapped}
 use Rattle.semantics.proofs.Beginning.{fresh-sound, fresh-length}
+use Rattle.semantics.proofs.AnyStep.{step-ok}
 use Rattle.semantics.proofs.Demand3.{SoundAfter, SoundAfter.sound-running, SoundAfter.sound-over}
 use Rattle.semantics.proofs.Demand3.{SoundAfter.sound-failed, program-accepted, program-bytes, sound-after}
 
@@ -132,124 +133,121 @@ refusal-none image store e =
 
 -- ---- what follows from demand 3
 
-module _ (step-ok : (g : Program)
-    → AcceptedTables (g .types) (g .fields) (g .variables) (g .procedures) (g .nodes) (g .statements)
-    → Bytes (g .nodes) → (s : State Cell) → Sound g s → (input : List ℤ) → NextOk g s (stepOf tagged g input s)) where
-  module _ (g : Program) (ok : AcceptedTables (g .types) (g .fields) (g .variables) (g .procedures) (g .nodes) (g .statements))
-      (bytes : Bytes (g .nodes)) (input : List ℤ) where
-    run-room : (n k : ℕ) (s : State Cell) → Sound g s → SameRoom s (runFrom tagged g input n k s .state)
-    unfolding runFrom onward
-    run-room zero k s sound = record { cells = refl; output = refl }
-    run-room (suc n) k s sound =
-        go (stepOf tagged g input s) (step-ok g ok bytes s sound input) (λ u h. run-room n (k + 1) u h)
-      where
-        go : (x : Next Cell) → NextOk g s x
-            → ((u : State Cell) → Sound g u → SameRoom u (runFrom tagged g input n (k + 1) u .state))
-            → SameRoom s (onward x s (k + 1) (λ u. runFrom tagged g input n (k + 1) u) .state)
-        go x (ok-goes {s′ = u} next cells output) later =
-            let rest = later u next in
-            record { cells = rest .cells ∙ cells; output = rest .output ∙ output }
-        go x ok-finished later = record { cells = refl; output = refl }
-        go x (ok-trapped same) later = record { cells = same .cells; output = rw (same .output) }
-
-  module _ (image : List ℕ) (bytes : Bytes image) (accepted : checkOf image ≡ Accepted) (input store output : List ℤ)
-      (most : length store ≤ 65536) (least : firstTop (programOf image) ≤ length store) (steps : ℕ) where
-    abbrev first : State Cell
-    first = fresh tagged (programOf image) store output
-
-    ran : Reported (programOf image) input steps 0 first (ranOf image input store output steps)
-    unfolding ranOf
-    ran = reported (programOf image) input steps 0 first
-
-    -- a state that the machine reached is sound, and so is its next step
-    running-sound : (d : ℕ) (u : State Cell) → after tagged (programOf image) input d first ≡ running u
-        → Sound (programOf image) u × NextOk (programOf image) u (stepOf tagged (programOf image) input u)
-    running-sound d u r = go (after tagged (programOf image) input d first) r (sound-after step-ok image bytes accepted input store output most least d)
-      where
-        go : (x : Machine Cell) → x ≡ running u → SoundAfter (programOf image) input x
-            → Sound (programOf image) u × NextOk (programOf image) u (stepOf tagged (programOf image) input u)
-        go x e (sound-running {s = s} sound next) = let same : s ≡ u = cc in (rw same at sound, rw same at next)
-        go x e (sound-over sound step) = let z : _≡_ {A = ℕ} 0 1 = cc in absurd (omega arith)
-        go x e (sound-failed sound step same left) = let z : _≡_ {A = ℕ} 0 1 = cc in absurd (omega arith)
-
-    -- a run is never stuck
-    pub never-stuck : ranOf image input store output steps .outcome ≡ 3 → ⊥
-    never-stuck = go ran
-      where
-        go : {e : Ended Cell} → Reported (programOf image) input steps 0 first e → e .outcome ≡ 3 → ⊥
-        go (used-up c r) three = absurd (omega arith)
-        go (finishes d low c r x) three = absurd (omega arith)
-        go (traps d low c r x) three = absurd (omega arith)
-        go (sticks {u = u} d low c r x) three = stuck-not (rw x at (running-sound d u r .1))
-          where
-            stuck-not : NextOk (programOf image) u stuck → ⊥
-            stuck-not h = elim h [ ]
-
-    -- "After any trap nothing below top, no output and no count but steps has changed, and row, base and top stay."
-    pub trap-unchanged : ranOf image input store output steps .outcome ≡ 2
-        → TrappedIn (programOf image) input first (ranOf image input store output steps)
-    trap-unchanged = go ran
-      where
-        left : {u v : State Cell} {t : Trap} {z : ℤ} → NextOk (programOf image) u (trapped t z v) → Unchanged u v
-        left (ok-trapped same) = same
-
-        go : {e : Ended Cell} → Reported (programOf image) input steps 0 first e → e .outcome ≡ 2 → TrappedIn (programOf image) input first e
-        go (used-up c r) two = absurd (omega arith)
-        go (finishes d low c r x) two = absurd (omega arith)
-        go (traps {u = u} d low c r x) two =
-            let (sound, next) = running-sound d u r in
-            record {
-              before = u;
-              others = d;
-              count = omega arith;
-              reached = r;
-              sound = sound;
-              unchanged = left (rw x at next);
-            }
-        go (sticks d low c r x) two = absurd (omega arith)
-
-    -- the bare machine, on the numbers alone, does the same
-    pub ran-bare : runFrom bare (programOf image) input steps 0 (fresh bare (programOf image) store output)
-        ≡ eraseEnded (ranOf image input store output steps)
-    unfolding ranOf
-    ran-bare =
-        rw (fresh-erased (programOf image) store output)
-        (run-follows (programOf image) input steps 0 first never-stuck)
-
-    -- a run leaves as many cells and outputs as it was lent
-    pub ran-cells : length (ranOf image input store output steps .state .cells) ≡ length store
-    unfolding ranOf fresh
-    ran-cells =
-        let ok = program-accepted image accepted in
-        run-room (programOf image) ok (program-bytes image bytes) input steps 0 first
-        (fresh-sound (programOf image) ok store output most least) .cells
-        ∙ fresh-length (programOf image) ok store least
-
-    pub ran-output : length (ranOf image input store output steps .state .output) ≡ length output
-    unfolding ranOf fresh
-    ran-output =
-        let ok = program-accepted image accepted in
-        run-room (programOf image) ok (program-bytes image bytes) input steps 0 first
-        (fresh-sound (programOf image) ok store output most least) .output
-
-    ran-outcome : ranOf image input store output steps .outcome ≤ 2
-    ran-outcome = go ran never-stuck
-      where
-        go : {e : Ended Cell} → Reported (programOf image) input steps 0 first e → (e .outcome ≡ 3 → ⊥) → e .outcome ≤ 2
-        go (used-up c r) free = omega arith
-        go (finishes d low c r x) free = omega arith
-        go (traps d low c r x) free = omega arith
-        go (sticks d low c r x) free = absurd (free refl)
-
-  -- "outcome (0 steps used up, 1 finished, 2 trapped)": whatever the image and the store
-  pub result-outcome : (image : List ℕ) → Bytes image → (input store output : List ℤ) (steps : ℕ)
-      → resultOf image input store output steps .outcome ≤ 2
-  unfolding resultOf numbersOf refusedWith choose
-  result-outcome image bytes input store output steps = go (eqb (refusal image store) 0) refl
+module _ (g : Program) (ok : AcceptedTables (g .types) (g .fields) (g .variables) (g .procedures) (g .nodes) (g .statements))
+    (bytes : Bytes (g .nodes)) (input : List ℤ) where
+  run-room : (n k : ℕ) (s : State Cell) → Sound g s → SameRoom s (runFrom tagged g input n k s .state)
+  unfolding runFrom onward
+  run-room zero k s sound = record { cells = refl; output = refl }
+  run-room (suc n) k s sound =
+      go (stepOf tagged g input s) (step-ok g ok bytes s sound input) (λ u h. run-room n (k + 1) u h)
     where
-      go : (b : Bool) → eqb (refusal image store) 0 ≡ b
-          → choose b (numbersOf (ranOf image input store output steps)) (refusedWith (refusal image store) (rowOf (checkOf image))) .outcome ≤ 2
-      go true e =
-          let (accepted, most, least) = refusal-none image store (eqb-true _ _ e) in
-          ran-outcome image bytes accepted input store output most least steps
-      go false e = omega arith
+      go : (x : Next Cell) → NextOk g s x
+          → ((u : State Cell) → Sound g u → SameRoom u (runFrom tagged g input n (k + 1) u .state))
+          → SameRoom s (onward x s (k + 1) (λ u. runFrom tagged g input n (k + 1) u) .state)
+      go x (ok-goes {s′ = u} next cells output) later =
+          let rest = later u next in
+          record { cells = rest .cells ∙ cells; output = rest .output ∙ output }
+      go x ok-finished later = record { cells = refl; output = refl }
+      go x (ok-trapped same) later = record { cells = same .cells; output = rw (same .output) }
+
+module _ (image : List ℕ) (bytes : Bytes image) (accepted : checkOf image ≡ Accepted) (input store output : List ℤ)
+    (most : length store ≤ 65536) (least : firstTop (programOf image) ≤ length store) (steps : ℕ) where
+  abbrev first : State Cell
+  first = fresh tagged (programOf image) store output
+
+  ran : Reported (programOf image) input steps 0 first (ranOf image input store output steps)
+  unfolding ranOf
+  ran = reported (programOf image) input steps 0 first
+
+  -- a state that the machine reached is sound, and so is its next step
+  running-sound : (d : ℕ) (u : State Cell) → after tagged (programOf image) input d first ≡ running u
+      → Sound (programOf image) u × NextOk (programOf image) u (stepOf tagged (programOf image) input u)
+  running-sound d u r = go (after tagged (programOf image) input d first) r (sound-after image bytes accepted input store output most least d)
+    where
+      go : (x : Machine Cell) → x ≡ running u → SoundAfter (programOf image) input x
+          → Sound (programOf image) u × NextOk (programOf image) u (stepOf tagged (programOf image) input u)
+      go x e (sound-running {s = s} sound next) = let same : s ≡ u = cc in (rw same at sound, rw same at next)
+      go x e (sound-over sound step) = let z : _≡_ {A = ℕ} 0 1 = cc in absurd (omega arith)
+      go x e (sound-failed sound step same left) = let z : _≡_ {A = ℕ} 0 1 = cc in absurd (omega arith)
+
+  -- a run is never stuck
+  pub never-stuck : ranOf image input store output steps .outcome ≡ 3 → ⊥
+  never-stuck = go ran
+    where
+      go : {e : Ended Cell} → Reported (programOf image) input steps 0 first e → e .outcome ≡ 3 → ⊥
+      go (used-up c r) three = absurd (omega arith)
+      go (finishes d low c r x) three = absurd (omega arith)
+      go (traps d low c r x) three = absurd (omega arith)
+      go (sticks {u = u} d low c r x) three = stuck-not (rw x at (running-sound d u r .1))
+        where
+          stuck-not : NextOk (programOf image) u stuck → ⊥
+          stuck-not h = elim h [ ]
+
+  -- "After any trap nothing below top, no output and no count but steps has changed, and row, base and top stay."
+  pub trap-unchanged : ranOf image input store output steps .outcome ≡ 2
+      → TrappedIn (programOf image) input first (ranOf image input store output steps)
+  trap-unchanged = go ran
+    where
+      left : {u v : State Cell} {t : Trap} {z : ℤ} → NextOk (programOf image) u (trapped t z v) → Unchanged u v
+      left (ok-trapped same) = same
+
+      go : {e : Ended Cell} → Reported (programOf image) input steps 0 first e → e .outcome ≡ 2 → TrappedIn (programOf image) input first e
+      go (used-up c r) two = absurd (omega arith)
+      go (finishes d low c r x) two = absurd (omega arith)
+      go (traps {u = u} d low c r x) two =
+          let (sound, next) = running-sound d u r in
+          record {
+            before = u;
+            others = d;
+            count = omega arith;
+            reached = r;
+            sound = sound;
+            unchanged = left (rw x at next);
+          }
+      go (sticks d low c r x) two = absurd (omega arith)
+
+  -- the bare machine, on the numbers alone, does the same
+  pub ran-bare : runFrom bare (programOf image) input steps 0 (fresh bare (programOf image) store output)
+      ≡ eraseEnded (ranOf image input store output steps)
+  unfolding ranOf
+  ran-bare =
+      rw (fresh-erased (programOf image) store output)
+      (run-follows (programOf image) input steps 0 first never-stuck)
+
+  -- a run leaves as many cells and outputs as it was lent
+  pub ran-cells : length (ranOf image input store output steps .state .cells) ≡ length store
+  unfolding ranOf fresh
+  ran-cells =
+      let ok = program-accepted image accepted in
+      run-room (programOf image) ok (program-bytes image bytes) input steps 0 first
+      (fresh-sound (programOf image) ok store output most least) .cells
+      ∙ fresh-length (programOf image) ok store least
+
+  pub ran-output : length (ranOf image input store output steps .state .output) ≡ length output
+  unfolding ranOf fresh
+  ran-output =
+      let ok = program-accepted image accepted in
+      run-room (programOf image) ok (program-bytes image bytes) input steps 0 first
+      (fresh-sound (programOf image) ok store output most least) .output
+
+  ran-outcome : ranOf image input store output steps .outcome ≤ 2
+  ran-outcome = go ran never-stuck
+    where
+      go : {e : Ended Cell} → Reported (programOf image) input steps 0 first e → (e .outcome ≡ 3 → ⊥) → e .outcome ≤ 2
+      go (used-up c r) free = omega arith
+      go (finishes d low c r x) free = omega arith
+      go (traps d low c r x) free = omega arith
+      go (sticks d low c r x) free = absurd (free refl)
+
+-- "outcome (0 steps used up, 1 finished, 2 trapped)": whatever the image and the store
+pub result-outcome : (image : List ℕ) → Bytes image → (input store output : List ℤ) (steps : ℕ)
+    → resultOf image input store output steps .outcome ≤ 2
+unfolding resultOf numbersOf refusedWith choose
+result-outcome image bytes input store output steps = go (eqb (refusal image store) 0) refl
+  where
+    go : (b : Bool) → eqb (refusal image store) 0 ≡ b
+        → choose b (numbersOf (ranOf image input store output steps)) (refusedWith (refusal image store) (rowOf (checkOf image))) .outcome ≤ 2
+    go true e =
+        let (accepted, most, least) = refusal-none image store (eqb-true _ _ e) in
+        ran-outcome image bytes accepted input store output most least steps
+    go false e = omega arith
