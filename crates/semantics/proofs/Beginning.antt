@@ -23,7 +23,6 @@ use Rattle.shapes.proofs.Rows.{form-scalar, form-array, form-record, form-none}
 use Rattle.shapes.proofs.Layouts.{decide}
 use Rattle.frames.specs.Variables.{isGlobal, kindWithin, globalsFrom, globalsOf}
 use Rattle.frames.specs.Procedures.{claimedBy, firstVariable}
-use Rattle.places.specs.Places.{frameSize, globalCells}
 use Rattle.values.specs.Values.{cellOf, booleanCell, integerCell, isInteger, setCell, isSet}
 use Rattle.statements.proofs.Bodies.{start-in}
 use Rattle.checker.proofs.Accepted.{AcceptedTables}
@@ -33,7 +32,8 @@ use Rattle.semantics.specs.Running.{globalRoom, firstTop, freshCells, fr
 use Rattle.semantics.specs.Sound.{Want, Want.any-value, Fits, Fits.fits-value, Fits.fits-exactly}
 use Rattle.semantics.specs.Sound.{Matched, Matched.no-more, Matched.one-more}
 use Rattle.semantics.specs.Sound.{Frame, rowsFrom, valuesOf, frameWants, wants, room, Inside}
-use Rattle.semantics.specs.Sound.{Slot, Slot.by-value, Called.is-first, Stack, Stack.no-frame, Stack.a-frame, Sound}
+use Rattle.semantics.specs.Sound.{Slot, Slot.by-value, Called.is-first, Stack, Stack.no-frame, Stack.a-frame}
+use Rattle.semantics.specs.Sound.{Sound}
 use Rattle.semantics.proofs.Holding.{matched-length}
 use Rattle.semantics.proofs.Objects.{room-next, room-globals}
 
@@ -67,12 +67,14 @@ module _ (layout : ℕ → List ℕ) (scalars : (k : ℕ) → Scalars (layout k)
   unfolding layoutBy
   scalars-by f row = go (decLt (row .kind) 3) (decLt 4 (row .kind)) (decide (row .kind) 3)
     where
-      go : Dec (row .kind < 3) → Dec (4 < row .kind) → (row .kind ≡ 3) ⊎ (row .kind ≡ 3 → ⊥) → Scalars (layoutBy f layout (formOf row))
+      go : Dec (row .kind < 3) → Dec (4 < row .kind) → (row .kind ≡ 3) ⊎ (row .kind ≡ 3 → ⊥)
+          → Scalars (layoutBy f layout (formOf row))
       go (yes h) more array = rw (form-scalar row h) (a-kind {k = row .kind} (omega arith) no-kind)
       go (no h) (yes none) array = rw (form-none row none) no-kind
       go (no h) (no some) (inl array) = rw (form-array row array) (scalars-repeated (row .b) (scalars (row .a)))
       go (no h) (no some) (inr other) =
-          rw (form-record row (omega arith)) (scalars-append (scalars-base (row .a)) (scalars-joined (ownTypes f (row .b) (row .c))))
+          rw (form-record row (omega arith))
+          (scalars-append (scalars-base (row .a)) (scalars-joined (ownTypes f (row .b) (row .c))))
 
 pub layout-scalar : (t f : List ℕ) (r : ℕ) → Scalars (layoutOf t f r)
 unfolding layoutOf form
@@ -127,12 +129,14 @@ module _ (g : Program) where
   abbrev slotsFrom : ℕ → ℕ → List (List Want)
   slotsFrom k n = map (λ j. valuesOf g (rowAt (g .variables) j .a)) (rowsFrom k n)
 
-  kinds-scalar : (n k : ℕ) → ((j : ℕ) → k ≤ j → j < k + n → rowAt (g .variables) j .kind ≤ 2) → Scalars (kindsFrom g k n)
+  kinds-scalar : (n k : ℕ) → ((j : ℕ) → k ≤ j → j < k + n → rowAt (g .variables) j .kind ≤ 2)
+      → Scalars (kindsFrom g k n)
   unfolding kindsFrom
   kinds-scalar zero k low = no-kind
   kinds-scalar (suc n) k low =
       scalars-append {l = kindsOf g k}
-      (rw (kinds-value k (low k (omega arith) (omega arith))) (layout-scalar (g .types) (g .fields) (rowAt (g .variables) k .a)))
+      (rw (kinds-value k (low k (omega arith) (omega arith)))
+      (layout-scalar (g .types) (g .fields) (rowAt (g .variables) k .a)))
       (kinds-scalar n (k + 1) (λ j a b. low j (omega arith) (omega arith)))
 
   slots-matched : (n k : ℕ) → ((j : ℕ) → k ≤ j → j < k + n → rowAt (g .variables) j .kind ≤ 2)
@@ -140,21 +144,23 @@ module _ (g : Program) where
   unfolding rowsFrom
   slots-matched zero k low = no-more
   slots-matched (suc n) k low =
-      one-more (by-value (low k (omega arith) (omega arith))) (slots-matched n (k + 1) (λ j a b. low j (omega arith) (omega arith)))
+      one-more (by-value (low k (omega arith) (omega arith)))
+      (slots-matched n (k + 1) (λ j a b. low j (omega arith) (omega arith)))
 
   slots-kinds : (n k : ℕ) → ((j : ℕ) → k ≤ j → j < k + n → rowAt (g .variables) j .kind ≤ 2)
       → joined (slotsFrom k n) ≡ map any-value (kindsFrom g k n)
   unfolding rowsFrom kindsFrom joined valuesOf
   slots-kinds zero k low = refl
   slots-kinds (suc n) k low =
+      let own : List ℕ = layoutOf (g .types) (g .fields) (rowAt (g .variables) k .a) in
       rw (kinds-value k (low k (omega arith) (omega arith)))
-      (ap (λ l. map any-value (layoutOf (g .types) (g .fields) (rowAt (g .variables) k .a)) ++ l)
-      (slots-kinds n (k + 1) (λ j a b. low j (omega arith) (omega arith)))
-      ∙ sym (map-append any-value (layoutOf (g .types) (g .fields) (rowAt (g .variables) k .a)) (kindsFrom g (k + 1) n)))
+      (ap (λ l. map any-value own ++ l) (slots-kinds n (k + 1) (λ j a b. low j (omega arith) (omega arith)))
+      ∙ sym (map-append any-value own (kindsFrom g (k + 1) n)))
 
 -- ---- procedure 0's frame at G
 
-module _ (g : Program) (ok : AcceptedTables (g .types) (g .fields) (g .variables) (g .procedures) (g .nodes) (g .statements)) where
+module _ (g : Program)
+    (ok : AcceptedTables (g .types) (g .fields) (g .variables) (g .procedures) (g .nodes) (g .statements)) where
   abbrev first : ℕ
   first = firstVariable (g .variables) (g .procedures) 0
 
@@ -179,7 +185,9 @@ module _ (g : Program) (ok : AcceptedTables (g .types) (g .fields) (g .variables
 
   global-low : (j : ℕ) → 0 ≤ j → j < 0 + globalsOf (g .variables) → rowAt (g .variables) j .kind ≤ 2
   unfolding globalsOf
-  global-low j low high = let e = global-kind (g .variables) (rowsOf (g .variables)) 0 j low (omega arith) in omega arith
+  global-low j low high =
+      let e = global-kind (g .variables) (rowsOf (g .variables)) 0 j low (omega arith) in
+      omega arith
 
   first-stack : Stack g (frame ∷ [])
   first-stack = a-frame no-frame some (is-first refl refl refl refl) (slots-matched g claimed first own-low)
@@ -242,7 +250,8 @@ module _ (g : Program) (ok : AcceptedTables (g .types) (g .fields) (g .variables
         ))
 
   -- "Fresh: globals and procedure 0's frame zero, base G, top G + F0, row 0, counts 0."
-  pub fresh-sound : (store output : List ℤ) → length store ≤ 65536 → firstTop g ≤ length store → Sound g (fresh tagged g store output)
+  pub fresh-sound : (store output : List ℤ) → length store ≤ 65536 → firstTop g ≤ length store
+      → Sound g (fresh tagged g store output)
   unfolding fresh globalRoom
   fresh-sound store output most least = record {
     newest = frame;

@@ -1,5 +1,5 @@
--- Demand 3: after every number of steps from the fresh state the tagged machine's state is sound, and until it finishes or
--- traps its next step goes on, finishes, or ends in a named trap. It is never stuck.
+-- Demand 3: after every number of steps from the fresh state the tagged machine's state is sound, and until it
+-- finishes or traps its next step goes on, finishes, or ends in a named trap. It is never stuck.
 --
 -- The claim is `sound-after`. The definitions that it cites:
 --   checkOf, Accepted           checker/specs/Check: questions 1 to 11
@@ -33,8 +33,8 @@ use Rattle.semantics.proofs.Kept.{Unchanged, NextOk, NextOk.ok-goes, Ne
 use Rattle.semantics.proofs.Beginning.{fresh-sound}
 use Rattle.semantics.proofs.AnyStep.{step-ok}
 
--- the machine is in a sound state whose next step goes on to a sound one, finishes or traps; or its last step, from a sound
--- state, finished, or trapped and changed nothing below top. It is not lost.
+-- the machine is in a sound state whose next step goes on to a sound one, finishes or traps; or its last step, from a
+-- sound state, finished, or trapped and changed nothing below top. It is not lost.
 pub data SoundAfter (g : Program) (input : List ℤ) : Machine Cell → Type 0 where
   sound-running : {s : State Cell} → Sound g s → NextOk g s (stepOf tagged g input s) → SoundAfter g input (running s)
   sound-over : {s : State Cell} → Sound g s → stepOf tagged g input s ≡ finished → SoundAfter g input (over s)
@@ -48,7 +48,8 @@ module _ (image : List ℕ) where
   program = programOf image
 
   pub program-accepted : checkOf image ≡ Accepted
-      → AcceptedTables (program .types) (program .fields) (program .variables) (program .procedures) (program .nodes) (program .statements)
+      → AcceptedTables (program .types) (program .fields) (program .variables) (program .procedures) (program .nodes)
+      (program .statements)
   unfolding programOf
   program-accepted accepted = image-accepted image accepted
 
@@ -73,7 +74,8 @@ unchanged-sound sound same = record {
 
 -- ---- the claim
 
-module _ (g : Program) (ok : AcceptedTables (g .types) (g .fields) (g .variables) (g .procedures) (g .nodes) (g .statements))
+module _ (g : Program)
+    (ok : AcceptedTables (g .types) (g .fields) (g .variables) (g .procedures) (g .nodes) (g .statements))
     (bytes : Bytes (g .nodes)) (input : List ℤ) where
   step-sound : (s : State Cell) → Sound g s → (x : Next Cell) → stepOf tagged g input s ≡ x → NextOk g s x
       → (more : State Cell → Machine Cell) → ((u : State Cell) → Sound g u → SoundAfter g input (more u))
@@ -93,7 +95,8 @@ module _ (g : Program) (ok : AcceptedTables (g .types) (g .fields) (g .variables
 -- "Demand 3 is a single claim, about every number of steps from the fresh state"
 pub sound-after : (image : List ℕ) → Bytes image → checkOf image ≡ Accepted
     → (input store output : List ℤ) → length store ≤ 65536 → firstTop (programOf image) ≤ length store
-    → (n : ℕ) → SoundAfter (programOf image) input (after tagged (programOf image) input n (fresh tagged (programOf image) store output))
+    → (n : ℕ) → SoundAfter (programOf image) input
+    (after tagged (programOf image) input n (fresh tagged (programOf image) store output))
 sound-after image bytes accepted input store output most least n =
     let ok = program-accepted image accepted in
     machine-sound (programOf image) ok (program-bytes image bytes) input n _

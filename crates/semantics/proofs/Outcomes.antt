@@ -22,7 +22,7 @@ use Rattle.checker.proofs.Accepted.{AcceptedTables}
 use Rattle.semantics.specs.Memory.{Cell, tagged, bare}
 use Rattle.semantics.specs.Layout.{Program}
 use Rattle.semantics.specs.Stepping.{State, Next, Next.goes, Next.finished, Next.trapped, Next.stuck, stepOf}
-use Rattle.semantics.specs.Running.{programOf, firstTop, freshCells, fresh, Ended, onward, runFrom, refusal, ranOf}
+use Rattle.semantics.specs.Running.{programOf, firstTop, fresh, Ended, onward, runFrom, refusal, ranOf}
 use Rattle.semantics.specs.Running.{numbersOf, refusedWith, resultOf}
 use Rattle.semantics.specs.Sound.{Sound}
 use Rattle.semantics.specs.After.{Machine, Machine.running, moved, after}
@@ -35,7 +35,7 @@ use Rattle.semantics.proofs.Demand3.{SoundAfter.sound-failed, program-a
 
 -- ---- what a run reports
 
--- a run of at most n steps that trapped: the state before its last step, which is the machine's after the others, and which
+-- a run from s that trapped: the state before its last step, which is the machine's after the other steps, and which
 -- the trap left as it was
 pub record TrappedIn (g : Program) (input : List ℤ) (s : State Cell) (e : Ended Cell) : Type 0 where
   pub before : State Cell
@@ -45,16 +45,16 @@ pub record TrappedIn (g : Program) (input : List ℤ) (s : State Cell) (e : Ende
   pub sound : Sound g before
   pub unchanged : Unchanged before (e .state)
 
--- The run of n steps from s, where k were done before: its steps are used up, or it ended with a step from a state that the
--- machine reached.
+-- a run of n steps from s, where k were done before: its steps are used up, or it ended with a step from a state that
+-- the machine had reached
 pub data Reported (g : Program) (input : List ℤ) (n k : ℕ) (s : State Cell) : Ended Cell → Type 0 where
   used-up : {u : State Cell} {c : ℕ} → c ≡ k + n → after tagged g input n s ≡ running u
       → Reported g input n k s (record { outcome = 0; trap = 0; halt = pos 0; steps = c; state = u })
   finishes : {u : State Cell} {c : ℕ} (d : ℕ) → d < n → c ≡ k + suc d → after tagged g input d s ≡ running u
       → stepOf tagged g input u ≡ finished
       → Reported g input n k s (record { outcome = 1; trap = 0; halt = pos 0; steps = c; state = u })
-  traps : {t : Trap} {z : ℤ} {u v : State Cell} {c : ℕ} (d : ℕ) → d < n → c ≡ k + suc d → after tagged g input d s ≡ running u
-      → stepOf tagged g input u ≡ trapped t z v
+  traps : {t : Trap} {z : ℤ} {u v : State Cell} {c : ℕ} (d : ℕ) → d < n → c ≡ k + suc d
+      → after tagged g input d s ≡ running u → stepOf tagged g input u ≡ trapped t z v
       → Reported g input n k s (record { outcome = 2; trap = trapNumber t; halt = z; steps = c; state = v })
   sticks : {u : State Cell} {c : ℕ} (d : ℕ) → d < n → c ≡ k + suc d → after tagged g input d s ≡ running u
       → stepOf tagged g input u ≡ stuck
@@ -62,12 +62,13 @@ pub data Reported (g : Program) (input : List ℤ) (n k : ℕ) (s : State Cell) 
 
 module _ (g : Program) (input : List ℤ) where
   -- one step more
-  after-goes : (n : ℕ) (s u : State Cell) → stepOf tagged g input s ≡ goes u → after tagged g input (suc n) s ≡ after tagged g input n u
+  after-goes : (n : ℕ) (s u : State Cell) → stepOf tagged g input s ≡ goes u
+      → after tagged g input (suc n) s ≡ after tagged g input n u
   unfolding after moved
   after-goes n s u e = rw e
 
-  reported-later : (n k : ℕ) (s u : State Cell) {e : Ended Cell} → stepOf tagged g input s ≡ goes u → Reported g input n (k + 1) u e
-      → Reported g input (suc n) k s e
+  reported-later : (n k : ℕ) (s u : State Cell) {e : Ended Cell} → stepOf tagged g input s ≡ goes u
+      → Reported g input n (k + 1) u e → Reported g input (suc n) k s e
   reported-later n k s u step (used-up {c = c} count r) = used-up {c = c} (omega arith) (after-goes n s u step ∙ r)
   reported-later n k s u step (finishes {c = c} d low count r x) =
       finishes {c = c} (suc d) (omega arith) (omega arith) (after-goes d s u step ∙ r) x
@@ -76,7 +77,8 @@ module _ (g : Program) (input : List ℤ) where
   reported-later n k s u step (sticks {c = c} d low count r x) =
       sticks {c = c} (suc d) (omega arith) (omega arith) (after-goes d s u step ∙ r) x
 
-  reported : (n k : ℕ) (s : State Cell) → Reported g input n k s (runFrom tagged g input n k s)
+  -- the run is the machine's
+  pub reported : (n k : ℕ) (s : State Cell) → Reported g input n k s (runFrom tagged g input n k s)
   unfolding runFrom onward after
   reported zero k s = used-up {c = k} (omega arith) refl
   reported (suc n) k s = go (stepOf tagged g input s) refl (λ u. reported n (k + 1) u)
@@ -90,9 +92,11 @@ module _ (g : Program) (input : List ℤ) where
       go stuck e later = sticks {c = k + 1} 0 (omega arith) (omega arith) refl e
 
 -- a run takes no more steps than it is lent
-pub steps-lent : (image : List ℕ) (input store output : List ℤ) (steps : ℕ) → ranOf image input store output steps .steps ≤ steps
+pub steps-lent : (image : List ℕ) (input store output : List ℤ) (steps : ℕ)
+    → ranOf image input store output steps .steps ≤ steps
 unfolding ranOf
-steps-lent image input store output steps = go (reported (programOf image) input steps 0 (fresh tagged (programOf image) store output))
+steps-lent image input store output steps =
+    go (reported (programOf image) input steps 0 (fresh tagged (programOf image) store output))
   where
     go : {s : State Cell} {e : Ended Cell} → Reported (programOf image) input steps 0 s e → e .steps ≤ steps
     go (used-up c r) = omega arith
@@ -133,7 +137,8 @@ refusal-none image store e =
 
 -- ---- what follows from demand 3
 
-module _ (g : Program) (ok : AcceptedTables (g .types) (g .fields) (g .variables) (g .procedures) (g .nodes) (g .statements))
+module _ (g : Program)
+    (ok : AcceptedTables (g .types) (g .fields) (g .variables) (g .procedures) (g .nodes) (g .statements))
     (bytes : Bytes (g .nodes)) (input : List ℤ) where
   run-room : (n k : ℕ) (s : State Cell) → Sound g s → SameRoom s (runFrom tagged g input n k s .state)
   unfolding runFrom onward
@@ -162,7 +167,9 @@ module _ (image : List ℕ) (bytes : Bytes image) (accepted : checkOf image ≡ 
   -- a state that the machine reached is sound, and so is its next step
   running-sound : (d : ℕ) (u : State Cell) → after tagged (programOf image) input d first ≡ running u
       → Sound (programOf image) u × NextOk (programOf image) u (stepOf tagged (programOf image) input u)
-  running-sound d u r = go (after tagged (programOf image) input d first) r (sound-after image bytes accepted input store output most least d)
+  running-sound d u r =
+      go (after tagged (programOf image) input d first) r
+      (sound-after image bytes accepted input store output most least d)
     where
       go : (x : Machine Cell) → x ≡ running u → SoundAfter (programOf image) input x
           → Sound (programOf image) u × NextOk (programOf image) u (stepOf tagged (programOf image) input u)
@@ -191,7 +198,8 @@ module _ (image : List ℕ) (bytes : Bytes image) (accepted : checkOf image ≡ 
       left : {u v : State Cell} {t : Trap} {z : ℤ} → NextOk (programOf image) u (trapped t z v) → Unchanged u v
       left (ok-trapped same) = same
 
-      go : {e : Ended Cell} → Reported (programOf image) input steps 0 first e → e .outcome ≡ 2 → TrappedIn (programOf image) input first e
+      go : {e : Ended Cell} → Reported (programOf image) input steps 0 first e → e .outcome ≡ 2
+          → TrappedIn (programOf image) input first e
       go (used-up c r) two = absurd (omega arith)
       go (finishes d low c r x) two = absurd (omega arith)
       go (traps {u = u} d low c r x) two =
@@ -230,10 +238,11 @@ module _ (image : List ℕ) (bytes : Bytes image) (accepted : checkOf image ≡ 
       run-room (programOf image) ok (program-bytes image bytes) input steps 0 first
       (fresh-sound (programOf image) ok store output most least) .output
 
-  ran-outcome : ranOf image input store output steps .outcome ≤ 2
+  pub ran-outcome : ranOf image input store output steps .outcome ≤ 2
   ran-outcome = go ran never-stuck
     where
-      go : {e : Ended Cell} → Reported (programOf image) input steps 0 first e → (e .outcome ≡ 3 → ⊥) → e .outcome ≤ 2
+      go : {e : Ended Cell} → Reported (programOf image) input steps 0 first e → (e .outcome ≡ 3 → ⊥)
+          → e .outcome ≤ 2
       go (used-up c r) free = omega arith
       go (finishes d low c r x) free = omega arith
       go (traps d low c r x) free = omega arith
@@ -246,7 +255,8 @@ unfolding resultOf numbersOf refusedWith choose
 result-outcome image bytes input store output steps = go (eqb (refusal image store) 0) refl
   where
     go : (b : Bool) → eqb (refusal image store) 0 ≡ b
-        → choose b (numbersOf (ranOf image input store output steps)) (refusedWith (refusal image store) (rowOf (checkOf image))) .outcome ≤ 2
+        → choose b (numbersOf (ranOf image input store output steps))
+        (refusedWith (refusal image store) (rowOf (checkOf image))) .outcome ≤ 2
     go true e =
         let (accepted, most, least) = refusal-none image store (eqb-true _ _ e) in
         ran-outcome image bytes accepted input store output most least steps

@@ -7,8 +7,8 @@ use Rattle.semantics.specs.Memory.{Memory}
 use Rattle.semantics.specs.Layout.{Program}
 use Rattle.semantics.specs.Stepping.{State, Next, Next.goes, Next.finished, Next.trapped, Next.stuck, stepOf}
 
--- where the machine stands: in a state that has a next step, or behind its last step. That finished in a state, or trapped
--- (the trap, HALT's number, the state before and the state left), or no rule applied.
+-- where the machine stands: in a state that has a next step, or behind its last step, which began in a state and
+-- finished, or trapped (the trap, HALT's number, the state before and the state left), or had no rule
 pub data Machine (X : Type 0) : Type 0 where
   running : State X → Machine X
   over : State X → Machine X
