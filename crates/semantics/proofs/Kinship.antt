@@ -31,31 +31,57 @@ use Rattle.frames.proofs.Accepted.{VariableRow}
 
 -- ---- extension
 
-based-form : (x : Form) {b : ℕ} → baseOf x ≡ suc b → (first : ℕ) × (count : ℕ) × (x ≡ recordOf (suc b) first count)
-unfolding baseOf
-based-form (Form.scalar k) e = absurd (omega arith)
-based-form (Form.array m n) e = absurd (omega arith)
-based-form (recordOf base first count) e = (first, count, rw e)
-based-form Form.noForm e = absurd (omega arith)
+base-record : {t : List ℕ} {r a b : ℕ} → Based t r a → a ≡ suc b → rowAt t b .kind ≡ 4
+base-record no-base e = absurd (omega arith)
+base-record {b = b} (on-base {b = c} low kind) e = let q : c ≡ b = omega arith in rw q at kind
 
-on-record : {t : List ℕ} {r b : ℕ} → Based t r (suc b) → rowAt t b .kind ≡ 4
-on-record (on-base low kind) = kind
+module _ {t f : List ℕ} {used r : ℕ} where
+  -- a type that has a base extends a record
+  shape-base : {x : Form} {b : ℕ} → Shape t f used r x → baseOf x ≡ suc b → rowAt t b .kind ≡ 4
+  unfolding baseOf
+  shape-base (is-scalar l) e = absurd (omega arith)
+  shape-base (is-array l a b c) e = absurd (omega arith)
+  shape-base (is-record l on rows own) e = base-record on e
 
-no-record : {a b c r : ℕ} → recordOf a b c ≡ Form.scalar r → ⊥
-no-record e = let z : _≡_ {A = ℕ} 0 1 = cc in absurd (omega arith)
+  shape-scalar : {x : Form} (layout : ℕ → List ℕ) → r ≤ 2 → Shape t f used r x → layoutBy f layout x ≡ r ∷ []
+  unfolding layoutBy
+  shape-scalar layout h (is-scalar l) = refl
+  shape-scalar layout h (is-array l a b c) = absurd (omega arith)
+  shape-scalar layout h (is-record l on rows own) = absurd (omega arith)
+
+-- an extension stands in no lower row
+extended-low : {t : List ℕ} {r u : ℕ} → Extends t r u → u ≤ r
+extended-low same = omega arith
+extended-low (up base low e) = let rest = extended-low e in omega arith
+
+pub extends-low : (t : List ℕ) (r u : ℕ) → extends t r u ≡ true → u ≤ r
+extends-low t r u e = extended-low (extends-yes t r u e)
 
 module _ (t f : List ℕ) (kept : TypesKept t f) where
-  -- only a record is extended by another type
   extended-other : {r u : ℕ} → Extends t r u → r < rowsOf t → (rowAt t u .kind ≡ 4 → ⊥) → r ≡ u
   extended-other same h other = refl
   extended-other {r} {u} (up {b = b} base low e) h other =
-      let (first, count, is) = based-form (form t r) base in
-      let kind : rowAt t b .kind ≡ 4 = on-record (record-is (kept .row r h .shape) is .on) in
       let there : b ≡ u = extended-other e (omega arith) other in
-      absurd (other (rw there at kind))
+      absurd (other (rw there at (shape-base (kept .row r h .shape) base)))
 
+  -- an extension of a type that is no record is the type itself
   pub extends-other : (r u : ℕ) → extends t r u ≡ true → r < rowsOf t → (rowAt t u .kind ≡ 4 → ⊥) → r ≡ u
   extends-other r u e h other = extended-other (extends-yes t r u e) h other
+
+  -- a scalar type is no record
+  pub scalar-other : (r : ℕ) → r ≤ 2 → r < rowsOf t → rowAt t r .kind ≡ 4 → ⊥
+  unfolding form
+  scalar-other r h low kind =
+      let later = record-is (kept .row r low .shape) (form-record (rowAt t r) kind) .later in
+      omega arith
+
+  pub extends-scalar : (r u : ℕ) → u ≤ 2 → u < rowsOf t → extends t r u ≡ true → r < rowsOf t → r ≡ u
+  extends-scalar r u h low e within = extends-other r u e within (scalar-other u h low)
+
+  pub scalar-layout : (r : ℕ) → r ≤ 2 → r < rowsOf t → layoutOf t f r ≡ r ∷ []
+  scalar-layout r h low =
+      let shape = kept .row r low .shape in
+      layout-is t f r shape ∙ shape-scalar (layoutOf t f) h shape
 
   -- a record's fields are an extension's too, at the same places
   pub extension-field : (r u n : ℕ) {offset x : ℕ} → extends t r u ≡ true → r < rowsOf t → fieldOf t f u n ≡ Field offset x
@@ -82,27 +108,6 @@ module _ (t f : List ℕ) (kept : TypesKept t f) where
               (choose-yes _ _ _ (lt-ltb n (length (l ++ m)) all)
               ∙ (rw (take-append-le n l m (omega arith), List·getD-append l m 0 n less) e))
           go (inr (k, e)) = let z : _≡_ {A = ℕ} 0 1 = cc in absurd (omega arith)
-
-  -- a scalar type's row is its kind, and its layout has that kind alone
-  scalar-form : {used r : ℕ} {x : Form} → Shape t f used r x → r < 3 → x ≡ Form.scalar r
-  scalar-form (is-scalar l) h = refl
-  scalar-form (is-array l a b c) h = absurd (omega arith)
-  scalar-form (is-record l a b c) h = absurd (omega arith)
-
-  pub scalar-layout : (r : ℕ) → r < 3 → r < rowsOf t → layoutOf t f r ≡ r ∷ []
-  unfolding layoutBy
-  scalar-layout r h low =
-      let shape = kept .row r low .shape in
-      layout-is t f r shape ∙ ap (layoutBy f (layoutOf t f)) (scalar-form shape h)
-
-  form-kind : (x : Form) (r : ℕ) → formOf (rowAt t r) ≡ x → x ≡ Form.scalar r → rowAt t r .kind ≡ 4 → ⊥
-  form-kind x r e same-form four =
-      let z : recordOf (rowAt t r .a) (rowAt t r .b) (rowAt t r .c) ≡ Form.scalar r = sym (form-record (rowAt t r) four) ∙ e ∙ same-form in
-      no-record z
-
-  pub scalar-other : (r : ℕ) → r < 3 → r < rowsOf t → rowAt t r .kind ≡ 4 → ⊥
-  unfolding form
-  scalar-other r h low = form-kind (form t r) r refl (scalar-form (kept .row r low .shape) h)
 
 -- ---- globals
 
