@@ -62,7 +62,8 @@ questionOf image q =
     choose (eqb q 1) (yesOrNo (question1 image))
     (choose (eqb q 2) (yesOrNo (question2 image))
     (choose (eqb q 3) (yesOrNo (question3 image))
-    (tableQuestion (typesIn image) (fieldsIn image) (variablesIn image) (proceduresIn image) (nodesIn image) (statementsIn image) q)))
+    (tableQuestion (typesIn image) (fieldsIn image) (variablesIn image) (proceduresIn image) (nodesIn image)
+    (statementsIn image) q)))
 
 -- ---- the check
 

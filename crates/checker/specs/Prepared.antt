@@ -36,11 +36,12 @@ pub record Whole (t f v p old plan : List ℕ) : Type 0 where
 -- what the check leaves of six tables: where they are refused, what question 4 found of the type rows it passed
 pub data Leaves (t f v p old : List ℕ) : CheckAnswer → List ℕ → Type 0 where
   whole : {plan : List ℕ} → Whole t f v p old plan → Leaves t f v p old Accepted plan
-  some : {q row : ℕ} {plan : List ℕ} → Plan t f (passed t (question4 t f)) plan → Rest t (passed t (question4 t f)) old plan
-      → Leaves t f v p old (Refused q row) plan
+  some : {q row : ℕ} {plan : List ℕ} → Plan t f (passed t (question4 t f)) plan
+      → Rest t (passed t (question4 t f)) old plan → Leaves t f v p old (Refused q row) plan
 
 -- .. and of an image: nothing without tables
 pub data Prepared (image old : List ℕ) : CheckAnswer → List ℕ → Type 0 where
   untouched : {q : ℕ} → headerOf image ≡ No q → Prepared image old (Refused q 0) old
   tables : {x : CheckAnswer} {plan : List ℕ}
-      → Leaves (typesIn image) (fieldsIn image) (variablesIn image) (proceduresIn image) old x plan → Prepared image old x plan
+      → Leaves (typesIn image) (fieldsIn image) (variablesIn image) (proceduresIn image) old x plan
+      → Prepared image old x plan

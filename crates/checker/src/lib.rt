@@ -40,8 +40,10 @@ fn check_meaning(
     s: &[u8],
     plan: &[u32],
 ) -> CheckAnswer
-    requires { ⌜ CountsFit (now t) (now f) (now v) (now p) (now n) (now s) × (question4 (now t) (now f) ≡ Kept) × (question6 (now v) (now p) (now s) ≡ Kept) × Plan (now t) (now f) (rowsOf (now t)) (now plan) ⌝ }
-    ensures { λ x. ⌜ x ≡ firstNo (tableQuestion (now (t .entry)) (now (f .entry)) (now (v .entry)) (now (p .entry)) (now (n .entry)) (now (s .entry))) 10 2 ⌝ }
+    requires { ⌜ CountsFit (now t) (now f) (now v) (now p) (now n) (now s) × (question4 (now t) (now f) ≡ Kept) ×
+        (question6 (now v) (now p) (now s) ≡ Kept) × Plan (now t) (now f) (rowsOf (now t)) (now plan) ⌝ }
+    ensures { λ x. ⌜ x ≡ firstNo (tableQuestion (now (t .entry)) (now (f .entry)) (now (v .entry)) (now (p .entry))
+        (now (n .entry)) (now (s .entry))) 10 2 ⌝ }
 {
     let nodes = image::rows_of(n);
     let mut types = [0u16; 2048];
@@ -63,8 +65,10 @@ fn check_rows(
     s: &[u8],
     plan: &[u32],
 ) -> CheckAnswer
-    requires { ⌜ CountsFit (now t) (now f) (now v) (now p) (now n) (now s) × (question4 (now t) (now f) ≡ Kept) × Plan (now t) (now f) (rowsOf (now t)) (now plan) ⌝ }
-    ensures { λ x. ⌜ x ≡ firstNo (tableQuestion (now (t .entry)) (now (f .entry)) (now (v .entry)) (now (p .entry)) (now (n .entry)) (now (s .entry))) 5 7 ⌝ }
+    requires { ⌜ CountsFit (now t) (now f) (now v) (now p) (now n) (now s) × (question4 (now t) (now f) ≡ Kept)
+        × Plan (now t) (now f) (rowsOf (now t)) (now plan) ⌝ }
+    ensures { λ x. ⌜ x ≡ firstNo (tableQuestion (now (t .entry)) (now (f .entry)) (now (v .entry)) (now (p .entry))
+        (now (n .entry)) (now (s .entry))) 5 7 ⌝ }
 {
     let variables = frames::check_variables(t, v);
     let Verdict::Kept = variables else {
@@ -100,8 +104,10 @@ fn check_tables(
     plan: &mut [u32],
 ) -> CheckAnswer
     requires { ⌜ CountsFit (now t) (now f) (now v) (now p) (now n) (now s) × (770 ≤ length (now plan)) ⌝ }
-    ensures { λ x. ⌜ x ≡ firstNo (tableQuestion (now (t .entry)) (now (f .entry)) (now (v .entry)) (now (p .entry)) (now (n .entry)) (now (s .entry))) 4 8 ⌝ }
-    ensures plan { λ x. ⌜ Leaves (now (t .entry)) (now (f .entry)) (now (v .entry)) (now (p .entry)) (now (plan .entry)) x (now (plan .exit)) ⌝ }
+    ensures { λ x. ⌜ x ≡ firstNo (tableQuestion (now (t .entry)) (now (f .entry)) (now (v .entry)) (now (p .entry))
+        (now (n .entry)) (now (s .entry))) 4 8 ⌝ }
+    ensures plan { λ x. ⌜ Leaves (now (t .entry)) (now (f .entry)) (now (v .entry)) (now (p .entry)) (now
+        (plan .entry)) x (now (plan .exit)) ⌝ }
 {
     let types = types::check_types(t, f, plan);
     let Verdict::Kept = types else {

@@ -72,7 +72,14 @@ question3 image = areSix (tablesOf image)
 
 -- the six tables; where question 3 fails, none has a row
 unfoldable pub sixOf : TablesAnswer → Tables
-sixOf Amiss = record { types = none; fields = none; variables = none; procedures = none; nodes = none; statements = none }
+sixOf Amiss = record {
+  types = none;
+  fields = none;
+  variables = none;
+  procedures = none;
+  nodes = none;
+  statements = none;
+}
 sixOf (Six t) = t
 
 unfoldable pub tablesIn : List ℕ → Tables

@@ -4,7 +4,9 @@ use image::Verdict;
 ghost use mathlib.Core.Path.{_≡_};
 ghost use Prim.Native.Nat.{ℕ, _≤_};
 ghost use Rattle.image.specs.Rows.{rowsOf};
-ghost use Rattle.nodes.specs.Nodes.{isDesignator, isArgument, childKept, designatorKept, constantKept, variableKept, fieldKept, elementKept, guardKept, dyadicKept, monadicKept, argumentKept, formKept, question7};
+ghost use Rattle.nodes.specs.Nodes.{isDesignator, isArgument, childKept, designatorKept, constantKept};
+ghost use Rattle.nodes.specs.Nodes.{variableKept, fieldKept, elementKept, guardKept, dyadicKept, monadicKept};
+ghost use Rattle.nodes.specs.Nodes.{argumentKept, formKept, question7};
 
 // Whether node row k is a designator.
 pub fn is_designator(n: &[u8], k: usize) -> bool

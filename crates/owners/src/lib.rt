@@ -6,7 +6,8 @@ ghost use lib.ListN.{length};
 ghost use lib.Dec.{leb};
 ghost use Rattle.prelude.specs.Choice.{choose};
 ghost use Rattle.image.specs.Rows.{rowsOf};
-ghost use Rattle.owners.specs.Owners.{gather, noSpan, variableSpan, joinSpan, spanOf, within as liesWithin, spanIn, Spans};
+ghost use Rattle.owners.specs.Owners.{gather, noSpan, variableSpan, joinSpan, spanOf, within as liesWithin};
+ghost use Rattle.owners.specs.Owners.{spanIn, Spans};
 
 // The variables from `least` on and below `past`; none where there are none.
 pub struct Span {
@@ -87,7 +88,8 @@ fn span_at(least: &[u16], past: &[u16], k: usize) -> Span
 }
 
 fn both_spans(least: &[u16], past: &[u16], a: u16, b: u16) -> Span
-    ensures { λ x. ⌜ x ≡ joinSpan (spanIn (now (least .entry)) (now (past .entry)) a) (spanIn (now (least .entry)) (now (past .entry)) b) ⌝ }
+    ensures { λ x. ⌜ x ≡ joinSpan (spanIn (now (least .entry)) (now (past .entry)) a) (spanIn (now (least .entry))
+        (now (past .entry)) b) ⌝ }
 {
     let left = span_at(least, past, a as usize);
     let right = span_at(least, past, b as usize);
@@ -97,7 +99,8 @@ fn both_spans(least: &[u16], past: &[u16], a: u16, b: u16) -> Span
 // The span of a node from those of the lower rows.
 fn node_span(v: &[u8], least: &[u16], past: &[u16], row: Row) -> Span
     requires { ⌜ rowsOf (now v) ≤ 256 ⌝ }
-    ensures { λ x. ⌜ x ≡ gather noSpan (variableSpan (now (v .entry))) joinSpan (spanIn (now (least .entry)) (now (past .entry))) (row .kind) row ⌝ }
+    ensures { λ x. ⌜ x ≡ gather noSpan (variableSpan (now (v .entry))) joinSpan (spanIn (now (least .entry)) (now
+        (past .entry))) (row .kind) row ⌝ }
 {
     let kind = row.kind;
     match kind {
@@ -118,8 +121,10 @@ fn node_span(v: &[u8], least: &[u16], past: &[u16], row: Row) -> Span
 
 // The spans of all nodes, in two lent tables.
 pub fn fill_spans(v: &[u8], n: &[u8], least: &mut [u16], past: &mut [u16])
-    requires { ⌜ (rowsOf (now v) ≤ 256) × (rowsOf (now n) ≤ 2048) × (rowsOf (now n) ≤ length (now least)) × (rowsOf (now n) ≤ length (now past)) ⌝ }
-    ensures { λ _. ⌜ Spans (spanOf (now (v .entry)) (now (n .entry))) (rowsOf (now (n .entry))) (now (least .entry)) (now (past .entry)) (now (least .exit)) (now (past .exit)) ⌝ }
+    requires { ⌜ (rowsOf (now v) ≤ 256) × (rowsOf (now n) ≤ 2048) × (rowsOf (now n) ≤ length (now least)) × (rowsOf
+        (now n) ≤ length (now past)) ⌝ }
+    ensures { λ _. ⌜ Spans (spanOf (now (v .entry)) (now (n .entry))) (rowsOf (now (n .entry))) (now (least .entry))
+        (now (past .entry)) (now (least .exit)) (now (past .exit)) ⌝ }
 {
     let nodes = image::rows_of(n);
     let mut r: usize = 0;

@@ -15,7 +15,8 @@ fn long(a: u8, b: u8, c: u8, d: u8) -> usize
 // too short, it answers more than the buffer's length.
 pub fn next_image(fd: i32, buffer: &mut [u8]) -> usize
     requires { ⌜ length (now buffer) < 4294967296 ⌝ }
-    ensures { λ r. ⌜ (r ≤ length (now (buffer .entry)) + 1) × (length (now (buffer .exit)) ≡ length (now (buffer .entry))) ⌝ }
+    ensures { λ r. ⌜ (r ≤ length (now (buffer .entry)) + 1) × (length (now (buffer .exit)) ≡ length (now
+        (buffer .entry))) ⌝ }
 {
     let end = buffer.len() + 1;
     let mut head = [0u8; 4];

@@ -33,7 +33,8 @@ assignable t Untyped target = false
 assignable t (Kind source) Untyped = false
 assignable t (Kind source) (Kind target) = extends t source target
 
--- "0 assign b to designator a."; "Variables are global or the procedure's own.", as `own` says of a node and those below it
+-- "0 assign b to designator a."; "Variables are global or the procedure's own.", as `own` says of a node and those
+-- below it
 unfoldable pub assignRule : List ℕ → (ℕ → KindAnswer) → (ℕ → Bool) → Row → Bool
 assignRule t type own row = assignable t (type (row .b)) (type (row .a)) also own (row .a) also own (row .b)
 

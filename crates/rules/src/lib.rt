@@ -11,7 +11,8 @@ ghost use Rattle.image.specs.Rows.{rowsOf};
 ghost use Rattle.frames.specs.Procedures.{firstVariable, question6};
 ghost use Rattle.typing.specs.Typing.{typeIn};
 ghost use Rattle.owners.specs.Owners.{spanOf, spanIn, within};
-ghost use Rattle.rules.specs.Rules.{isType, assignable as isAssignable, assignRule, formRule, argumentRule, callRule, typeRule, haltRule, ruleBy, rulesBy, FirstTable, Ready, RowsFit};
+ghost use Rattle.rules.specs.Rules.{isType, assignable as isAssignable, assignRule, formRule, argumentRule};
+ghost use Rattle.rules.specs.Rules.{callRule, typeRule, haltRule, ruleBy, rulesBy, FirstTable, Ready, RowsFit};
 
 fn is_type(types: &[u16], k: usize, r: u16) -> bool
     ensures { λ x. ⌜ x ≡ isType (typeIn (now (types .entry)) k) r ⌝ }
@@ -44,7 +45,8 @@ fn assign_rule(
     next: u32,
     row: Row,
 ) -> bool
-    ensures { λ x. ⌜ x ≡ assignRule (now (t .entry)) (typeIn (now (types .entry))) (λ k. within first next (spanIn (now (least .entry)) (now (past .entry)) k)) row ⌝ }
+    ensures { λ x. ⌜ x ≡ assignRule (now (t .entry)) (typeIn (now (types .entry))) (λ k. within first next (spanIn
+        (now (least .entry)) (now (past .entry)) k)) row ⌝ }
 {
     let a = row.a;
     let b = row.b;
@@ -84,7 +86,8 @@ fn argument_rule(
     k: usize,
     a: usize,
 ) -> bool
-    ensures { λ x. ⌜ x ≡ argumentRule (now (t .entry)) (now (v .entry)) (now (n .entry)) (typeIn (now (types .entry))) (λ j. within first next (spanIn (now (least .entry)) (now (past .entry)) j)) k a ⌝ }
+    ensures { λ x. ⌜ x ≡ argumentRule (now (t .entry)) (now (v .entry)) (now (n .entry)) (typeIn (now
+        (types .entry))) (λ j. within first next (spanIn (now (least .entry)) (now (past .entry)) j)) k a ⌝ }
 {
     let parameter = image::row_at(v, a);
     let kind = parameter.kind;
@@ -113,7 +116,9 @@ fn arguments_rule(
     count: u16,
     parameter: u32,
 ) -> bool
-    ensures { λ x. ⌜ x ≡ allFrom (λ j. argumentRule (now (t .entry)) (now (v .entry)) (now (n .entry)) (typeIn (now (types .entry))) (λ k. within first next (spanIn (now (least .entry)) (now (past .entry)) k)) (b + j) (parameter + j)) 0 count ⌝ }
+    ensures { λ x. ⌜ x ≡ allFrom (λ j. argumentRule (now (t .entry)) (now (v .entry)) (now (n .entry)) (typeIn (now
+        (types .entry))) (λ k. within first next (spanIn (now (least .entry)) (now (past .entry)) k)) (b + j)
+        (parameter + j)) 0 count ⌝ }
 {
     let end = count as usize;
     let from = b as usize;
@@ -142,7 +147,8 @@ fn call_rule(
     row: Row,
 ) -> bool
     requires { ⌜ FirstTable (now v) (now p) (now firsts) ⌝ }
-    ensures { λ x. ⌜ x ≡ callRule (now (t .entry)) (now (v .entry)) (now (p .entry)) (now (n .entry)) (typeIn (now (types .entry))) (λ k. within first next (spanIn (now (least .entry)) (now (past .entry)) k)) row ⌝ }
+    ensures { λ x. ⌜ x ≡ callRule (now (t .entry)) (now (v .entry)) (now (p .entry)) (now (n .entry)) (typeIn (now
+        (types .entry))) (λ k. within first next (spanIn (now (least .entry)) (now (past .entry)) k)) row ⌝ }
 {
     let a = row.a;
     let b = row.b;
@@ -173,7 +179,8 @@ fn type_rule(
     row: Row,
     r: u16,
 ) -> bool
-    ensures { λ x. ⌜ x ≡ typeRule (typeIn (now (types .entry))) (λ k. within first next (spanIn (now (least .entry)) (now (past .entry)) k)) row r ⌝ }
+    ensures { λ x. ⌜ x ≡ typeRule (typeIn (now (types .entry))) (λ k. within first next (spanIn (now (least .entry))
+        (now (past .entry)) k)) row r ⌝ }
 {
     let a = row.a;
     if !is_type(types, a as usize, r) {
@@ -191,7 +198,8 @@ fn halt_rule(
     next: u32,
     row: Row,
 ) -> bool
-    ensures { λ x. ⌜ x ≡ haltRule (now (n .entry)) (typeIn (now (types .entry))) (λ k. within first next (spanIn (now (least .entry)) (now (past .entry)) k)) row ⌝ }
+    ensures { λ x. ⌜ x ≡ haltRule (now (n .entry)) (typeIn (now (types .entry))) (λ k. within first next (spanIn
+        (now (least .entry)) (now (past .entry)) k)) row ⌝ }
 {
     let a = row.a;
     if !type_rule(types, least, past, first, next, row, 1) {
@@ -216,7 +224,9 @@ fn rule_by(
     row: Row,
 ) -> bool
     requires { ⌜ FirstTable (now v) (now p) (now firsts) ⌝ }
-    ensures { λ x. ⌜ x ≡ ruleBy (now (t .entry)) (now (v .entry)) (now (p .entry)) (now (n .entry)) (typeIn (now (types .entry))) (λ k. within first next (spanIn (now (least .entry)) (now (past .entry)) k)) (row .kind) row ⌝ }
+    ensures { λ x. ⌜ x ≡ ruleBy (now (t .entry)) (now (v .entry)) (now (p .entry)) (now (n .entry)) (typeIn (now
+        (types .entry))) (λ k. within first next (spanIn (now (least .entry)) (now (past .entry)) k))
+        (row .kind) row ⌝ }
 {
     let kind = row.kind;
     match kind {
@@ -243,7 +253,8 @@ fn rules_by(
     firsts: &[u32],
 ) -> Verdict
     requires { ⌜ Ready (now v) (now p) (now n) (now s) (now least) (now past) (now firsts) ⌝ }
-    ensures { λ x. ⌜ x ≡ rulesBy (now (t .entry)) (now (v .entry)) (now (p .entry)) (now (n .entry)) (now (s .entry)) (typeIn (now (types .entry))) ⌝ }
+    ensures { λ x. ⌜ x ≡ rulesBy (now (t .entry)) (now (v .entry)) (now (p .entry)) (now (n .entry)) (now
+        (s .entry)) (typeIn (now (types .entry))) ⌝ }
 {
     let statements = image::rows_of(s);
     let mut q: usize = 0;
@@ -265,7 +276,8 @@ fn rules_by(
 // Question 11, by a table that holds the type of each node.
 pub fn check_rules(t: &[u8], v: &[u8], p: &[u8], n: &[u8], s: &[u8], types: &[u16]) -> Verdict
     requires { ⌜ RowsFit (now v) (now p) (now n) (now s) ⌝ }
-    ensures { λ x. ⌜ x ≡ rulesBy (now (t .entry)) (now (v .entry)) (now (p .entry)) (now (n .entry)) (now (s .entry)) (typeIn (now (types .entry))) ⌝ }
+    ensures { λ x. ⌜ x ≡ rulesBy (now (t .entry)) (now (v .entry)) (now (p .entry)) (now (n .entry)) (now
+        (s .entry)) (typeIn (now (types .entry))) ⌝ }
 {
     let nodes = image::rows_of(n);
     let mut least = [0u16; 2048];

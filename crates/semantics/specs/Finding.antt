@@ -82,7 +82,8 @@ fieldPlace whole (Field offset r) = object (whole .address + offset) r
 -- "3 element of a at b."; trap "1 index"
 unfoldable pub elementPlace : Program → Place → Row → ℤ → Found
 elementPlace g whole array (pos i) =
-    choose (ltb i (array .b)) (object (whole .address + i * sizeOf (g .types) (g .fields) (array .a)) (array .a)) (Fs.Trap Ts.Index)
+    choose (ltb i (array .b))
+    (object (whole .address + i * sizeOf (g .types) (g .fields) (array .a)) (array .a)) (Fs.Trap Ts.Index)
 elementPlace g whole array (negsuc i) = Fs.Trap Ts.Index
 
 unfoldable pub arrayPlace : Program → Place → Answer → Found
@@ -126,9 +127,11 @@ meaningBy m g base top cells child kind row =
     (choose (eqb kind 1) (designator m top cells variable)
     (choose (eqb kind 2) (designator m top cells (reach (child (row .a) .place) λ whole.
     fieldPlace whole (fieldOf (g .types) (g .fields) (whole .declared) (row .b))))
-    (choose (eqb kind 3) (designator m top cells (reach (child (row .a) .place) λ whole. arrayPlace g whole (child (row .b) .value)))
+    (choose (eqb kind 3) (designator m top cells (reach (child (row .a) .place) λ whole.
+    arrayPlace g whole (child (row .b) .value)))
     (choose (eqb kind 4) (designator m top cells (reach variable (guardPlace g (row .b))))
-    (choose (eqb kind 5) (expression (bind (child (row .a) .value) λ left. appliedTo (row .c) left (child (row .b) .value)))
+    (choose (eqb kind 5) (expression (bind (child (row .a) .value) λ left.
+    appliedTo (row .c) left (child (row .b) .value)))
     (choose (eqb kind 6) (expression (bind (child (row .a) .value) λ operand. monadicOf (row .c) operand))
     (choose (eqb kind 7) (expression (content variable (testOf g (row .b))))
     (choose (eqb kind 8) (child (row .a)) noMeaning))))))))

@@ -38,7 +38,8 @@ placeOf g a =
 -- "a VAR parameter two cells, address and dynamic type, others their size": the kinds of variable row k's cells
 unfoldable pub kindsOf : Program → ℕ → List ℕ
 kindsOf g k =
-    choose (eqb (rowAt (g .variables) k .kind) 3) (ADDRESS ∷ TYPE ∷ []) (layoutOf (g .types) (g .fields) (rowAt (g .variables) k .a))
+    choose (eqb (rowAt (g .variables) k .kind) 3) (ADDRESS ∷ TYPE ∷ [])
+    (layoutOf (g .types) (g .fields) (rowAt (g .variables) k .a))
 
 -- of n variables from row k on
 unfoldable pub kindsFrom : Program → ℕ → ℕ → List ℕ

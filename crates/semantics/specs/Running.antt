@@ -40,13 +40,14 @@ globalRoom g = globalCells (g .types) (g .fields) (g .variables)
 unfoldable pub firstTop : Program → ℕ
 firstTop g = globalRoom g + frameSize (g .types) (g .fields) (g .variables) (g .procedures) 0
 
--- "A zeroed cell has the kind that its place gives": globals, three links, procedure 0's variables. "Cells above top keep the
--- last number put there."
+-- "A zeroed cell has the kind that its place gives": globals, three links, procedure 0's variables. "Cells above top
+-- keep the last number put there."
 unfoldable pub freshCells : {X : Type 0} → Memory X → Program → List ℤ → List X
 freshCells m g store =
     map (m .blank) (kindsFrom g 0 (globalsOf (g .variables)))
     ++ (replicate 3 (m .mark LINK 0)
-    ++ (map (m .blank) (kindsFrom g (firstVariable (g .variables) (g .procedures) 0) (claimedBy (rowAt (g .procedures) 0)))
+    ++ (map (m .blank)
+    (kindsFrom g (firstVariable (g .variables) (g .procedures) 0) (claimedBy (rowAt (g .procedures) 0)))
     ++ map (m .loose) (drop (firstTop g) store)))
 
 unfoldable pub fresh : {X : Type 0} → Memory X → Program → List ℤ → List ℤ → State X
@@ -90,7 +91,8 @@ refusal image store =
 -- ---- the results
 
 unfoldable pub ranOf : List ℕ → List ℤ → List ℤ → List ℤ → ℕ → Ended Cell
-ranOf image input store output steps = runFrom tagged (programOf image) input steps 0 (fresh tagged (programOf image) store output)
+ranOf image input store output steps =
+    runFrom tagged (programOf image) input steps 0 (fresh tagged (programOf image) store output)
 
 -- "refusal, row of refusal, outcome, trap, HALT number, statement row, steps, read, written"
 unfoldable pub numbersOf : Ended Cell → RunResult
@@ -127,7 +129,8 @@ resultOf image input store output steps =
 
 unfoldable pub storeAfter : List ℕ → List ℤ → List ℤ → List ℤ → ℕ → List ℤ
 storeAfter image input store output steps =
-    choose (eqb (refusal image store) 0) (map (tagged .number) (ranOf image input store output steps .state .cells)) store
+    choose (eqb (refusal image store) 0)
+    (map (tagged .number) (ranOf image input store output steps .state .cells)) store
 
 unfoldable pub outputAfter : List ℕ → List ℤ → List ℤ → List ℤ → ℕ → List ℤ
 outputAfter image input store output steps =

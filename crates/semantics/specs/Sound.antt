@@ -60,7 +60,8 @@ module _ (g : Program) where
   unfoldable pub frameWants : Frame → List Want
   frameWants f = exactly LINK (f .caller) ∷ exactly LINK (f .back) ∷ exactly LINK (f .callers-base) ∷ joined (f .slots)
 
-  -- all cells below top: the globals', then frame by frame, "each beginning where the older ends"; the newest comes first
+  -- all cells below top: the globals', then frame by frame, "each beginning where the older ends"; the newest comes
+  -- first
   unfoldable pub wants : List Frame → List Want
   wants [] = map any-value (kindsFrom g 0 (globalsOf (g .variables)))
   wants (f ∷ fs) = wants fs ++ frameWants f
@@ -80,21 +81,22 @@ module _ (g : Program) where
     pub low : firstVariable (g .variables) (g .procedures) q ≤ k
     pub high : k < firstVariable (g .variables) (g .procedures) (q + 1)
 
-  -- at this address begins, in these frames, "a global, an older frame's local or value parameter, or an element or field
-  -- at any depth of one, declared with the named type". An object without cells begins at its place too.
+  -- at this address begins, in these frames, "a global, an older frame's local or value parameter, or an element or
+  -- field at any depth of one, declared with the named type". An object without cells begins at its place too.
   pub data Object : List Frame → ℕ → ℕ → Type 0 where
     of-global : {fs : List Frame} {k : ℕ} → k < globalsOf (g .variables)
         → Object fs (roomFrom (g .types) (g .fields) (g .variables) 0 k) (rowAt (g .variables) k .a)
     of-frame : {f : Frame} {fs : List Frame} {k : ℕ} → Own (f .procedure) k → rowAt (g .variables) k .kind ≤ 2
-        → Object (f ∷ fs) (room fs + placeIn (g .types) (g .fields) (g .variables) (g .procedures) (f .procedure) k) (rowAt (g .variables) k .a)
+        → Object (f ∷ fs) (room fs + placeIn (g .types) (g .fields) (g .variables) (g .procedures) (f .procedure) k)
+        (rowAt (g .variables) k .a)
     of-older : {f : Frame} {fs : List Frame} {at r : ℕ} → Object fs at r → Object (f ∷ fs) at r
-    of-field : {fs : List Frame} {at r offset u : ℕ} (j : ℕ) → Object fs at r → fieldOf (g .types) (g .fields) r j ≡ Field offset u
-        → Object fs (at + offset) u
-    of-element : {fs : List Frame} {at r i : ℕ} → Object fs at r → rowAt (g .types) r .kind ≡ 3 → i < rowAt (g .types) r .b
-        → Object fs (at + i * sizeOf (g .types) (g .fields) (rowAt (g .types) r .a)) (rowAt (g .types) r .a)
+    of-field : {fs : List Frame} {at r offset u : ℕ} (j : ℕ) → Object fs at r
+        → fieldOf (g .types) (g .fields) r j ≡ Field offset u → Object fs (at + offset) u
+    of-element : {fs : List Frame} {at r i : ℕ} → Object fs at r → rowAt (g .types) r .kind ≡ 3
+        → i < rowAt (g .types) r .b → Object fs (at + i * sizeOf (g .types) (g .fields) (rowAt (g .types) r .a)) (rowAt (g .types) r .a)
 
-  -- what variable row k's cells are to hold, where `fs` are the older frames: "each VAR parameter's type cell names its own
-  -- type or, for records, an extension; at its address begins" an object declared with the named type
+  -- what variable row k's cells are to hold, where `fs` are the older frames: "each VAR parameter's type cell names its
+  -- own type or, for records, an extension; at its address begins" an object declared with the named type
   pub data Slot (fs : List Frame) (k : ℕ) : List Want → Type 0 where
     by-value : rowAt (g .variables) k .kind ≤ 2 → Slot fs k (valuesOf (rowAt (g .variables) k .a))
     by-reference : {at r : ℕ} → rowAt (g .variables) k .kind ≡ 3 → Object fs at r
@@ -103,7 +105,8 @@ module _ (g : Program) where
   -- "to procedure 0's at G, whose links are 0, each return row following a call of that procedure in the caller's body"
   pub data Called (f : Frame) : List Frame → Type 0 where
     is-first : f .procedure ≡ 0 → f .caller ≡ 0 → f .back ≡ 0 → f .callers-base ≡ 0 → Called f []
-    is-called : {c : Frame} {fs : List Frame} (r : ℕ) → rowAt (g .statements) r .kind ≡ 1 → rowAt (g .statements) r .a ≡ f .procedure
+    is-called : {c : Frame} {fs : List Frame} (r : ℕ) → rowAt (g .statements) r .kind ≡ 1
+        → rowAt (g .statements) r .a ≡ f .procedure
         → Inside (c .procedure) r → Inside (c .procedure) (r + 1) → f .caller ≡ c .procedure → f .back ≡ r + 1
         → f .callers-base ≡ room fs → Called f (c ∷ fs)
 
@@ -112,7 +115,8 @@ module _ (g : Program) where
     no-frame : Stack []
     a-frame : {f : Frame} {fs : List Frame} → Stack fs → f .procedure < rowsOf (g .procedures) → Called f fs
         → Matched (Slot fs)
-        (rowsFrom (firstVariable (g .variables) (g .procedures) (f .procedure)) (claimedBy (rowAt (g .procedures) (f .procedure)))) (f .slots)
+        (rowsFrom (firstVariable (g .variables) (g .procedures) (f .procedure))
+        (claimedBy (rowAt (g .procedures) (f .procedure)))) (f .slots)
         → Stack (f ∷ fs)
 
   -- "Sound: the row lies in the body of the top frame's procedure, whose frame ends at top, within the store"

@@ -29,8 +29,8 @@ use Rattle.semantics.specs.Memory.{LINK, ADDRESS, TYPE, Memory, markAt, 
 use Rattle.semantics.specs.Layout.{Program, placeOf, kindsFrom}
 use Rattle.semantics.specs.Finding.{findOf, evalOf}
 
--- "State: cells below top, row, base, top, counts read, written, steps." The cells are the whole lent store's; the steps are
--- counted by the run.
+-- "State: cells below top, row, base, top, counts read, written, steps." The cells are the whole lent store's; the
+-- steps are counted by the run.
 pub record State (X : Type 0) : Type 0 where
   pub at : Registers
   pub cells : List X
@@ -105,7 +105,9 @@ module _ {X : Type 0} where
 
     -- trap "3 record target's dynamic type is not its static one (after both sides)"
     unfoldable pub otherRecord : Place → Bool
-    otherRecord target = eqb (rowAt (g .types) (target .declared) .kind) 4 also not (eqb (target .dynamic) (target .declared))
+    otherRecord target =
+        eqb (rowAt (g .types) (target .declared) .kind) 4
+        also not (eqb (target .dynamic) (target .declared))
 
     -- "then copy the target type's cells, all read before any is written"
     unfoldable pub copied : Place → Place → Next X
@@ -132,7 +134,8 @@ module _ {X : Type 0} where
         (onValue s (eval k) λ v. next (m .put v ∷ []))
         (onPlace s (find k) λ place. onPart s (place .address) (sizeOf (g .types) (g .fields) (parameter .a)) next))
 
-  -- n arguments from node row k on, to the parameters from variable row a on: "the new frame's cells begin at the old top"
+  -- n arguments from node row k on, to the parameters from variable row a on: "the new frame's cells begin at the old
+  -- top"
   unfoldable pub passed : Memory X → Program → ℕ → ℕ → ℕ → State X → (State X → Next X) → Next X
   passed m g k a zero s next = next s
   passed m g k a (suc n) s next =
@@ -147,8 +150,10 @@ module _ {X : Type 0} where
         let top : ℕ = s .at .top in
         let first : ℕ = firstVariable (g .variables) (g .procedures) q in
         let locals : List X = map (m .blank) (kindsFrom g (first + procedure .b) (procedure .c)) in
-        let links : List X = m .mark LINK (procedureAt (g .procedures) (s .at .row)) ∷ m .mark LINK (s .at .row + 1) ∷ m .mark LINK (s .at .base) ∷ [] in
-        let zeroed : List X = overwrite (s .cells) (top + (3 + roomFrom t (g .fields) (g .variables) first (procedure .b))) locals in
+        let caller : ℕ = procedureAt (g .procedures) (s .at .row) in
+        let links : List X = m .mark LINK caller ∷ m .mark LINK (s .at .row + 1) ∷ m .mark LINK (s .at .base) ∷ [] in
+        let past : ℕ = top + (3 + roomFrom t (g .fields) (g .variables) first (procedure .b)) in
+        let zeroed : List X = overwrite (s .cells) past locals in
         goes (record {
           at = record {
             row = procedure .a;
@@ -164,9 +169,10 @@ module _ {X : Type 0} where
     -- "Call: store check first"; trap "7 frame beyond the store"
     unfoldable pub called : Row → State X → Next X
     called row s =
-        choose (ltb (length (s .cells)) (s .at .top + frameSize (g .types) (g .fields) (g .variables) (g .procedures) (row .a)))
-        (trapped Ts.Frame (pos 0) s)
-        (passed m g (row .b) (firstVariable (g .variables) (g .procedures) (row .a)) (rowAt (g .procedures) (row .a) .b) s
+        let room : ℕ = frameSize (g .types) (g .fields) (g .variables) (g .procedures) (row .a) in
+        let first : ℕ = firstVariable (g .variables) (g .procedures) (row .a) in
+        choose (ltb (length (s .cells)) (s .at .top + room)) (trapped Ts.Frame (pos 0) s)
+        (passed m g (row .b) first (rowAt (g .procedures) (row .a) .b) s
         (entered (row .a) (rowAt (g .procedures) (row .a))))
 
     -- ---- "2 go to b if a is FALSE. 3 go to b."
@@ -199,7 +205,13 @@ module _ {X : Type 0} where
     -- one more input was read, one more output written
     unfoldable pub afterRead : Next X → Next X
     afterRead (goes s) = goes (record {
-      at = record { row = s .at .row; base = s .at .base; top = s .at .top; read = s .at .read + 1; written = s .at .written };
+      at = record {
+        row = s .at .row;
+        base = s .at .base;
+        top = s .at .top;
+        read = s .at .read + 1;
+        written = s .at .written;
+      };
       cells = s .cells;
       output = s .output;
     })
@@ -222,7 +234,13 @@ module _ {X : Type 0} where
         onInteger v λ z.
         choose (ltb (s .at .written) (length (s .output)))
         (goes (record {
-          at = record { row = s .at .row + 1; base = s .at .base; top = s .at .top; read = s .at .read; written = s .at .written + 1 };
+          at = record {
+            row = s .at .row + 1;
+            base = s .at .base;
+            top = s .at .top;
+            read = s .at .read;
+            written = s .at .written + 1;
+          };
           cells = s .cells;
           output = set (s .output) (s .at .written) z;
         }))

@@ -9,7 +9,9 @@ ghost use Rattle.prelude.specs.Choice.{choose};
 ghost use Rattle.image.specs.Rows.{rowsOf};
 ghost use Rattle.nodes.specs.Nodes.{isArgument};
 ghost use Rattle.statements.specs.Runs.{Runs, RunsIn};
-ghost use Rattle.statements.specs.Statements.{beginsAt, nextProcedure, isNode, targetKept, argumentsKept, assignKept, callKept, jumpKept, gotoKept, returnKept, readKept, valueKept, formKept, lastKept, statementIn, question8};
+ghost use Rattle.statements.specs.Statements.{beginsAt, nextProcedure, isNode, targetKept, argumentsKept};
+ghost use Rattle.statements.specs.Statements.{assignKept, callKept, jumpKept, gotoKept, returnKept, readKept};
+ghost use Rattle.statements.specs.Statements.{valueKept, formKept, lastKept, statementIn, question8};
 
 // Whether a body begins behind procedure q's at statement row r.
 fn begins_at(p: &[u8], q: usize, r: usize) -> bool

@@ -10,7 +10,8 @@ ghost use Rattle.image.specs.declared.Verdict.the-variants.{Kept};
 ghost use Rattle.image.specs.Rows.{rowAt, rowsOf};
 ghost use Rattle.types.specs.Question.{question4};
 ghost use Rattle.types.specs.Plan.{Plan};
-ghost use Rattle.typing.specs.Typing.{typeIn, variableNode, fieldNode, elementNode, narrows as narrowsTo, narrowNode};
+ghost use Rattle.typing.specs.Typing.{typeIn, variableNode, fieldNode, elementNode, narrows as narrowsTo};
+ghost use Rattle.typing.specs.Typing.{narrowNode};
 ghost use Rattle.typing.specs.Typing.{dyadicNode, monadicNode, typeBy, typeOf, passed, Typed, question10};
 
 // The type of node k in a table of the lower rows' types.
@@ -127,7 +128,8 @@ fn variable_node(v: &[u8], row: Row) -> KindAnswer
 // The type of a node from those of the lower rows.
 fn node_type(t: &[u8], f: &[u8], plan: &[u32], v: &[u8], types: &[u16], row: Row) -> KindAnswer
     requires { ⌜ (question4 (now t) (now f) ≡ Kept) × Plan (now t) (now f) (rowsOf (now t)) (now plan) ⌝ }
-    ensures { λ x. ⌜ x ≡ typeBy (now (t .entry)) (now (f .entry)) (now (v .entry)) (typeIn (now (types .entry))) (row .kind) row ⌝ }
+    ensures { λ x. ⌜ x ≡ typeBy (now (t .entry)) (now (f .entry)) (now (v .entry)) (typeIn (now (types .entry)))
+        (row .kind) row ⌝ }
 {
     let kind = row.kind;
     match kind {
@@ -153,9 +155,11 @@ pub fn check_typing(
     n: &[u8],
     types: &mut [u16],
 ) -> Verdict
-    requires { ⌜ (question4 (now t) (now f) ≡ Kept) × Plan (now t) (now f) (rowsOf (now t)) (now plan) × (rowsOf (now n) ≤ 2048) × (rowsOf (now n) ≤ length (now types)) ⌝ }
+    requires { ⌜ (question4 (now t) (now f) ≡ Kept) × Plan (now t) (now f) (rowsOf (now t)) (now plan) × (rowsOf
+        (now n) ≤ 2048) × (rowsOf (now n) ≤ length (now types)) ⌝ }
     ensures { λ x. ⌜ x ≡ question10 (now (t .entry)) (now (f .entry)) (now (v .entry)) (now (n .entry)) ⌝ }
-    ensures types { λ x. ⌜ Typed (typeOf (now (t .entry)) (now (f .entry)) (now (v .entry)) (now (n .entry))) (passed (now (n .entry)) x) (now (types .entry)) (now (types .exit)) ⌝ }
+    ensures types { λ x. ⌜ Typed (typeOf (now (t .entry)) (now (f .entry)) (now (v .entry)) (now (n .entry)))
+        (passed (now (n .entry)) x) (now (types .entry)) (now (types .exit)) ⌝ }
 {
     let nodes = image::rows_of(n);
     let mut r: usize = 0;
