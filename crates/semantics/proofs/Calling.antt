@@ -63,18 +63,16 @@ use Rattle.semantics.specs.Sound.{Want, Want.any-value, Want.exactly, Fi
 use Rattle.semantics.specs.Sound.{Matched, Matched.no-more, Matched.one-more, Frame, rowsFrom, valuesOf}
 use Rattle.semantics.specs.Sound.{frameWants, wants, room, Inside, Own, Object, Slot, Slot.by-value, Slot.by-reference}
 use Rattle.semantics.specs.Sound.{Called, Called.is-called, Stack, Stack.a-frame, Sound}
-use Rattle.semantics.proofs.Holding.{matched-length, matched-part, put-above, put-length, part-below}
+use Rattle.semantics.proofs.Holding.{matched-length, matched-append, matched-part, put-above, put-length, part-below}
 use Rattle.semantics.proofs.Kept.{Unchanged, NextOk, NextOk.ok-goes, NextOk.ok-trapped}
 use Rattle.semantics.proofs.Evaluating.{FoundOk, FoundOk.found-ok, FoundOk.found-trap, Designates, Designates.as-argument}
 use Rattle.semantics.proofs.Evaluating.{find-ok, eval-ok}
 use Rattle.semantics.proofs.Objects.{values-length, object-front, slots-length, room-next, place-own}
+use Rattle.semantics.proofs.Kinship.{extends-low, extends-scalar}
+use Rattle.semantics.proofs.Performing.{unchanged, ok-choose, ok-yes, on-place-ok, on-value-ok, part-end, put-fits}
+use Rattle.semantics.proofs.Performing.{typed-low, structured-designator, scalar-values, row-within, procedure-is, kind-inside}
 
 -- ---- lists
-
-module _ {A B : Type 0} {R : A → B → Type 0} where
-  matched-both : {l m : List A} {w x : List B} → Matched R l w → Matched R m x → Matched R (l ++ m) (w ++ x)
-  matched-both no-more k = k
-  matched-both (one-more r h) k = one-more r (matched-both h k)
 
 rows-both : (k m n : ℕ) → rowsFrom k (m + n) ≡ rowsFrom k m ++ rowsFrom (k + m) n
 unfolding rowsFrom
@@ -89,11 +87,6 @@ module _ {A : Type 0} where
   unfolding joined
   joined-both [] ys = refl
   joined-both (x ∷ xs) ys = ap (λ l. x ++ l) (joined-both xs ys) ∙ sym (append-assoc x (joined xs) (joined ys))
-
-  part-ends : {l xs : List A} {at : ℕ} → Part l at xs → at + length xs ≤ length l
-  part-ends {l} {xs} {at} p =
-      let w = p .within in
-      omega (arith, length-append xs (p .rest), length-drop at l, ap length (p .seen))
 
   -- a part grows by what is written behind it
   part-put : (l xs new : List A) (at : ℕ) → Part l at xs → at + length xs + length new ≤ length l
@@ -127,12 +120,6 @@ module _ {A : Type 0} where
 
 -- ---- cells
 
-put-fits : {v : Value} {k : ℕ} → kindOf v ≡ k → InRange v → Fits (tagged .put v) (any-value k)
-unfolding tagged
-put-fits {v} {k} e h =
-    let back : cellOf k (numberOf v) ≡ As.Val v = rw (← e) (cell-back h) in
-    fits-value {c = record { kind = kindOf v; number = numberOf v }} {v = v} e back
-
 -- a zeroed cell of a scalar kind
 blank-fits : (k : ℕ) → k ≤ 2 → Fits (tagged .blank k) (any-value k)
 unfolding tagged cellOf booleanCell integerCell setCell isInteger isSet choose
@@ -150,7 +137,7 @@ blanks-none = record { matched = no-more }
 
 blanks-both : (l m : List ℕ) → BlanksFit l → BlanksFit m → BlanksFit (l ++ m)
 blanks-both l m a b = record {
-  matched = rw (map-append (tagged .blank) l m, map-append any-value l m) (matched-both (a .matched) (b .matched));
+  matched = rw (map-append (tagged .blank) l m, map-append any-value l m) (matched-append (a .matched) (b .matched));
 }
 
 blanks-replicated : (n : ℕ) (l : List ℕ) → BlanksFit l → BlanksFit (joined (replicate n l))
@@ -192,100 +179,6 @@ blanks-layout t f r =
     each layout k low high j (yes h) = low j h
     each layout k low high j (no h) = rw (high j (omega arith)) blanks-none
 
--- ---- types
-
--- a type extends lower rows only
-extends-low : {t : List ℕ} {r u : ℕ} → Extends t r u → u ≤ r
-extends-low same = omega arith
-extends-low (up base low e) = let below = extends-low e in omega arith
-
-scalar-shape : {t f : List ℕ} {used r : ℕ} {x : Form} → Shape t f used r x → r < 3 → x ≡ scalar r
-scalar-shape (is-scalar l) h = refl
-scalar-shape (is-array l a b c) h = absurd (omega arith)
-scalar-shape (is-record l a b c) h = absurd (omega arith)
-
-shape-based : {t f : List ℕ} {used r b : ℕ} {x : Form} → Shape t f used r x → baseOf x ≡ suc b → Based t r (suc b)
-unfolding baseOf
-shape-based (is-scalar l) e = absurd (omega arith)
-shape-based (is-array l a b c) e = absurd (omega arith)
-shape-based (is-record l on rows own) e = rw e at on
-
-based-kind : {t : List ℕ} {r b : ℕ} → Based t r (suc b) → rowAt t b .kind ≡ 4
-based-kind (on-base low kind) = kind
-
-module _ (t f : List ℕ) (kept : TypesKept t f) where
-  -- a base is no scalar
-  base-later : (r b : ℕ) → r < rowsOf t → b < r → baseOf (form t r) ≡ suc b → 3 ≤ b
-  unfolding form
-  base-later r b h low e =
-      let kind = based-kind (shape-based (kept .row r h .shape) e) in
-      record-is (kept .row b (omega arith) .shape) (form-record (rowAt t b) kind) .later
-
-  -- nothing else extends a scalar
-  scalar-extended : {r u : ℕ} → Extends t r u → r < rowsOf t → u ≤ 2 → r ≡ u
-  scalar-extended same h few = refl
-  scalar-extended {r} (up {b = b} base low e) h few =
-      let later = base-later r b h low base in
-      let there = scalar-extended e (omega arith) few in
-      absurd (omega arith)
-
-  scalar-values : (r : ℕ) → r < 3 → r < rowsOf t → layoutOf t f r ≡ r ∷ []
-  unfolding layoutBy
-  scalar-values r h low =
-      let shape = kept .row r low .shape in
-      layout-is t f r shape ∙ ap (layoutBy f (layoutOf t f)) (scalar-shape shape h)
-
--- only a designator has a type that is no scalar
-module _ (t f v n : List ℕ) (kept : question7 t v n ≡ Kept) (r : ℕ) (h : r < rowsOf n) where
-  designator-by : 1 ≤ rowAt n r .kind → rowAt n r .kind ≤ 4 → isDesignator n r ≡ true
-  unfolding isDesignator
-  designator-by low high = also-yes (le-leb _ _ low) (le-leb _ _ high)
-
-  designator-typed : {x : ℕ} → NodeTyped t f v n r x → 3 ≤ x → (rowAt n r .kind ≡ 8 → ⊥) → isDesignator n r ≡ true
-  designator-typed (by-constant k e) l plain = let low = constant-is t v n kept r h k .typed in absurd (omega arith)
-  designator-typed (by-variable k e) l plain = designator-by (omega arith) (omega arith)
-  designator-typed (by-field k e) l plain = designator-by (omega arith) (omega arith)
-  designator-typed (by-element k e) l plain = designator-by (omega arith) (omega arith)
-  designator-typed (by-guard k e) l plain = designator-by (omega arith) (omega arith)
-  designator-typed {x} (by-dyadic k e) l plain =
-      let low = dyadic-low (rowAt n r .c) (e .left) (e .right) x (e .result) in
-      absurd (omega arith)
-  designator-typed {x} (by-monadic k e) l plain =
-      let low = monadic-low (rowAt n r .c) (e .operand) x (e .result) in
-      absurd (omega arith)
-  designator-typed (by-test k e) l plain = let zero-row = e .boolean in absurd (omega arith)
-  designator-typed (by-argument k e) l plain = absurd (plain k)
-
--- ---- ways to go on from cells that differ above top
-
-module _ (g : Program) (s : State Cell) where
-  either-ok : (b : Bool) {x y : Next Cell} → (b ≡ true → NextOk g s x) → (b ≡ false → NextOk g s y)
-      → NextOk g s (choose b x y)
-  unfolding choose
-  either-ok true f h = f refl
-  either-ok false f h = h refl
-
-  module _ {s′ : State Cell} (same-below : Unchanged s s′) where
-    place-ok : {fs : List Frame} {x : ℕ} {found : Found} (next : Place → Next Cell) → FoundOk g fs x found
-        → ((place : Place) → place .declared ≡ x → extends (g .types) (place .dynamic) (place .declared) ≡ true
-        → Object g fs (place .address) (place .dynamic) → NextOk g s (next place))
-        → NextOk g s (onPlace s′ found next)
-    unfolding onPlace
-    place-ok next (found-ok {place = place} d e o) more = more place d e o
-    place-ok next found-trap more = ok-trapped same-below
-
-    value-ok : {k : ℕ} {answer : Answer} (next : Value → Next Cell) → Gives k answer
-        → ((v : Value) → kindOf v ≡ k → InRange v → NextOk g s (next v))
-        → NextOk g s (onValue s′ answer next)
-    unfolding onValue
-    value-ok next (Gives.value {v = v} e h) more = more v e h
-    value-ok next Gives.trapped more = ok-trapped same-below
-
-    part-ok : (a n : ℕ) (next : List Cell → Next Cell) → a + n ≤ s′ .at .top
-        → NextOk g s (next (partAt (s′ .cells) a n)) → NextOk g s (onPart s′ a n next)
-    unfolding onPart
-    part-ok a n next h more = rw (choose-yes (leb (a + n) (s′ .at .top)) (next (partAt (s′ .cells) a n)) _ (le-leb _ _ h)) more
-
 -- ---- one argument
 
 module _ (g : Program) (ok : AcceptedTables (g .types) (g .fields) (g .variables) (g .procedures) (g .nodes) (g .statements)) where
@@ -325,7 +218,7 @@ locals-fit g fs (suc n) k kept =
     let rest = locals-fit g fs n (k + 1) (record { each = λ j low high. kept .each j (omega arith) (omega arith) }) in
     let kind = local-kind (g .variables) k (kept .each k (omega arith) (omega arith)) in
     let own = blanks-layout (g .types) (g .fields) (rowAt (g .variables) k .a) .matched in
-    let all = matched-both own (rest .fits) in
+    let all = matched-append own (rest .fits) in
     let slot : Slot g fs k (valuesOf g (rowAt (g .variables) k .a)) = by-value (omega arith) in
     record {
       slots = valuesOf g (rowAt (g .variables) k .a) ∷ rest .slots;
@@ -373,9 +266,7 @@ module _ (g : Program) (ok : AcceptedTables (g .types) (g .fields) (g .variables
       kind = argument-kind (g .nodes) k argument
 
       passed-row : ruled .passed < rowsOf (g .types)
-      passed-row =
-          type-low (g .types) (g .fields) (g .variables) (g .nodes) (ok .questions .types) (ok .scalars) (ok .questions .variables)
-          (ok .questions .nodes) k (ruled .passed) (ruled .passed-type)
+      passed-row = typed-low g ok k (ruled .passed) (ruled .passed-type)
 
       found : isDesignator (g .nodes) (rowAt (g .nodes) k .a) ≡ true
           → FoundOk g (sound .newest ∷ sound .others) (ruled .passed) (findOf tagged g (s .at .base) (s .at .top) cells k)
@@ -394,7 +285,7 @@ module _ (g : Program) (ok : AcceptedTables (g .types) (g .fields) (g .variables
           λ place. next (tagged .mark ADDRESS (place .address) ∷ tagged .mark TYPE (place .dynamic) ∷ []))
       unfolding tagged
       reference-ok var =
-          place-ok g s (above-unchanged cells above) _ (found (ruled .designator var)) λ place d e o.
+          on-place-ok g s (above-unchanged cells above) _ (found (ruled .designator var)) λ place d e o.
           more _ (exactly ADDRESS (place .address) ∷ exactly TYPE (place .dynamic) ∷ []) (by-reference var o (extended place d e))
           (one-more (fits-exactly refl refl) (one-more (fits-exactly refl refl) no-more))
 
@@ -403,38 +294,37 @@ module _ (g : Program) (ok : AcceptedTables (g .types) (g .fields) (g .variables
           → NextOk g s (onValue (over cells) (evalOf tagged g (s .at .base) (s .at .top) cells k) λ v. next (tagged .put v ∷ []))
       unfolding valuesOf
       scalar-ok plain few =
+          let low = ok .variable a there .typed in
           let same-type : ruled .passed ≡ rowAt (g .variables) a .a =
-          scalar-extended (g .types) (g .fields) (ok .types) (extends-yes (g .types) _ _ (ruled .extension)) passed-row few in
-          let values : valuesOf g (rowAt (g .variables) a .a) ≡ any-value (rowAt (g .variables) a .a) ∷ [] =
-          ap (map any-value) (scalar-values (g .types) (g .fields) (ok .types) (rowAt (g .variables) a .a) (omega arith) (ok .variable a there .typed)) in
+          extends-scalar (g .types) (g .fields) (ok .types) (ruled .passed) (rowAt (g .variables) a .a) few low (ruled .extension) passed-row in
+          let values = scalar-values g ok (rowAt (g .variables) a .a) few in
           let slot : Slot g (sound .newest ∷ sound .others) a (valuesOf g (rowAt (g .variables) a .a)) = by-value plain in
-          value-ok g s (above-unchanged cells above) _
+          on-value-ok g s (above-unchanged cells above) _
           (eval-ok g ok bytes (over cells) (above-sound cells above) k (ruled .passed) within (ruled .passed-type) (ruled .own) (omega arith))
-          λ v e h. more _ (any-value (rowAt (g .variables) a .a) ∷ []) (rw values at slot) (one-more (put-fits (e ∙ same-type) h) no-more)
+          λ v e h. more _ (any-value (rowAt (g .variables) a .a) ∷ []) (rw values at slot) (one-more (put-fits v (rowAt (g .variables) a .a) (e ∙ same-type) h) no-more)
 
       -- another object's cells
       holds : 3 ≤ rowAt (g .variables) a .a → isDesignator (g .nodes) (rowAt (g .nodes) k .a) ≡ true
       holds many =
-          let low = extends-low (extends-yes (g .types) (ruled .passed) (rowAt (g .variables) a .a) (ruled .extension)) in
+          let low = extends-low (g .types) (ruled .passed) (rowAt (g .variables) a .a) (ruled .extension) in
           let child = argument-is (g .types) (g .variables) (g .nodes) (ok .questions .nodes) k within kind .holds .node in
           let type = argument-typed (g .types) (g .fields) (g .variables) (g .nodes) (ok .questions .nodes) k within (ruled .passed-type) kind in
-          designator-typed (g .types) (g .fields) (g .variables) (g .nodes) (ok .questions .nodes) (rowAt (g .nodes) k .a) (child .within)
-          (typed-node (g .types) (g .fields) (g .variables) (g .nodes) (ok .questions .nodes) (rowAt (g .nodes) k .a) (child .within) type)
-          (omega arith) (child .plain)
+          structured-designator g ok (rowAt (g .nodes) k .a) (ruled .passed) child type (omega arith)
 
       copied-ok : rowAt (g .variables) a .kind ≤ 2 → 3 ≤ rowAt (g .variables) a .a
           → NextOk g s (onPlace (over cells) (findOf tagged g (s .at .base) (s .at .top) cells k)
           λ place. onPart (over cells) (place .address) (sizeOf (g .types) (g .fields) (rowAt (g .variables) a .a)) next)
+      unfolding onPart
       copied-ok plain many =
-          place-ok g s (above-unchanged cells above) _ (found (holds many)) λ place d e o.
+          on-place-ok g s (above-unchanged cells above) _ (found (holds many)) λ place d e o.
           let r : ℕ = rowAt (g .variables) a .a in
           let size = values-length g ok r (ok .variable a there .typed) in
           let part = object-front g ok r (sound .stack) o (extended place d e) in
           let matched = matched-part (above-sound cells above .holding) part in
-          let end = part-ends part in
+          let end = part-end part in
           let top = sound .ends in
           let low : place .address + sizeOf (g .types) (g .fields) r ≤ s .at .top = omega arith in
-          part-ok g s (above-unchanged cells above) (place .address) (sizeOf (g .types) (g .fields) r) next low
+          ok-yes g s _ _ (le-leb (place .address + sizeOf (g .types) (g .fields) r) (s .at .top) low)
           (more _ (valuesOf g r) (by-value plain)
           (rw (part-below cells (place .address) (sizeOf (g .types) (g .fields) r) (s .at .top) low) at (rw size at matched)))
 
@@ -447,9 +337,9 @@ module _ (g : Program) (ok : AcceptedTables (g .types) (g .fields) (g .variables
       argument-ok : NextOk g s (argumentCells tagged g (over cells) k (rowAt (g .variables) a) next)
       unfolding argumentCells
       argument-ok =
-          either-ok g s (eqb (rowAt (g .variables) a .kind) 3) (λ e. reference-ok (eqb-true _ _ e)) λ e.
+          ok-choose g s (eqb (rowAt (g .variables) a .kind) 3) (λ e. reference-ok (eqb-true _ _ e)) λ e.
           let plain = parameter-kind (eqb-false _ _ e) in
-          either-ok g s (leb (rowAt (g .variables) a .a) 2) (λ l. scalar-ok plain (leb-true _ _ l)) λ l.
+          ok-choose g s (leb (rowAt (g .variables) a .a) 2) (λ l. scalar-ok plain (leb-true _ _ l)) λ l.
           copied-ok plain (leb-false _ _ l)
 
   -- ---- all arguments
@@ -525,8 +415,8 @@ module _ (g : Program) (ok : AcceptedTables (g .types) (g .fields) (g .variables
             slots = p .slots ++ (ws ∷ []);
             placed = part-put cells args new (s .at .top + 3) (p .placed) room;
             filled = rw one (omega (arith, length-append args new, p .filled, room-more (sizeOf (g .types) (g .fields)) (g .variables) first j));
-            fits = rw (joined-both (p .slots) (ws ∷ []), append-nil ws) (matched-both (p .fits) matched);
-            slotted = rw (rows-both first j 1) (matched-both (p .slotted) (one-more slot no-more));
+            fits = rw (joined-both (p .slots) (ws ∷ []), append-nil ws) (matched-append (p .fits) matched);
+            slotted = rw (rows-both first j 1) (matched-append (p .slotted) (one-more slot no-more));
           })
 
     -- ---- the frame is entered
@@ -536,25 +426,14 @@ module _ (g : Program) (ok : AcceptedTables (g .types) (g .fields) (g .variables
       count = rowAt (g .procedures) q .b
 
       row-there : s .at .row < rowsOf (g .statements)
-      row-there =
-          let within = end-within (g .variables) (g .procedures) (g .statements) (ok .procedures) (sound .newest .procedure) (sound .inside .procedure) in
-          let end = sound .inside .end in
-          omega arith
+      row-there = row-within g ok bytes s sound
 
       caller : procedureAt (g .procedures) (s .at .row) ≡ sound .newest .procedure
-      caller =
-          let inside = sound .inside in
-          sym (body-only (g .variables) (g .procedures) (g .statements) (ok .procedures) (sound .newest .procedure) (s .at .row)
-          (record { procedure = inside .procedure; start = inside .start; end = inside .end }))
+      caller = sym (procedure-is g ok bytes s sound)
 
       -- the row behind a call is in the same body
       behind : Inside g (sound .newest .procedure) (s .at .row + 1)
-      behind =
-          let last = no-end (rowAt (g .statements) (s .at .row)) (λ e. absurd (omega arith)) (λ e. absurd (omega arith)) (λ e. absurd (omega arith)) in
-          let b = behind-in (g .variables) (g .procedures) (g .statements) (ok .procedures) (ok .counts .some-procedure) (s .at .row) row-there
-          (g .nodes) (ok .questions .statements) last in
-          let c = rw caller at b in
-          record { procedure = c .procedure; start = c .start; end = c .end }
+      behind = kind-inside g ok bytes s sound 1 call (omega arith) (omega arith) (omega arith)
 
       module _ (cells : List Cell) (p : Passing count cells) where
         own-locals : LocalsFit g (sound .newest ∷ sound .others) (first + count) (rowAt (g .procedures) q .c)
@@ -580,7 +459,7 @@ module _ (g : Program) (ok : AcceptedTables (g .types) (g .fields) (g .variables
 
         frame-slots : Matched (Slot g (sound .newest ∷ sound .others)) (rowsFrom first (claimedBy (rowAt (g .procedures) q))) (frame .slots)
         unfolding claimedBy
-        frame-slots = rw (rows-both first count (rowAt (g .procedures) q .c)) (matched-both (p .slotted) (own-locals .slotted))
+        frame-slots = rw (rows-both first count (rowAt (g .procedures) q .c)) (matched-append (p .slotted) (own-locals .slotted))
 
         frame-stack : Stack g (frame ∷ sound .newest ∷ sound .others)
         frame-stack =
@@ -591,7 +470,7 @@ module _ (g : Program) (ok : AcceptedTables (g .types) (g .fields) (g .variables
         unfolding frameWants tagged
         frame-fits =
             let slots : Matched Fits (p .arguments ++ locals) (joined (p .slots ++ own-locals .slots)) =
-            rw (joined-both (p .slots) (own-locals .slots)) (matched-both (p .fits) (own-locals .fits)) in
+            rw (joined-both (p .slots) (own-locals .slots)) (matched-append (p .fits) (own-locals .fits)) in
             one-more (fits-exactly refl refl) (one-more (fits-exactly refl refl) (one-more (fits-exactly refl refl) slots))
 
         frame-length : length (links ++ (p .arguments ++ locals)) ≡ frameSize (g .types) (g .fields) (g .variables) (g .procedures) q
@@ -635,7 +514,7 @@ module _ (g : Program) (ok : AcceptedTables (g .types) (g .fields) (g .variables
             let many = zeroed-length in
             let stored = sound .stored in
             rw (frame-cells zeroed links (p .arguments ++ locals) (s .at .top) (frameSize (g .types) (g .fields) (g .variables) (g .procedures) q) (omega arith) frame-length zeroed-part, zeroed-below)
-            (matched-both (sound .holding) frame-fits)
+            (matched-append (sound .holding) frame-fits)
 
         entered-sound : Sound g (record {
           at = record {
@@ -709,9 +588,7 @@ module _ (g : Program) (ok : AcceptedTables (g .types) (g .fields) (g .variables
   -- the procedure of a call
   callee-there : rowAt (g .statements) (s .at .row) .kind ≡ 1 → rowAt (g .statements) (s .at .row) .a < rowsOf (g .procedures)
   callee-there call =
-      let within = end-within (g .variables) (g .procedures) (g .statements) (ok .procedures) (sound .newest .procedure) (sound .inside .procedure) in
-      let end = sound .inside .end in
-      call-is (g .nodes) (g .procedures) (g .statements) (ok .questions .statements) (s .at .row) (omega arith) call .procedure
+      call-is (g .nodes) (g .procedures) (g .statements) (ok .questions .statements) (s .at .row) (row-within g ok bytes s sound) call .procedure
 
   -- a call goes on to a sound state or ends in a trap
   pub called-ok : rowAt (g .statements) (s .at .row) .kind ≡ 1
@@ -720,7 +597,7 @@ module _ (g : Program) (ok : AcceptedTables (g .types) (g .fields) (g .variables
   called-ok call =
       let q : ℕ = rowAt (g .statements) (s .at .row) .a in
       let there = callee-there call in
-      either-ok g s _ (λ e. ok-trapped (above-unchanged (s .cells) (record { as-many = refl; same-below = refl }))) λ e.
+      ok-choose g s _ (λ e. ok-trapped (unchanged g s)) λ e.
       let fitting : s .at .top + frameSize (g .types) (g .fields) (g .variables) (g .procedures) q ≤ length (s .cells) = ltb-false _ _ e in
       passed-ok q there fitting call refl (rowAt (g .procedures) q .b) 0 (rowAt (g .statements) (s .at .row) .b)
       (firstVariable (g .variables) (g .procedures) q) (omega arith) (omega arith) (omega arith) (s .cells) (passing-none q there fitting)

@@ -93,19 +93,21 @@ module _ (g : Program) (s : State Cell) where
   ok-either true h k = h
   ok-either false h k = k
 
-  pub on-place-ok : {fs : List Frame} {x : ℕ} {m : Found} (k : Place → Next Cell) → FoundOk g fs x m
-      → ((place : Place) → place .declared ≡ x → extends (g .types) (place .dynamic) (place .declared) ≡ true
-      → Object g fs (place .address) (place .dynamic) → NextOk g s (k place))
-      → NextOk g s (onPlace s m k)
-  unfolding onPlace
-  on-place-ok k (found-ok {place = place} declared extended object) f = f place declared extended object
-  on-place-ok k found-trap f = ok-trapped unchanged
+  -- after cells above top were written
+  module _ {s′ : State Cell} (same : Unchanged s s′) where
+    pub on-place-ok : {fs : List Frame} {x : ℕ} {m : Found} (k : Place → Next Cell) → FoundOk g fs x m
+        → ((place : Place) → place .declared ≡ x → extends (g .types) (place .dynamic) (place .declared) ≡ true
+        → Object g fs (place .address) (place .dynamic) → NextOk g s (k place))
+        → NextOk g s (onPlace s′ m k)
+    unfolding onPlace
+    on-place-ok k (found-ok {place = place} declared extended object) f = f place declared extended object
+    on-place-ok k found-trap f = ok-trapped same
 
-  pub on-value-ok : {x : ℕ} {m : Answer} (k : Value → Next Cell) → Gives x m
-      → ((v : Value) → kindOf v ≡ x → InRange v → NextOk g s (k v)) → NextOk g s (onValue s m k)
-  unfolding onValue
-  on-value-ok k (value {v = v} kind range) f = f v kind range
-  on-value-ok k gives-trap f = ok-trapped unchanged
+    pub on-value-ok : {x : ℕ} {m : Answer} (k : Value → Next Cell) → Gives x m
+        → ((v : Value) → kindOf v ≡ x → InRange v → NextOk g s (k v)) → NextOk g s (onValue s′ m k)
+    unfolding onValue
+    on-value-ok k (value {v = v} kind range) f = f v kind range
+    on-value-ok k gives-trap f = ok-trapped same
 
   pub on-integer-ok : (v : Value) (k : ℤ → Next Cell) → kindOf v ≡ INTEGER → ((z : ℤ) → NextOk g s (k z))
       → NextOk g s (onInteger v k)
@@ -429,21 +431,21 @@ module _ (g : Program)
       let y-low = typed-low g ok (row .a) y (ruled .target-type) in
       let inside = kind-inside 0 kind (omega arith) (omega arith) (omega arith) in
       let d = form .target in
-      on-place-ok g s _ (found-here (row .a) y (d .within) (ruled .target-type) (ruled .own-target)
+      on-place-ok g s (unchanged g s) _ (found-here (row .a) y (d .within) (ruled .target-type) (ruled .own-target)
       (itself (designator-yes (g .nodes) (row .a) (d .least) (d .most)))) (λ target declared extended object.
       ok-choose g s _
       (λ scalar.
       let y-scalar : y ≤ 2 = omega (arith, leb-true (target .declared) 2 scalar) in
       let one : x ≡ y = extends-scalar t (g .fields) (ok .types) x y y-scalar y-low (ruled .extension) x-low in
       let known = form .source .within in
-      on-value-ok g s _ (given-here (row .b) x known (ruled .source-type) (ruled .own-source) (omega arith))
+      on-value-ok g s (unchanged g s) _ (given-here (row .b) x known (ruled .source-type) (ruled .own-source) (omega arith))
       (λ v k range. put-ok target v extended object (k ∙ one ∙ sym declared) range (omega arith) inside))
       (λ structured.
       let y-large : 3 ≤ y = omega (arith, leb-false (target .declared) 2 structured) in
       let upward = extends-low t x y (ruled .extension) in
       let from = structured-designator g ok (row .b) x (form .source) (ruled .source-type) (omega arith) in
       let known = form .source .within in
-      on-place-ok g s _ (found-here (row .b) x known (ruled .source-type) (ruled .own-source) (itself from))
+      on-place-ok g s (unchanged g s) _ (found-here (row .b) x known (ruled .source-type) (ruled .own-source) (itself from))
       (λ source stated held there.
       copied-ok target source (rw declared y-low) extended object held there
       (rw (declared, stated) (ruled .extension)) inside)))
@@ -458,7 +460,7 @@ module _ (g : Program)
       let ruled = rules (ok .questions .rules) (s .at .row) row-within kind in
       let inside = kind-inside 2 kind (omega arith) (omega arith) (omega arith) in
       let known = form .condition .within in
-      on-value-ok g s _ (given-here (row .a) BOOLEAN known (ruled .type) (ruled .own) (omega arith))
+      on-value-ok g s (unchanged g s) _ (given-here (row .a) BOOLEAN known (ruled .type) (ruled .own) (omega arith))
       (λ v k range. on-boolean-ok g s v _ k (λ holds.
       ok-either g s holds (gone-ok (s .at .row + 1) inside)
       (gone-ok (row .b) (target-inside (row .b) (form .target)))))
@@ -543,7 +545,7 @@ module _ (g : Program)
       let ruled = rules (ok .questions .rules) (s .at .row) row-within kind in
       let inside = kind-inside 5 kind (omega arith) (omega arith) (omega arith) in
       let d = form .target in
-      on-place-ok g s _ (found-here (row .a) INTEGER (d .within) (ruled .type) (ruled .own)
+      on-place-ok g s (unchanged g s) _ (found-here (row .a) INTEGER (d .within) (ruled .type) (ruled .own)
       (itself (designator-yes (g .nodes) (row .a) (d .least) (d .most)))) (λ target declared extended object.
       ok-choose g s _
       (λ more. read-ok (put-ok target (Vs.Int (inputAt tagged g input (s .at .read))) extended object (sym declared)
@@ -556,7 +558,7 @@ module _ (g : Program)
       let rules = write-ruled (g .types) (g .fields) (g .variables) (g .procedures) (g .nodes) (g .statements) in
       let ruled = rules (ok .questions .rules) (s .at .row) row-within kind in
       let inside = kind-inside 6 kind (omega arith) (omega arith) (omega arith) in
-      on-value-ok g s _ (given-here (row .a) INTEGER (form .value .within) (ruled .type) (ruled .own) (omega arith))
+      on-value-ok g s (unchanged g s) _ (given-here (row .a) INTEGER (form .value .within) (ruled .type) (ruled .own) (omega arith))
       (λ v k range. on-integer-ok g s v _ k (λ z.
       ok-choose g s _
       (λ more. ok-goes (sound-with (s .at .row + 1) (s .at .read) (s .at .written + 1) (s .cells)
@@ -569,7 +571,7 @@ module _ (g : Program)
   halted-ok kind form =
       let rules = halt-ruled (g .types) (g .fields) (g .variables) (g .procedures) (g .nodes) (g .statements) in
       let ruled = rules (ok .questions .rules) (s .at .row) row-within kind .value in
-      on-value-ok g s _ (given-here (row .a) INTEGER (form .value .within) (ruled .type) (ruled .own) (omega arith))
+      on-value-ok g s (unchanged g s) _ (given-here (row .a) INTEGER (form .value .within) (ruled .type) (ruled .own) (omega arith))
       (λ v k range. on-integer-ok g s v _ k (λ z. ok-trapped (unchanged g s)))
 
   -- ---- by the kind
