@@ -1,39 +1,30 @@
 -- A call from a sound state: arguments are passed one by one, then the procedure's frame is entered.
-use mathlib.Core.Path.{_≡_, refl, sym, _∙_, ap, subst}
+use mathlib.Core.Path.{_≡_, refl, sym, _∙_, ap}
 use mathlib.Core.Bool.{Bool, true, false}
 use mathlib.Core.List.{List, [], _∷_, _++_, map, append-assoc, append-nil}
 use Prim.Native.Nat.{ℕ, zero, suc, _+_, _-_, _≤_, _<_}
 use native.Mathlib.Omega.{arith}
 use native.Mathlib.Decide.{decLt}
-use borrow.Author.Tests.{eqb-true, eqb-false, leb-true, leb-false, ltb-false, eq-eqb, ne-eqb, le-leb}
-use lib.Dec.{ltb, leb, eqb}
-use lib.IntN.{ℤ, pos}
-use lib.ListN.{length, take, drop, replicate, length-append, length-drop, length-map}
+use borrow.Author.Tests.{eqb-true, eqb-false, leb-true, leb-false, ltb-false, ne-eqb, le-leb}
+use lib.Dec.{leb, eqb}
+use lib.ListN.{length, take, drop, replicate, length-append}
 use lib.Seq.{length-take-le, take-add, take-at, take-append-seam, take-append-add, drop-at}
-use Rattle.prelude.specs.Choice.{choose, _also_}
+use Rattle.prelude.specs.Choice.{choose}
 use Rattle.prelude.specs.Parts.{joined, Part}
-use Rattle.prelude.proofs.Choice.{choose-yes, choose-no, also-true, also-yes}
+use Rattle.prelude.proofs.Choice.{choose-no, also-true}
 use Rattle.prelude.proofs.Parts.{map-append}
 use Rattle.prelude.proofs.Rec.{rec-ind}
 use Rattle.image.specs.declared.Row.{Row}
 use Rattle.image.specs.Rows.{rowAt, rowsOf}
 use Rattle.image.specs.Faults.{KeptIn}
 use Rattle.image.proofs.Bytes.{Bytes}
-use Rattle.shapes.specs.Forms.{Form, Form.scalar, Form.array, Form.recordOf, Form.noForm, form, formOf, baseOf, ofBase, ownTypes}
+use Rattle.shapes.specs.Forms.{Form.scalar, Form.array, Form.recordOf, Form.noForm, form, formOf, ofBase, ownTypes}
 use Rattle.shapes.specs.Sizes.{layoutBy, layoutOf, sizeOf}
-use Rattle.shapes.proofs.Rows.{form-record}
-use Rattle.shapes.proofs.Accepted.{TypesKept, Shape, Shape.is-scalar, Shape.is-array, Shape.is-record, record-is}
-use Rattle.shapes.proofs.Accepted.{Based, Based.no-base, Based.on-base, layout-is}
 use Rattle.relations.specs.Extends.{extends}
-use Rattle.relations.proofs.Extension.{Extends, Extends.same, Extends.up, extends-yes, extends-trans}
-use Rattle.image.specs.declared.Verdict.the-variants.{Kept}
-use Rattle.nodes.specs.Nodes.{isDesignator, isArgument, question7}
-use Rattle.nodes.proofs.Accepted.{constant-is, argument-is, argument-kind, argument-within}
-use Rattle.typing.specs.Typing.{typeOf}
-use Rattle.typing.proofs.Lower.{dyadic-low, monadic-low}
-use Rattle.typing.proofs.Accepted.{NodeTyped, NodeTyped.by-constant, NodeTyped.by-variable, NodeTyped.by-field}
-use Rattle.typing.proofs.Accepted.{NodeTyped.by-element, NodeTyped.by-guard, NodeTyped.by-dyadic, NodeTyped.by-monadic}
-use Rattle.typing.proofs.Accepted.{NodeTyped.by-test, NodeTyped.by-argument, typed-node, argument-typed, type-low}
+use Rattle.relations.proofs.Extension.{extends-trans}
+use Rattle.nodes.specs.Nodes.{isDesignator, isArgument}
+use Rattle.nodes.proofs.Accepted.{argument-is, argument-kind, argument-within}
+use Rattle.typing.proofs.Accepted.{argument-typed}
 use Rattle.frames.specs.Variables.{isLocal, isParameter, kindWithin}
 use Rattle.frames.specs.Procedures.{firstVariable, claimedBy}
 use Rattle.places.specs.Places.{roomBy, widthOf, roomFrom, frameSize, placeIn}
@@ -41,31 +32,23 @@ use Rattle.places.proofs.Rooms.{width-var, width-other, room-more}
 use Rattle.places.proofs.Counting.{first-next}
 use Rattle.places.proofs.Owning.{own-within}
 use Rattle.statements.specs.Statements.{procedureAt}
-use Rattle.statements.proofs.Accepted.{CallRow, call-is, behind-in, no-end}
-use Rattle.statements.proofs.Bodies.{InBody, start-in, end-within, body-only}
-use Rattle.rules.proofs.Accepted.{ArgumentRuled, CallRuled, call-ruled}
+use Rattle.statements.proofs.Accepted.{CallRow, call-is}
+use Rattle.statements.proofs.Bodies.{start-in}
+use Rattle.rules.proofs.Accepted.{ArgumentRuled, call-ruled}
 use Rattle.checker.proofs.Accepted.{AcceptedTables}
-use Rattle.values.specs.Values.{kindOf, numberOf, cellOf, booleanCell, integerCell, setCell, isInteger, isSet, InRange, Gives}
-use Rattle.values.specs.Values.{Gives.value, Gives.trapped}
-use Rattle.values.proofs.Cells.{cell-back}
-use Rattle.values.specs.declared.Value.{Value}
-use Rattle.values.specs.declared.Value.the-variants as Vs
-use Rattle.values.specs.declared.Answer.{Answer}
-use Rattle.values.specs.declared.Answer.the-variants as As
+use Rattle.values.specs.Values.{cellOf, booleanCell, integerCell, setCell, isInteger, isSet}
 use Rattle.semantics.specs.declared.Place.{Place}
-use Rattle.semantics.specs.declared.Found.{Found}
-use Rattle.semantics.specs.declared.Found.the-variants as Fs
-use Rattle.semantics.specs.Memory.{LINK, ADDRESS, TYPE, Cell, tagged, partAt, overwrite}
+use Rattle.semantics.specs.Memory.{LINK, ADDRESS, TYPE, Cell, tagged, overwrite}
 use Rattle.semantics.specs.Layout.{Program, placeOf, kindsOf, kindsFrom}
 use Rattle.semantics.specs.Finding.{findOf, evalOf}
 use Rattle.semantics.specs.Stepping.{State, Next, onPlace, onValue, onPart, withCells, argumentCells, passed, entered, called}
 use Rattle.semantics.specs.Sound.{Want, Want.any-value, Want.exactly, Fits, Fits.fits-value, Fits.fits-exactly}
 use Rattle.semantics.specs.Sound.{Matched, Matched.no-more, Matched.one-more, Frame, rowsFrom, valuesOf}
-use Rattle.semantics.specs.Sound.{frameWants, wants, room, Inside, Own, Object, Slot, Slot.by-value, Slot.by-reference}
-use Rattle.semantics.specs.Sound.{Called, Called.is-called, Stack, Stack.a-frame, Sound}
+use Rattle.semantics.specs.Sound.{frameWants, wants, room, Inside, Slot, Slot.by-value, Slot.by-reference}
+use Rattle.semantics.specs.Sound.{Called.is-called, Stack, Stack.a-frame, Sound}
 use Rattle.semantics.proofs.Holding.{matched-length, matched-append, matched-part, put-above, put-length, part-below}
 use Rattle.semantics.proofs.Kept.{Unchanged, NextOk, NextOk.ok-goes, NextOk.ok-trapped}
-use Rattle.semantics.proofs.Evaluating.{FoundOk, FoundOk.found-ok, FoundOk.found-trap, Designates, Designates.as-argument}
+use Rattle.semantics.proofs.Evaluating.{FoundOk, Designates.as-argument}
 use Rattle.semantics.proofs.Evaluating.{find-ok, eval-ok}
 use Rattle.semantics.proofs.Objects.{values-length, object-front, slots-length, room-next, place-own}
 use Rattle.semantics.proofs.Kinship.{extends-low, extends-scalar}

@@ -2,7 +2,7 @@
 use mathlib.Core.Path.{_≡_, refl, sym, _∙_, ap, subst}
 use mathlib.Core.Bool.{Bool, true, false}
 use mathlib.Core.List.{List, [], _∷_, append-nil}
-use Prim.Native.Nat.{ℕ, suc, _+_, _≤_, _<_}
+use Prim.Native.Nat.{ℕ, _+_, _≤_, _<_}
 use native.Mathlib.Omega.{arith}
 use borrow.Author.Tests.{leb-true, leb-false, eqb-false, lt-ltb, le-leb, eq-eqb}
 use lib.Dec.{eqb}
@@ -15,19 +15,15 @@ use Rattle.prelude.proofs.Parts.{part-part, part-back}
 use Rattle.image.specs.declared.Row.{Row}
 use Rattle.image.specs.Rows.{rowAt, rowsOf}
 use Rattle.image.proofs.Bytes.{Bytes}
-use Rattle.shapes.specs.Forms.{Form, form, baseOf}
-use Rattle.shapes.specs.Sizes.{layoutBy, layoutOf, sizeOf}
-use Rattle.shapes.proofs.Rows.{form-record}
-use Rattle.shapes.proofs.Accepted.{TypesKept, Shape, Shape.is-scalar, Shape.is-array, Shape.is-record}
-use Rattle.shapes.proofs.Accepted.{Based, Based.no-base, Based.on-base, record-is, layout-is}
+use Rattle.shapes.specs.Forms.{form}
+use Rattle.shapes.specs.Sizes.{sizeOf}
 use Rattle.relations.specs.Extends.{extends}
-use Rattle.relations.proofs.Extension.{Extends, Extends.same, Extends.up, extends-yes, extends-refl, extends-trans}
+use Rattle.relations.proofs.Extension.{Extends.same, extends-refl, extends-trans}
 use Rattle.values.specs.Values.{BOOLEAN, INTEGER, kindOf, isInteger, InRange, InRange.integer, Gives}
 use Rattle.values.specs.Values.{Gives.value, Gives.trapped as gives-trap}
 use Rattle.values.specs.declared.Value.{Value}
 use Rattle.values.specs.declared.Value.the-variants as Vs
 use Rattle.values.specs.declared.Answer.{Answer}
-use Rattle.values.specs.declared.Answer.the-variants as As
 use Rattle.values.proofs.Cells.{cell-back}
 use Rattle.kinds.specs.declared.KindAnswer.the-variants.{Kind}
 use Rattle.nodes.specs.Nodes.{isDesignator}
@@ -49,7 +45,6 @@ use Rattle.rules.proofs.Accepted.{assign-ruled, jump-ruled, read-ruled, write-r
 use Rattle.checker.proofs.Accepted.{AcceptedTables}
 use Rattle.semantics.specs.declared.Place.{Place}
 use Rattle.semantics.specs.declared.Found.{Found}
-use Rattle.semantics.specs.declared.Found.the-variants as Fs
 use Rattle.semantics.specs.declared.Mark.{Mark}
 use Rattle.semantics.specs.declared.Mark.the-variants.{Number}
 use Rattle.semantics.specs.Memory.{LINK, TYPE, Cell, tagged, markOf, cellAt, markAt, partAt, overwrite}
