@@ -1,31 +1,24 @@
 -- A call from a sound state: arguments are passed one by one, then the procedure's frame is entered.
 use mathlib.Core.Path.{_≡_, refl, sym, _∙_, ap}
-use mathlib.Core.Bool.{Bool, true, false}
+use mathlib.Core.Bool.{true}
 use mathlib.Core.List.{List, [], _∷_, _++_, map, append-assoc, append-nil}
 use Prim.Native.Nat.{ℕ, zero, suc, _+_, _-_, _≤_, _<_}
 use native.Mathlib.Omega.{arith}
-use native.Mathlib.Decide.{decLt}
-use borrow.Author.Tests.{eqb-true, eqb-false, leb-true, leb-false, ltb-false, ne-eqb, le-leb}
+use borrow.Author.Tests.{eqb-true, eqb-false, leb-true, leb-false, ltb-false, le-leb}
 use lib.Dec.{leb, eqb}
-use lib.ListN.{length, take, drop, replicate, length-append}
+use lib.ListN.{length, take, drop, length-append}
 use lib.Seq.{length-take-le, take-add, take-at, take-append-seam, take-append-add, drop-at}
-use Rattle.prelude.specs.Choice.{choose}
 use Rattle.prelude.specs.Parts.{joined, Part}
-use Rattle.prelude.proofs.Choice.{choose-no, also-true}
-use Rattle.prelude.proofs.Parts.{map-append}
-use Rattle.prelude.proofs.Rec.{rec-ind}
-use Rattle.image.specs.declared.Row.{Row}
+use Rattle.prelude.proofs.Choice.{also-true}
 use Rattle.image.specs.Rows.{rowAt, rowsOf}
-use Rattle.image.specs.Faults.{KeptIn}
 use Rattle.image.proofs.Bytes.{Bytes}
-use Rattle.shapes.specs.Forms.{Form.scalar, Form.array, Form.recordOf, Form.noForm, form, formOf, ofBase, ownTypes}
-use Rattle.shapes.specs.Sizes.{layoutBy, layoutOf, sizeOf}
+use Rattle.shapes.specs.Sizes.{sizeOf}
 use Rattle.relations.specs.Extends.{extends}
 use Rattle.relations.proofs.Extension.{extends-trans}
 use Rattle.nodes.specs.Nodes.{isDesignator, isArgument}
 use Rattle.nodes.proofs.Accepted.{argument-is, argument-kind, argument-within}
 use Rattle.typing.proofs.Accepted.{argument-typed}
-use Rattle.frames.specs.Variables.{isLocal, isParameter, kindWithin}
+use Rattle.frames.specs.Variables.{isParameter, kindWithin}
 use Rattle.frames.specs.Procedures.{firstVariable, claimedBy}
 use Rattle.places.specs.Places.{roomBy, widthOf, roomFrom, frameSize, placeIn}
 use Rattle.places.proofs.Rooms.{width-var, width-other, room-more}
@@ -36,13 +29,12 @@ use Rattle.statements.proofs.Accepted.{CallRow, call-is}
 use Rattle.statements.proofs.Bodies.{start-in}
 use Rattle.rules.proofs.Accepted.{ArgumentRuled, call-ruled}
 use Rattle.checker.proofs.Accepted.{AcceptedTables}
-use Rattle.values.specs.Values.{cellOf, booleanCell, integerCell, setCell, isInteger, isSet}
 use Rattle.semantics.specs.declared.Place.{Place}
 use Rattle.semantics.specs.Memory.{LINK, ADDRESS, TYPE, Cell, tagged, overwrite}
-use Rattle.semantics.specs.Layout.{Program, placeOf, kindsOf, kindsFrom}
+use Rattle.semantics.specs.Layout.{Program, placeOf, kindsFrom}
 use Rattle.semantics.specs.Finding.{findOf, evalOf}
 use Rattle.semantics.specs.Stepping.{State, Next, onPlace, onValue, onPart, withCells, argumentCells, passed, entered, called}
-use Rattle.semantics.specs.Sound.{Want, Want.any-value, Want.exactly, Fits, Fits.fits-value, Fits.fits-exactly}
+use Rattle.semantics.specs.Sound.{Want, Want.any-value, Want.exactly, Fits, Fits.fits-exactly}
 use Rattle.semantics.specs.Sound.{Matched, Matched.no-more, Matched.one-more, Frame, rowsFrom, valuesOf}
 use Rattle.semantics.specs.Sound.{frameWants, wants, room, Inside, Slot, Slot.by-value, Slot.by-reference}
 use Rattle.semantics.specs.Sound.{Called.is-called, Stack, Stack.a-frame, Sound}
@@ -51,6 +43,7 @@ use Rattle.semantics.proofs.Kept.{Unchanged, NextOk, NextOk.ok-goes, Ne
 use Rattle.semantics.proofs.Evaluating.{FoundOk, Designates.as-argument}
 use Rattle.semantics.proofs.Evaluating.{find-ok, eval-ok}
 use Rattle.semantics.proofs.Objects.{values-length, object-front, slots-length, room-next, place-own}
+use Rattle.semantics.proofs.Blanks.{local-low, slotsFrom, slots-matched, slots-fit}
 use Rattle.semantics.proofs.Kinship.{extends-low, extends-scalar}
 use Rattle.semantics.proofs.Performing.{unchanged, ok-choose, ok-yes, on-place-ok, on-value-ok, part-end, put-fits}
 use Rattle.semantics.proofs.Performing.{typed-low, structured-designator, scalar-values, row-within, procedure-is, kind-inside}
@@ -101,67 +94,6 @@ module _ {A : Type 0} where
       take-append-add (take top l) ((links ++ xs) ++ p .rest) n ∙ rw (take-at (links ++ xs) (p .rest) n e) in
       rw behind (rw size at from)
 
--- ---- cells
-
--- a zeroed cell of a scalar kind
-blank-fits : (k : ℕ) → k ≤ 2 → Fits (tagged .blank k) (any-value k)
-unfolding tagged cellOf booleanCell integerCell setCell isInteger isSet choose
-blank-fits zero h = fits-value refl refl
-blank-fits (suc zero) h = fits-value refl refl
-blank-fits (suc (suc zero)) h = fits-value refl refl
-blank-fits (suc (suc (suc k))) h = absurd (omega arith)
-
--- zeroed cells of these kinds
-record BlanksFit (l : List ℕ) : Type 0 where
-  matched : Matched Fits (map (tagged .blank) l) (map any-value l)
-
-blanks-none : BlanksFit []
-blanks-none = record { matched = no-more }
-
-blanks-both : (l m : List ℕ) → BlanksFit l → BlanksFit m → BlanksFit (l ++ m)
-blanks-both l m a b = record {
-  matched = rw (map-append (tagged .blank) l m, map-append any-value l m) (matched-append (a .matched) (b .matched));
-}
-
-blanks-replicated : (n : ℕ) (l : List ℕ) → BlanksFit l → BlanksFit (joined (replicate n l))
-unfolding joined
-blanks-replicated zero l h = blanks-none
-blanks-replicated (suc n) l h = blanks-both l (joined (replicate n l)) h (blanks-replicated n l h)
-
-module _ (layout : ℕ → List ℕ) (each : (k : ℕ) → BlanksFit (layout k)) where
-  blanks-joined : (l : List ℕ) → BlanksFit (joined (map layout l))
-  unfolding joined
-  blanks-joined [] = blanks-none
-  blanks-joined (k ∷ l) = blanks-both (layout k) (joined (map layout l)) (each k) (blanks-joined l)
-
-  blanks-based : (a : ℕ) → BlanksFit (ofBase [] layout a)
-  unfolding ofBase
-  blanks-based zero = blanks-none
-  blanks-based (suc b) = each b
-
-  blanks-by : (f : List ℕ) (row : Row) → BlanksFit (layoutBy f layout (formOf row))
-  unfolding formOf layoutBy choose
-  blanks-by f row = go (leb (row .kind) 2) refl (eqb (row .kind) 3) (eqb (row .kind) 4)
-    where
-      go : (x : Bool) → leb (row .kind) 2 ≡ x → (y z : Bool)
-          → BlanksFit (layoutBy f layout (choose x (scalar (row .kind)) (choose y (array (row .a) (row .b)) (choose z (recordOf (row .a) (row .b) (row .c)) noForm))))
-      go true e y z = record { matched = one-more (blank-fits (row .kind) (leb-true _ _ e)) no-more }
-      go false e true z = blanks-replicated (row .b) (layout (row .a)) (each (row .a))
-      go false e false true = blanks-both (ofBase [] layout (row .a)) _ (blanks-based (row .a)) (blanks-joined (ownTypes f (row .b) (row .c)))
-      go false e false false = blanks-none
-
--- zeroed cells are of their layout
-blanks-layout : (t f : List ℕ) (r : ℕ) → BlanksFit (layoutOf t f r)
-unfolding layoutOf form
-blanks-layout t f r =
-    rec-ind [] (λ layout k. layoutBy f layout (form t k)) (λ k l. BlanksFit l)
-    (λ k layout low high. blanks-by layout (λ j. each layout k low high j (decLt j k)) f (rowAt t k)) r
-  where
-    each : (layout : ℕ → List ℕ) (k : ℕ) → ((j : ℕ) → j < k → BlanksFit (layout j)) → ((j : ℕ) → k ≤ j → layout j ≡ [])
-        → (j : ℕ) → Dec (j < k) → BlanksFit (layout j)
-    each layout k low high j (yes h) = low j h
-    each layout k low high j (no h) = rw (high j (omega arith)) blanks-none
-
 -- ---- one argument
 
 module _ (g : Program) (ok : AcceptedTables (g .types) (g .fields) (g .variables) (g .procedures) (g .nodes) (g .statements)) where
@@ -172,42 +104,6 @@ module _ (g : Program) (ok : AcceptedTables (g .types) (g .fields) (g .variables
       values-length g ok (rowAt (g .variables) a .a) (ok .variable a h .typed)
       ∙ sym (width-other (sizeOf (g .types) (g .fields)) (g .variables) a (λ e. absurd (omega arith)))
   slot-width {a = a} h (by-reference k o e) = sym (width-var (sizeOf (g .types) (g .fields)) (g .variables) a k)
-
--- ---- "then locals zero"
-
--- slots that the zeroed cells of n variables from row k on fit
-record LocalsFit (g : Program) (fs : List Frame) (k n : ℕ) : Type 0 where
-  slots : List (List Want)
-  fits : Matched Fits (map (tagged .blank) (kindsFrom g k n)) (joined slots)
-  slotted : Matched (Slot g fs) (rowsFrom k n) slots
-
-local-kind : (v : List ℕ) (k : ℕ) → isLocal v k ≡ true → rowAt v k .kind ≡ 1
-unfolding kindWithin
-local-kind v k e =
-    let (low, high) = also-true _ _ e in
-    let least : 1 ≤ rowAt v k .kind = leb-true _ _ low in
-    let most : rowAt v k .kind ≤ 1 = leb-true _ _ high in
-    omega arith
-
-local-kinds : (g : Program) (k : ℕ) → rowAt (g .variables) k .kind ≡ 1
-    → kindsOf g k ≡ layoutOf (g .types) (g .fields) (rowAt (g .variables) k .a)
-unfolding kindsOf
-local-kinds g k e = choose-no _ _ _ (ne-eqb (rowAt (g .variables) k .kind) 3 (λ z. absurd (omega arith)))
-
-locals-fit : (g : Program) (fs : List Frame) (n k : ℕ) → KeptIn (isLocal (g .variables)) k (k + n) → LocalsFit g fs k n
-unfolding kindsFrom rowsFrom joined valuesOf
-locals-fit g fs zero k kept = record { slots = []; fits = no-more; slotted = no-more }
-locals-fit g fs (suc n) k kept =
-    let rest = locals-fit g fs n (k + 1) (record { each = λ j low high. kept .each j (omega arith) (omega arith) }) in
-    let kind = local-kind (g .variables) k (kept .each k (omega arith) (omega arith)) in
-    let own = blanks-layout (g .types) (g .fields) (rowAt (g .variables) k .a) .matched in
-    let all = matched-append own (rest .fits) in
-    let slot : Slot g fs k (valuesOf g (rowAt (g .variables) k .a)) = by-value (omega arith) in
-    record {
-      slots = valuesOf g (rowAt (g .variables) k .a) ∷ rest .slots;
-      fits = rw (local-kinds g k kind, map-append (tagged .blank) (layoutOf (g .types) (g .fields) (rowAt (g .variables) k .a)) (kindsFrom g (k + 1) n)) all;
-      slotted = one-more slot (rest .slotted);
-    }
 
 module _ (g : Program) (ok : AcceptedTables (g .types) (g .fields) (g .variables) (g .procedures) (g .nodes) (g .statements))
     (bytes : Bytes (g .nodes)) (s : State Cell) (sound : Sound g s) where
@@ -419,9 +315,12 @@ module _ (g : Program) (ok : AcceptedTables (g .types) (g .fields) (g .variables
       behind = kind-inside g ok bytes s sound 1 call (omega arith) (omega arith) (omega arith)
 
       module _ (cells : List Cell) (p : Passing count cells) where
-        own-locals : LocalsFit g (sound .newest ∷ sound .others) (first + count) (rowAt (g .procedures) q .c)
-        own-locals =
-            locals-fit g (sound .newest ∷ sound .others) (rowAt (g .procedures) q .c) (first + count) (ok .procedures .row q exists .locals)
+        -- "then locals zero"
+        locals-low : (j : ℕ) → first + count ≤ j → j < first + count + rowAt (g .procedures) q .c → rowAt (g .variables) j .kind ≤ 2
+        locals-low j low high = local-low (g .variables) j (ok .procedures .row q exists .locals .each j low high)
+
+        abbrev own-slots : List (List Want)
+        own-slots = slotsFrom g (first + count) (rowAt (g .procedures) q .c)
 
         abbrev locals : List Cell
         locals = map (tagged .blank) (kindsFrom g (first + count) (rowAt (g .procedures) q .c))
@@ -437,12 +336,12 @@ module _ (g : Program) (ok : AcceptedTables (g .types) (g .fields) (g .variables
           caller = procedureAt (g .procedures) (s .at .row);
           back = s .at .row + 1;
           callers-base = s .at .base;
-          slots = p .slots ++ own-locals .slots;
+          slots = p .slots ++ own-slots;
         }
 
         frame-slots : Matched (Slot g (sound .newest ∷ sound .others)) (rowsFrom first (claimedBy (rowAt (g .procedures) q))) (frame .slots)
         unfolding claimedBy
-        frame-slots = rw (rows-both first count (rowAt (g .procedures) q .c)) (matched-append (p .slotted) (own-locals .slotted))
+        frame-slots = rw (rows-both first count (rowAt (g .procedures) q .c)) (matched-append (p .slotted) (slots-matched g (sound .newest ∷ sound .others) (rowAt (g .procedures) q .c) (first + count) locals-low))
 
         frame-stack : Stack g (frame ∷ sound .newest ∷ sound .others)
         frame-stack =
@@ -452,8 +351,8 @@ module _ (g : Program) (ok : AcceptedTables (g .types) (g .fields) (g .variables
         frame-fits : Matched Fits (links ++ (p .arguments ++ locals)) (frameWants g frame)
         unfolding frameWants tagged
         frame-fits =
-            let slots : Matched Fits (p .arguments ++ locals) (joined (p .slots ++ own-locals .slots)) =
-            rw (joined-both (p .slots) (own-locals .slots)) (matched-append (p .fits) (own-locals .fits)) in
+            let slots : Matched Fits (p .arguments ++ locals) (joined (p .slots ++ own-slots)) =
+            rw (joined-both (p .slots) own-slots) (matched-append (p .fits) (slots-fit g (rowAt (g .procedures) q .c) (first + count) locals-low)) in
             one-more (fits-exactly refl refl) (one-more (fits-exactly refl refl) (one-more (fits-exactly refl refl) slots))
 
         frame-length : length (links ++ (p .arguments ++ locals)) ≡ frameSize (g .types) (g .fields) (g .variables) (g .procedures) q
