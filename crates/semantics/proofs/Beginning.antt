@@ -1,18 +1,13 @@
 -- The fresh state is sound.
 use mathlib.Core.Path.{_≡_, refl, sym, _∙_}
-use mathlib.Core.Bool.{Bool, true, false}
 use mathlib.Core.List.{List, [], _∷_, _++_, map, append-assoc}
-use mathlib.Core.Logic.{_⊎_, inl, inr}
-use Prim.Native.Nat.{ℕ, zero, suc, _+_, _≤_, _<_}
+use Prim.Native.Nat.{ℕ, _+_, _≤_, _<_}
 use native.Mathlib.Omega.{arith}
-use borrow.Author.Tests.{eqb-true}
 use lib.IntN.{ℤ}
 use lib.ListN.{length, take, drop, replicate, length-append, length-drop, length-map}
 use lib.Seq.{take-append-seam}
-use Rattle.prelude.specs.Choice.{choose}
 use Rattle.image.specs.Rows.{rowAt, rowsOf}
-use Rattle.shapes.proofs.Layouts.{decide}
-use Rattle.frames.specs.Variables.{isGlobal, globalsFrom, globalsOf}
+use Rattle.frames.specs.Variables.{globalsOf}
 use Rattle.frames.specs.Procedures.{claimedBy, firstVariable}
 use Rattle.statements.proofs.Bodies.{start-in}
 use Rattle.checker.proofs.Accepted.{AcceptedTables}
@@ -25,26 +20,12 @@ use Rattle.semantics.specs.Sound.{Frame, frameWants, wants, room, Inside
 use Rattle.semantics.specs.Sound.{Called.is-first, Stack, Stack.no-frame, Stack.a-frame}
 use Rattle.semantics.specs.Sound.{Sound}
 use Rattle.semantics.proofs.Holding.{matched-length}
-use Rattle.semantics.proofs.Objects.{room-next, room-globals}
+use Rattle.semantics.proofs.Objects.{global-kind, room-next, room-globals}
 use Rattle.semantics.proofs.Blanks.{blanks-fit, local-low, slotsFrom, kinds-scalar, slots-matched, slots-fit}
 
 link-fits : Fits (tagged .mark LINK 0) (Want.exactly LINK 0)
 unfolding tagged
 link-fits = fits-exactly refl refl
-
--- ---- globals
-
--- the rows that are counted as globals are globals
-global-kind : (v : List ℕ) (n k j : ℕ) → k ≤ j → j < globalsFrom v k n → rowAt v j .kind ≡ 0
-unfolding globalsFrom isGlobal choose
-global-kind v zero k j low high = absurd (omega arith)
-global-kind v (suc n) k j low high = go (isGlobal v k) refl high (decide k j) (global-kind v n (k + 1) j)
-  where
-    go : (b : Bool) → isGlobal v k ≡ b → j < choose b (globalsFrom v (k + 1) n) k → (k ≡ j) ⊎ (k ≡ j → ⊥)
-        → (k + 1 ≤ j → j < globalsFrom v (k + 1) n → rowAt v j .kind ≡ 0) → rowAt v j .kind ≡ 0
-    go true e less (inl same) later = rw (← same) (eqb-true _ _ e)
-    go true e less (inr other) later = later (omega arith) less
-    go false e less same later = absurd (omega arith)
 
 -- ---- procedure 0's frame at G
 
@@ -71,10 +52,7 @@ module _ (g : Program)
       local-low (g .variables) j (row .locals .each j (omega arith) (omega arith))
 
   global-low : (j : ℕ) → 0 ≤ j → j < 0 + globalsOf (g .variables) → rowAt (g .variables) j .kind ≤ 2
-  unfolding globalsOf
-  global-low j low high =
-      let e = global-kind (g .variables) (rowsOf (g .variables)) 0 j low (omega arith) in
-      omega arith
+  global-low j low high = let e = global-kind (g .variables) j (omega arith) in omega arith
 
   first-stack : Stack g (frame ∷ [])
   first-stack = a-frame no-frame some (is-first refl refl refl refl) (slots-matched g [] claimed first own-low)

@@ -6,11 +6,11 @@ use mathlib.Core.Logic.{_⊎_, inl, inr}
 use Prim.Native.Nat.{ℕ, zero, suc, _+_, _≤_, _<_}
 use native.Mathlib.Omega.{arith}
 use native.Mathlib.Decide.{decLt}
-use borrow.Author.Tests.{leb-true, ne-eqb}
+use borrow.Author.Tests.{leb-true}
 use lib.ListN.{replicate}
 use Rattle.prelude.specs.Choice.{choose}
 use Rattle.prelude.specs.Parts.{joined}
-use Rattle.prelude.proofs.Choice.{choose-no, also-true}
+use Rattle.prelude.proofs.Choice.{also-true}
 use Rattle.prelude.proofs.Parts.{map-append}
 use Rattle.prelude.proofs.Rec.{rec-ind}
 use Rattle.image.specs.declared.Row.{Row}
@@ -27,6 +27,7 @@ use Rattle.semantics.specs.Sound.{Want, Want.any-value, Fits, Fits.fits-
 use Rattle.semantics.specs.Sound.{Matched, Matched.no-more, Matched.one-more}
 use Rattle.semantics.specs.Sound.{Frame, rowsFrom, valuesOf}
 use Rattle.semantics.specs.Sound.{Slot, Slot.by-value}
+use Rattle.semantics.proofs.Objects.{kinds-value}
 
 -- ---- layouts are made of scalar kinds
 
@@ -100,11 +101,6 @@ unfolding kindWithin
 local-low v k e = let most : rowAt v k .kind ≤ 1 = leb-true _ _ (also-true _ _ e .1) in omega arith
 
 module _ (g : Program) where
-  kinds-value : (k : ℕ) → rowAt (g .variables) k .kind ≤ 2
-      → kindsOf g k ≡ layoutOf (g .types) (g .fields) (rowAt (g .variables) k .a)
-  unfolding kindsOf
-  kinds-value k h = choose-no _ _ _ (ne-eqb (rowAt (g .variables) k .kind) 3 (λ e. absurd (omega arith)))
-
   -- what the cells of n variables from row k on are to hold
   abbrev pub slotsFrom : ℕ → ℕ → List (List Want)
   slotsFrom k n = map (λ j. valuesOf g (rowAt (g .variables) j .a)) (rowsFrom k n)
@@ -115,7 +111,7 @@ module _ (g : Program) where
   kinds-scalar zero k low = no-kind
   kinds-scalar (suc n) k low =
       scalars-append {l = kindsOf g k}
-      (rw (kinds-value k (low k (omega arith) (omega arith)))
+      (rw (kinds-value g k (low k (omega arith) (omega arith)))
       (layout-scalar (g .types) (g .fields) (rowAt (g .variables) k .a)))
       (kinds-scalar n (k + 1) (λ j a b. low j (omega arith) (omega arith)))
 
@@ -133,7 +129,7 @@ module _ (g : Program) where
   slots-kinds zero k low = refl
   slots-kinds (suc n) k low =
       let own : List ℕ = layoutOf (g .types) (g .fields) (rowAt (g .variables) k .a) in
-      rw (kinds-value k (low k (omega arith) (omega arith)))
+      rw (kinds-value g k (low k (omega arith) (omega arith)))
       (ap (λ l. map any-value own ++ l) (slots-kinds n (k + 1) (λ j a b. low j (omega arith) (omega arith)))
       ∙ sym (map-append any-value own (kindsFrom g (k + 1) n)))
 

@@ -21,7 +21,7 @@ use Rattle.typing.proofs.Accepted.{argument-typed}
 use Rattle.frames.specs.Variables.{isParameter, kindWithin}
 use Rattle.frames.specs.Procedures.{firstVariable, claimedBy}
 use Rattle.places.specs.Places.{roomBy, widthOf, roomFrom, frameSize, placeIn}
-use Rattle.places.proofs.Rooms.{width-var, width-other, room-more}
+use Rattle.places.proofs.Rooms.{room-more}
 use Rattle.places.proofs.Counting.{first-next}
 use Rattle.places.proofs.Owning.{own-within}
 use Rattle.statements.specs.Statements.{procedureAt}
@@ -42,7 +42,7 @@ use Rattle.semantics.proofs.Holding.{matched-length, matched-append, ma
 use Rattle.semantics.proofs.Kept.{Unchanged, NextOk, NextOk.ok-goes, NextOk.ok-trapped}
 use Rattle.semantics.proofs.Evaluating.{FoundOk, Designates.as-argument}
 use Rattle.semantics.proofs.Evaluating.{find-ok, eval-ok}
-use Rattle.semantics.proofs.Objects.{values-length, object-front, slots-length, room-next, place-own}
+use Rattle.semantics.proofs.Objects.{values-length, slot-width, object-front, slots-length, room-next, place-own}
 use Rattle.semantics.proofs.Blanks.{local-low, slotsFrom, slots-matched, slots-fit}
 use Rattle.semantics.proofs.Kinship.{extends-low, extends-scalar}
 use Rattle.semantics.proofs.Performing.{unchanged, ok-choose, ok-yes, on-place-ok, on-value-ok, part-end, put-fits}
@@ -95,15 +95,6 @@ module _ {A : Type 0} where
       rw behind (rw size at from)
 
 -- ---- one argument
-
-module _ (g : Program) (ok : AcceptedTables (g .types) (g .fields) (g .variables) (g .procedures) (g .nodes) (g .statements)) where
-  -- a variable's cells are as many as its width
-  slot-width : {fs : List Frame} {a : ℕ} {ws : List Want} → a < rowsOf (g .variables) → Slot g fs a ws
-      → length ws ≡ widthOf (g .types) (g .fields) (g .variables) a
-  slot-width {a = a} h (by-value k) =
-      values-length g ok (rowAt (g .variables) a .a) (ok .variable a h .typed)
-      ∙ sym (width-other (sizeOf (g .types) (g .fields)) (g .variables) a (λ e. absurd (omega arith)))
-  slot-width {a = a} h (by-reference k o e) = sym (width-var (sizeOf (g .types) (g .fields)) (g .variables) a k)
 
 module _ (g : Program) (ok : AcceptedTables (g .types) (g .fields) (g .variables) (g .procedures) (g .nodes) (g .statements))
     (bytes : Bytes (g .nodes)) (s : State Cell) (sound : Sound g s) where
@@ -197,7 +188,7 @@ module _ (g : Program) (ok : AcceptedTables (g .types) (g .fields) (g .variables
       copied-ok plain many =
           on-place-ok g s (above-unchanged cells above) _ (found (holds many)) λ place d e o.
           let r : ℕ = rowAt (g .variables) a .a in
-          let size = values-length g ok r (ok .variable a there .typed) in
+          let size = values-length g r in
           let part = object-front g ok r (sound .stack) o (extended place d e) in
           let matched = matched-part (above-sound cells above .holding) part in
           let end = part-end part in
@@ -279,7 +270,7 @@ module _ (g : Program) (ok : AcceptedTables (g .types) (g .fields) (g .variables
       passing-next cells p new ws slot matched =
           let args : List Cell = p .arguments in
           let width : length new ≡ widthOf (g .types) (g .fields) (g .variables) (first + j) =
-          matched-length matched ∙ slot-width g ok variable-there slot in
+          matched-length matched ∙ slot-width g slot in
           let at : s .at .top + placeOf g (first + j) ≡ s .at .top + 3 + length args = omega (arith, place-next, p .filled) in
           let most = place-within in
           let many = p .above .as-many in

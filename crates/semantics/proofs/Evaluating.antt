@@ -1,39 +1,36 @@
 -- Finding and evaluating from a sound state: an object of the node's type, a value of its kind, or a trap.
 use mathlib.Core.Path.{_≡_, refl, sym, _∙_, ap, subst}
 use mathlib.Core.Bool.{Bool, true, false, _&&_}
-use mathlib.Core.List.{List, [], _∷_, _++_, map, append-nil}
+use mathlib.Core.List.{List, [], _∷_, append-nil}
 use mathlib.Core.Logic.{_⊎_, inl, inr, ⊎-elim}
-use Prim.Native.Nat.{ℕ, suc, _+_, _-_, _*_, _≤_, _<_}
+use Prim.Native.Nat.{ℕ, _+_, _*_, _≤_, _<_}
 use native.Mathlib.Omega.{arith}
-use native.Mathlib.Decide.{decLe, decLt}
-use borrow.Author.Tests.{lt-ltb, le-ltb, le-leb, lt-leb, eq-eqb, ne-eqb, eqb-true, leb-true, ltb-true}
+use native.Mathlib.Decide.{decLe}
+use borrow.Author.Tests.{lt-ltb, le-leb, lt-leb, eq-eqb, ne-eqb, eqb-true, leb-true, ltb-true}
 use lib.Dec.{ltb, leb, eqb}
 use lib.IntN.{ℤ, pos, negsuc}
-use lib.ListN.{length, getD, take, drop, length-drop, length-append}
-use Rattle.prelude.specs.Choice.{choose, _also_}
+use lib.ListN.{length, length-drop, length-append}
+use Rattle.prelude.specs.Choice.{choose}
 use Rattle.prelude.specs.Parts.{Part}
-use Rattle.prelude.proofs.Choice.{choose-yes, choose-no, choose-cases, also-true, also-yes, clash}
+use Rattle.prelude.proofs.Choice.{choose-yes, choose-no, choose-cases, also-yes, clash}
 use Rattle.prelude.proofs.Parts.{part-part}
 use Rattle.prelude.proofs.Rec.{rec-ind}
 use Rattle.image.specs.declared.Row.{Row}
 use Rattle.image.specs.Rows.{rowAt, rowsOf}
-use Rattle.image.specs.Faults.{KeptIn}
-use Rattle.image.proofs.Bytes.{Bytes, Small, row-small}
-use Rattle.shapes.specs.Sizes.{sizeOf, layoutOf}
+use Rattle.image.proofs.Bytes.{Bytes, row-small}
+use Rattle.shapes.specs.Sizes.{sizeOf}
 use Rattle.shapes.proofs.Layouts.{decide}
-use Rattle.relations.specs.declared.FieldAnswer.{FieldAnswer}
-use Rattle.relations.specs.declared.FieldAnswer.the-variants.{Missing, Field}
+use Rattle.relations.specs.declared.FieldAnswer.the-variants.{Field}
 use Rattle.relations.specs.Extends.{extends}
 use Rattle.relations.specs.Fields.{fieldOf}
 use Rattle.relations.proofs.Extension.{extends-refl}
-use Rattle.values.specs.Values.{BOOLEAN, INTEGER, SET, kindOf, InRange, Gives, Gives.value, Gives.trapped, bind, cellOf, constantOf}
+use Rattle.values.specs.Values.{BOOLEAN, INTEGER, kindOf, InRange, Gives, Gives.value, Gives.trapped, bind, cellOf}
 use Rattle.values.specs.declared.Value.{Value}
 use Rattle.values.specs.declared.Value.the-variants as Vs
 use Rattle.values.specs.declared.Trap.{Trap}
-use Rattle.values.specs.declared.Trap.the-variants as Ts
 use Rattle.values.specs.declared.Answer.{Answer}
 use Rattle.values.specs.declared.Answer.the-variants as As
-use Rattle.values.proofs.Cells.{Held, cell-held}
+use Rattle.values.proofs.Cells.{cell-held}
 use Rattle.values.proofs.Giving.{gives-boolean}
 use Rattle.values.proofs.Ranges.{constant-typed}
 use Rattle.kinds.specs.declared.KindAnswer.{KindAnswer}
@@ -42,39 +39,32 @@ use Rattle.kinds.specs.Kinds.{dyadicKind, monadicKind}
 use Rattle.operators.specs.Operators.{monadicOf, appliedTo}
 use Rattle.operators.proofs.Typed.{monadic-typed as operator-typed}
 use Rattle.operators.proofs.Skipping.{applied-typed}
-use Rattle.frames.specs.Variables.{isGlobal, isLocal, isParameter, kindWithin}
-use Rattle.frames.specs.Procedures.{firstVariable, claimedBy}
-use Rattle.frames.proofs.Accepted.{VariableRow, ProcedureRow, ProceduresKept}
+use Rattle.frames.specs.Variables.{isGlobal}
 use Rattle.nodes.specs.Nodes.{isDesignator}
 use Rattle.nodes.proofs.Accepted.{NodeRow, NodeRow.is-constant, NodeRow.is-variable, NodeRow.is-field, NodeRow.is-element}
 use Rattle.nodes.proofs.Accepted.{NodeRow.is-guard, NodeRow.is-dyadic, NodeRow.is-monadic, NodeRow.is-test, NodeRow.is-argument}
-use Rattle.nodes.proofs.Accepted.{Designator, designator-is, Child, Whole, ConstantNode, VariableNode, FieldNode, ElementNode, GuardNode}
+use Rattle.nodes.proofs.Accepted.{Designator, designator-is, Whole, ConstantNode, VariableNode, FieldNode, ElementNode, GuardNode}
 use Rattle.nodes.proofs.Accepted.{DyadicNode, MonadicNode, ArgumentNode}
-use Rattle.places.specs.Places.{placeIn}
-use Rattle.places.proofs.Counting.{first-next}
 use Rattle.typing.specs.Typing.{typeOf}
 use Rattle.typing.proofs.Accepted.{constant-typed as constant-type, variable-typed, field-typed, element-typed, guard-typed}
 use Rattle.typing.proofs.Accepted.{dyadic-typed, monadic-typed, test-typed, argument-typed}
-use Rattle.typing.proofs.Accepted.{FieldTyped, ElementTyped, GuardTyped, DyadicTyped, MonadicTyped, TestTyped, Narrowing}
 use Rattle.owners.specs.Owners.{ownVariable, ownBelow}
 use Rattle.owners.proofs.Accepted.{own-variable, variable-own, field-own, element-own, guard-own, dyadic-own, monadic-own, test-own, argument-own}
-use Rattle.checker.specs.Prepared.{CountsFit}
-use Rattle.checker.proofs.Accepted.{AcceptedTables, AllYes}
+use Rattle.checker.proofs.Accepted.{AcceptedTables}
 use Rattle.semantics.specs.declared.Place.{Place}
 use Rattle.semantics.specs.declared.Found.{Found}
 use Rattle.semantics.specs.declared.Found.the-variants as Fs
-use Rattle.semantics.specs.declared.Mark.{Mark}
-use Rattle.semantics.specs.declared.Mark.the-variants.{Number, Nothing}
-use Rattle.semantics.specs.Memory.{ADDRESS, TYPE, Cell, Memory, tagged, markOf, cellAt, valueAt, markAt}
+use Rattle.semantics.specs.declared.Mark.the-variants.{Number}
+use Rattle.semantics.specs.Memory.{ADDRESS, TYPE, Cell, tagged, markOf, cellAt, valueAt, markAt}
 use Rattle.semantics.specs.Layout.{Program, placeOf}
 use Rattle.semantics.specs.Finding.{reach, content, index, withMark, object, parameterPlace, variablePlace, fieldPlace, elementPlace, arrayPlace}
 use Rattle.semantics.specs.Finding.{guardPlace, testOf, Meaning, noMeaning, designator, meaningBy, meaningOf, findOf, evalOf}
 use Rattle.semantics.specs.Stepping.{State}
-use Rattle.semantics.specs.Sound.{Want, Want.any-value, Want.exactly, Fits, Fits.fits-value, Fits.fits-exactly, Matched, Frame}
+use Rattle.semantics.specs.Sound.{Want, Want.any-value, Want.exactly, Fits, Fits.fits-value, Fits.fits-exactly, Frame}
 use Rattle.semantics.specs.Sound.{valuesOf, frameWants, wants, room, Own, Object, Object.of-global, Object.of-frame, Object.of-older}
 use Rattle.semantics.specs.Sound.{Object.of-field, Object.of-element, Slot, Slot.by-value, Slot.by-reference, Stack, Stack.a-frame, Sound}
 use Rattle.semantics.proofs.Holding.{matched-at, cell-below}
-use Rattle.semantics.proofs.Objects.{object-typed, object-part, slot-at, place-own, place-global}
+use Rattle.semantics.proofs.Objects.{global-is, own-kind, object-typed, object-part, slot-at, place-own, place-global}
 use Rattle.semantics.proofs.Kinship.{extends-other, extension-field, scalar-layout, scalar-other, global-low}
 
 -- an object of type x was found, or a trap ends the step
@@ -254,40 +244,13 @@ module _ (g : Program) (ok : AcceptedTables (g .types) (g .fields) (g .variables
 
   -- ---- variables
 
-  own-kind : (a : ℕ) → Own g procedure a → (1 ≤ rowAt (g .variables) a .kind) × (rowAt (g .variables) a .kind ≤ 3)
-  unfolding claimedBy kindWithin
-  own-kind a own =
-      let q = procedure in
-      let first = firstVariable (g .variables) (g .procedures) q in
-      let row = ok .procedures .row q there in
-      let next = first-next (g .variables) (g .procedures) q in
-      let one : q + 1 ≡ suc q = omega arith in
-      let high = rw one at (own .high) in
-      let low = own .low in
-      go (decLt a (first + rowAt (g .procedures) q .b))
-      (λ l. also-true _ _ (row .parameters .each a low l))
-      (λ l. also-true _ _ (row .locals .each a l (omega arith)))
-    where
-      go : Dec (a < firstVariable (g .variables) (g .procedures) procedure + rowAt (g .procedures) procedure .b)
-          → (a < firstVariable (g .variables) (g .procedures) procedure + rowAt (g .procedures) procedure .b
-          → (leb 2 (rowAt (g .variables) a .kind) ≡ true) × (leb (rowAt (g .variables) a .kind) 3 ≡ true))
-          → (firstVariable (g .variables) (g .procedures) procedure + rowAt (g .procedures) procedure .b ≤ a
-          → (leb 1 (rowAt (g .variables) a .kind) ≡ true) × (leb (rowAt (g .variables) a .kind) 1 ≡ true))
-          → (1 ≤ rowAt (g .variables) a .kind) × (rowAt (g .variables) a .kind ≤ 3)
-      go (yes l) parameters locals = let (x, y) = parameters l in let b : 2 ≤ rowAt (g .variables) a .kind = leb-true 2 _ x in (omega arith, leb-true _ 3 y)
-      go (no l) parameters locals = let (x, y) = locals (omega arith) in let b : rowAt (g .variables) a .kind ≤ 1 = leb-true _ 1 y in (leb-true 1 _ x, omega arith)
-
-  global-kind : (a : ℕ) → isGlobal (g .variables) a ≡ true → rowAt (g .variables) a .kind ≡ 0
-  unfolding isGlobal
-  global-kind a e = eqb-true (rowAt (g .variables) a .kind) 0 e
-
   abbrev variableAt : ℕ → Found
   variableAt a = variablePlace tagged g base top cells a (rowAt (g .variables) a)
 
   variable-global : (a : ℕ) → a < rowsOf (g .variables) → isGlobal (g .variables) a ≡ true → FoundOk g frames (rowAt (g .variables) a .a) (variableAt a)
   unfolding variablePlace
   variable-global a low e =
-      let kind = global-kind a e in
+      let kind = global-is (g .variables) a e in
       rw (choose-yes _ (object (placeOf g a) (rowAt (g .variables) a .a)) _ (eq-eqb (rowAt (g .variables) a .kind) 0 kind))
       (found-ok {place = record { address = placeOf g a; declared = rowAt (g .variables) a .a; dynamic = rowAt (g .variables) a .a }} refl (extends-refl (g .types) (rowAt (g .variables) a .a))
       (rw (place-global g ok a e) (of-global (global-low (g .types) (g .variables) a (ok .variable a low) low e kind))))
@@ -354,8 +317,8 @@ module _ (g : Program) (ok : AcceptedTables (g .types) (g .fields) (g .variables
       mine own = go (decLe (rowAt (g .variables) a .kind) 2)
         where
           go : Dec (rowAt (g .variables) a .kind ≤ 2) → FoundOk g frames (rowAt (g .variables) a .a) (variableAt a)
-          go (yes h) = variable-plain a own (own-kind a own .0) h
-          go (no h) = let most = own-kind a own .1 in variable-parameter a own (omega arith)
+          go (yes h) = variable-plain a own (own-kind g ok procedure a there own .0) h
+          go (no h) = let most = own-kind g ok procedure a there own .1 in variable-parameter a own (omega arith)
 
   -- ---- guards, fields, elements
 

@@ -411,7 +411,7 @@ module _ (g : Program)
       ok-choose g s _ (λ other. ok-trapped (unchanged g s))
       (λ other. on-part-ok (sizeOf (g .types) (g .fields) (target .declared)) (written s (target .address))
       (found-front g ok (sound .stack) source b from (target .declared) e)
-      (values-length g ok (target .declared) low)
+      (values-length g (target .declared))
       (λ new fit. written-ok (found-front g ok (sound .stack) target a into (target .declared) itself-too) fit inside))
 
   pub assigned-ok : row .kind ≡ 0 → AssignRow (g .nodes) row → NextOk g s (assigned tagged g s row)
