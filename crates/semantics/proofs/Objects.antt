@@ -18,7 +18,6 @@ use Rattle.image.proofs.Bytes.{row-missing}
 use Rattle.shapes.specs.Forms.{form}
 use Rattle.shapes.specs.Sizes.{sizeOf, layoutOf}
 use Rattle.shapes.proofs.Rows.{form-array}
-use Rattle.shapes.proofs.Accepted.{array-is}
 use Rattle.shapes.proofs.Layouts.{layout-length, field-layout, element-layout, decide}
 use Rattle.relations.specs.Extends.{extends}
 use Rattle.relations.proofs.Extension.{extends-yes, extension-layout}
@@ -28,6 +27,7 @@ use Rattle.frames.proofs.Claiming.{globals-within}
 use Rattle.places.specs.Places.{widthBy, widthOf, roomBy, roomFrom, globalCells, frameSize, placeIn}
 use Rattle.places.proofs.Rooms.{width-var, width-other}
 use Rattle.places.proofs.Counting.{first-none, first-next, first-grows}
+use Rattle.typing.proofs.Lower.{field-row, element-row}
 use Rattle.checker.proofs.Accepted.{AcceptedTables}
 use Rattle.semantics.specs.Memory.{ADDRESS, TYPE}
 use Rattle.semantics.specs.Layout.{Program, ownerFrom, ownerOf, placeOf, kindsOf, kindsFrom}
@@ -36,7 +36,7 @@ use Rattle.semantics.specs.Sound.{Frame, rowsFrom, valuesOf, frameWants,
 use Rattle.semantics.specs.Sound.{Object, Object.of-global, Object.of-frame, Object.of-older, Object.of-field}
 use Rattle.semantics.specs.Sound.{Object.of-element}
 use Rattle.semantics.specs.Sound.{Slot, Slot.by-value, Slot.by-reference, Stack, Stack.a-frame}
-use Rattle.semantics.proofs.FieldRows.{field-nth, field-row}
+use Rattle.semantics.proofs.FieldRows.{field-nth}
 
 -- ---- the variables of one run of rows
 
@@ -210,16 +210,13 @@ module _ (g : Program)
 
   -- an object's type is a row
   pub object-typed : {fs : List Frame} {at r : ℕ} → Object g fs at r → r < rowsOf (g .types)
-  unfolding form
   object-typed (of-global {k = k} h) = ok .variable k (omega (arith, globals-within (g .variables))) .typed
   object-typed (of-frame {k = k} own kind) = ok .variable k (own-within own) .typed
   object-typed (of-older o) = object-typed o
   object-typed (of-field {r = r} {offset = offset} {u = u} j o e) =
       field-row (g .types) (g .fields) (ok .types) r j offset u (object-typed o) e
   object-typed (of-element {r = r} o kind less) =
-      let low = object-typed o in
-      let lower = array-is (ok .types .row r low .shape) (form-array (rowAt (g .types) r) kind) .low in
-      omega arith
+      element-row (g .types) (g .fields) (ok .types) r (object-typed o) kind
 
   -- ---- frames
 

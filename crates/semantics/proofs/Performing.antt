@@ -398,15 +398,14 @@ module _ (g : Program)
   -- ---- "0 assign b to designator a."
 
   -- "then copy the target type's cells": those of an object whose type extends the target's
-  copied-ok : (target source : Place) → target .declared < rowsOf (g .types)
-      → extends (g .types) (target .dynamic) (target .declared) ≡ true
+  copied-ok : (target source : Place) → extends (g .types) (target .dynamic) (target .declared) ≡ true
       → Object g frames (target .address) (target .dynamic)
       → extends (g .types) (source .dynamic) (source .declared) ≡ true
       → Object g frames (source .address) (source .dynamic)
       → extends (g .types) (source .declared) (target .declared) ≡ true
       → Inside g own-procedure (s .at .row + 1) → NextOk g s (copied tagged g s target source)
   unfolding copied
-  copied-ok target source low a into b from e inside =
+  copied-ok target source a into b from e inside =
       let itself-too = extends-refl (g .types) (target .declared) in
       ok-choose g s _ (λ other. ok-trapped (unchanged g s))
       (λ other. on-part-ok (sizeOf (g .types) (g .fields) (target .declared)) (written s (target .address))
@@ -442,7 +441,7 @@ module _ (g : Program)
       let known = form .source .within in
       on-place-ok g s (unchanged g s) _ (found-here (row .b) x known (ruled .source-type) (ruled .own-source) (itself from))
       (λ source stated held there.
-      copied-ok target source (rw declared y-low) extended object held there
+      copied-ok target source extended object held there
       (rw (declared, stated) (ruled .extension)) inside)))
 
   -- ---- "2 go to b if a is FALSE."
