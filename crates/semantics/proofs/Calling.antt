@@ -38,14 +38,14 @@ use Rattle.semantics.specs.Sound.{Want, Want.any-value, Want.exactly, Fi
 use Rattle.semantics.specs.Sound.{Matched, Matched.no-more, Matched.one-more, Frame, rowsFrom, valuesOf}
 use Rattle.semantics.specs.Sound.{frameWants, wants, room, Inside, Slot, Slot.by-value, Slot.by-reference}
 use Rattle.semantics.specs.Sound.{Called.is-called, Stack, Stack.a-frame, Sound}
-use Rattle.semantics.proofs.Holding.{matched-length, matched-append, matched-part, put-above, put-length, part-below}
+use Rattle.semantics.proofs.Holding.{matched-length, matched-append, put-above, put-length}
 use Rattle.semantics.proofs.Kept.{Unchanged, NextOk, NextOk.ok-goes, NextOk.ok-trapped}
 use Rattle.semantics.proofs.Evaluating.{FoundOk, Designates.as-argument}
-use Rattle.semantics.proofs.Evaluating.{find-ok, eval-ok}
+use Rattle.semantics.proofs.Evaluating.{find-ok, eval-ok, part-top}
 use Rattle.semantics.proofs.Objects.{values-length, slot-width, object-front, slots-length, room-next, place-own}
 use Rattle.semantics.proofs.Blanks.{local-low, slotsFrom, slots-matched, slots-fit}
 use Rattle.semantics.proofs.Kinship.{extends-low, extends-scalar}
-use Rattle.semantics.proofs.Performing.{unchanged, ok-choose, ok-yes, on-place-ok, on-value-ok, part-end, put-fits}
+use Rattle.semantics.proofs.Performing.{unchanged, ok-choose, ok-yes, on-place-ok, on-value-ok, part-cells, put-fits}
 use Rattle.semantics.proofs.Performing.{typed-low, structured-designator, scalar-values, row-within, procedure-is, kind-inside}
 
 -- ---- lists
@@ -190,13 +190,10 @@ module _ (g : Program) (ok : AcceptedTables (g .types) (g .fields) (g .variables
           let r : ℕ = rowAt (g .variables) a .a in
           let size = values-length g r in
           let part = object-front g ok r (sound .stack) o (extended place d e) in
-          let matched = matched-part (above-sound cells above .holding) part in
-          let end = part-end part in
-          let top = sound .ends in
-          let low : place .address + sizeOf (g .types) (g .fields) r ≤ s .at .top = omega arith in
+          let matched = part-cells g ok bytes (over cells) (above-sound cells above) part in
+          let low = rw size at (part-top g ok bytes s sound part) in
           ok-yes g s _ _ (le-leb (place .address + sizeOf (g .types) (g .fields) r) (s .at .top) low)
-          (more _ (valuesOf g r) (by-value plain)
-          (rw (part-below cells (place .address) (sizeOf (g .types) (g .fields) r) (s .at .top) low) at (rw size at matched)))
+          (more _ (valuesOf g r) (by-value plain) (rw size at matched))
 
       parameter-kind : (rowAt (g .variables) a .kind ≡ 3 → ⊥) → rowAt (g .variables) a .kind ≤ 2
       unfolding kindWithin

@@ -1,7 +1,7 @@
 -- Finding and evaluating from a sound state: an object of the node's type, a value of its kind, or a trap.
-use mathlib.Core.Path.{_≡_, refl, sym, _∙_, ap, subst}
+use mathlib.Core.Path.{_≡_, refl, sym, _∙_, subst}
 use mathlib.Core.Bool.{Bool, true, false, _&&_}
-use mathlib.Core.List.{List, [], _∷_, append-nil}
+use mathlib.Core.List.{List, _∷_}
 use mathlib.Core.Logic.{_⊎_, inl, inr, ⊎-elim}
 use Prim.Native.Nat.{ℕ, _+_, _*_, _≤_, _<_}
 use native.Mathlib.Omega.{arith}
@@ -9,11 +9,10 @@ use native.Mathlib.Decide.{decLe}
 use borrow.Author.Tests.{lt-ltb, le-leb, lt-leb, eq-eqb, ne-eqb, eqb-true, leb-true, ltb-true}
 use lib.Dec.{ltb, leb, eqb}
 use lib.IntN.{ℤ, pos, negsuc}
-use lib.ListN.{length, length-drop, length-append}
+use lib.ListN.{take, length, length-append}
 use Rattle.prelude.specs.Choice.{choose}
 use Rattle.prelude.specs.Parts.{Part}
 use Rattle.prelude.proofs.Choice.{choose-yes, choose-no, choose-cases, also-yes, clash}
-use Rattle.prelude.proofs.Parts.{part-part}
 use Rattle.prelude.proofs.Rec.{rec-ind}
 use Rattle.image.specs.declared.Row.{Row}
 use Rattle.image.specs.Rows.{rowAt, rowsOf}
@@ -60,10 +59,10 @@ use Rattle.semantics.specs.Layout.{Program, placeOf}
 use Rattle.semantics.specs.Finding.{reach, content, index, withMark, object, parameterPlace, variablePlace, fieldPlace, elementPlace, arrayPlace}
 use Rattle.semantics.specs.Finding.{guardPlace, testOf, Meaning, noMeaning, designator, meaningBy, meaningOf, findOf, evalOf}
 use Rattle.semantics.specs.Stepping.{State}
-use Rattle.semantics.specs.Sound.{Want, Want.any-value, Want.exactly, Fits, Fits.fits-value, Fits.fits-exactly, Frame}
+use Rattle.semantics.specs.Sound.{Want, Want.any-value, Want.exactly, Fits, Fits.fits-value, Fits.fits-exactly, Matched, Frame}
 use Rattle.semantics.specs.Sound.{valuesOf, frameWants, wants, room, Own, Object, Object.of-global, Object.of-frame, Object.of-older}
 use Rattle.semantics.specs.Sound.{Object.of-field, Object.of-element, Slot, Slot.by-value, Slot.by-reference, Stack, Stack.a-frame, Sound}
-use Rattle.semantics.proofs.Holding.{matched-at, cell-below}
+use Rattle.semantics.proofs.Holding.{part-next, part-end, matched-at, cell-below}
 use Rattle.semantics.proofs.Objects.{global-is, own-kind, object-typed, object-part, slot-at, place-own, place-global}
 use Rattle.semantics.proofs.Kinship.{extends-other, extension-field, scalar-layout, scalar-other, global-low}
 
@@ -156,14 +155,40 @@ monadic-operand op operand x e =
 
 -- ---- wants and cells
 
-module _ {w : List Want} {at : ℕ} {b : Want} {ws : List Want} (p : Part w at (b ∷ ws)) where
-  part-inside : at < length w
-  part-inside = let l = length-drop at w in let e = ap length (p .seen) in let h = p .within in omega arith
+-- a cell below top
+cell-there : (top : ℕ) (cells : List Cell) {w ws : List Want} {b : Want} {a : ℕ} → Matched Fits (take top cells) w
+    → Part w a (b ∷ ws) → a < top → Fits (cellAt tagged cells a) b
+unfolding cellAt
+cell-there top cells {a = a} h p low =
+    let d : Cell = tagged .loose (pos 0) in
+    rw (← cell-below cells d a top low) (matched-at d h p)
 
-  part-next : Part w (at + 1) ws
-  part-next = part-part p (record { rest = []; seen = sym (append-nil ws); within = omega arith })
+-- a link, an address or a type reads as its number
+marked-number : (c : Cell) (k n : ℕ) → n ≤ 65536 → (k ≡ TYPE → n < 65536) → Fits c (exactly k n)
+    → tagged .marked k c ≡ Number n
+unfolding tagged markOf
+marked-number c k n small type (fits-exactly kind e) =
+    choose-yes _ _ _ (eq-eqb k (c .kind) (sym kind)) ∙ rw e (choose-yes _ _ _ (lt-ltb n _ (bound (decide k TYPE))))
+  where
+    bound : (k ≡ TYPE) ⊎ (k ≡ TYPE → ⊥) → n < choose (eqb k TYPE) 65536 4294967296
+    bound (inl same) = rw (choose-yes {X = ℕ} _ 65536 4294967296 (eq-eqb k TYPE same)) (type same)
+    bound (inr other) = rw (choose-no {X = ℕ} _ 65536 4294967296 (ne-eqb k TYPE other)) (omega arith)
+
+-- such a cell below top
+pub mark-there : (top : ℕ) (cells : List Cell) {w ws : List Want} {k n a : ℕ} → Matched Fits (take top cells) w
+    → Part w a (exactly k n ∷ ws) → a < top → n ≤ 65536 → (k ≡ TYPE → n < 65536)
+    → markAt tagged top cells k a ≡ Number n
+unfolding markAt
+mark-there top cells {k = k} {n} {a} h p low small type =
+    choose-yes _ _ _ (lt-ltb a top low)
+    ∙ marked-number (cellAt tagged cells a) k n small type (cell-there top cells h p low)
 
 -- ---- nodes
+
+pub designator-yes : {n : List ℕ} {k : ℕ} → Designator n k → isDesignator n k ≡ true
+unfolding isDesignator
+designator-yes {n} {k} d =
+    also-yes (le-leb 1 (rowAt n k .kind) (d .least)) (le-leb (rowAt n k .kind) 4 (d .most))
 
 record MeaningOk (g : Program) (fs : List Frame) (r x : ℕ) (m : Meaning) : Type 0 where
   place : Designates g r → FoundOk g fs x (m .place)
@@ -191,33 +216,17 @@ module _ (g : Program) (ok : AcceptedTables (g .types) (g .fields) (g .variables
 
   -- ---- cells below top
 
-  cell-fits : {at : ℕ} {b : Want} {ws : List Want} → Part (wants g frames) at (b ∷ ws) → (at < top) × Fits (cellAt tagged cells at) b
-  unfolding cellAt
-  cell-fits {at} p =
-      let inside : at < top = let e = sound .ends in let h = part-inside p in omega arith in
-      (inside, rw (← cell-below cells (tagged .loose (pos 0)) at top inside) (matched-at (tagged .loose (pos 0)) (sound .holding) p))
+  pub part-top : {a : ℕ} {ws : List Want} → Part (wants g frames) a ws → a + length ws ≤ s .at .top
+  part-top p = omega (arith, part-end p, sound .ends)
+
+  part-inside : {a : ℕ} {b : Want} {ws : List Want} → Part (wants g frames) a (b ∷ ws) → a < top
+  part-inside p = let h = part-top p in omega arith
 
   held-value : (x : ℕ) (c : Cell) → Fits c (any-value x) → Gives x (tagged .held x c)
   unfolding tagged
   held-value x c (fits-value {v = v} kind e) =
       let held = cell-held x (c .number) e in
       rw (choose-yes _ (cellOf x (c .number)) As.Stuck (eq-eqb x (c .kind) (sym kind)), e) (value (held .kind) (held .range))
-
-  marked-number : (k n : ℕ) (c : Cell) → n < 65536 + 1 → (k ≡ TYPE → n < 65536) → Fits c (exactly k n) → tagged .marked k c ≡ Number n
-  unfolding tagged markOf
-  marked-number k n c small type (fits-exactly kind e) =
-      choose-yes _ _ _ (eq-eqb k (c .kind) (sym kind)) ∙ rw e (choose-yes _ _ _ (lt-ltb n _ (bound (decide k TYPE))))
-    where
-      bound : (k ≡ TYPE) ⊎ (k ≡ TYPE → ⊥) → n < choose (eqb k TYPE) 65536 4294967296
-      bound (inl same) = rw (choose-yes {X = ℕ} _ 65536 4294967296 (eq-eqb k TYPE same)) (type same)
-      bound (inr other) = rw (choose-no {X = ℕ} _ 65536 4294967296 (ne-eqb k TYPE other)) (omega arith)
-
-  mark-is : (k n : ℕ) {at : ℕ} {ws : List Want} → Part (wants g frames) at (exactly k n ∷ ws) → n < 65536 + 1 → (k ≡ TYPE → n < 65536)
-      → markAt tagged top cells k at ≡ Number n
-  unfolding markAt
-  mark-is k n {at} p small type =
-      let (inside, fits) = cell-fits p in
-      choose-yes _ _ _ (lt-ltb at top inside) ∙ marked-number k n (cellAt tagged cells at) small type fits
 
   -- ---- an object's value
 
@@ -231,7 +240,8 @@ module _ (g : Program) (ok : AcceptedTables (g .types) (g .fields) (g .variables
       let dynamic : place .dynamic ≡ x = extends-other (g .types) (g .fields) (ok .types) (place .dynamic) (place .declared) extended low other ∙ declared in
       let part = rw dynamic at (object-part g ok (sound .stack) object) in
       let one = rw (scalar-layout (g .types) (g .fields) (ok .types) x (omega arith) (omega arith)) at part in
-      let (inside, fits) = cell-fits one in
+      let inside = part-inside one in
+      let fits = cell-there top cells (sound .holding) one inside in
       rw (declared, choose-yes _ (tagged .held x (cellAt tagged cells (place .address))) As.Stuck (lt-ltb (place .address) top inside))
       (held-value x (cellAt tagged cells (place .address)) fits)
 
@@ -265,7 +275,7 @@ module _ (g : Program) (ok : AcceptedTables (g .types) (g .fields) (g .variables
       (rw (sound .begins, place-own g ok procedure a there own) (of-frame own most)))
 
   -- the address of an object, and its type, as numbers of cells
-  object-small : {fs : List Frame} {at r : ℕ} → Stack g fs → Object g fs at r → room g fs ≤ 65536 → (at < 65536 + 1) × (r < 65536)
+  object-small : {fs : List Frame} {at r : ℕ} → Stack g fs → Object g fs at r → room g fs ≤ 65536 → (at ≤ 65536) × (r < 65536)
   object-small st object small =
       let within = object-part g ok st object .within in
       let typed = object-typed g ok object in
@@ -294,7 +304,11 @@ module _ (g : Program) (ok : AcceptedTables (g .types) (g .fields) (g .variables
   parameter-slot a (by-reference {at = address} {r = r} is object extended) kind at part =
       let small = older-small in
       let (low, type) = object-small older object small in
-      rw (mark-is ADDRESS address part low (λ e. absurd (omega arith)), mark-is TYPE r (part-next part) (omega arith) (λ e. type))
+      let next = part-next part in
+      rw (
+        mark-there top cells {k = ADDRESS} {n = address} (sound .holding) part (part-inside part) low (λ e. absurd (omega arith)),
+        mark-there top cells {k = TYPE} {n = r} (sound .holding) next (part-inside next) (omega arith) (λ e. type),
+      )
       (found-ok {place = record { address = address; declared = rowAt (g .variables) a .a; dynamic = r }} refl extended (of-older object))
 
   variable-parameter : (a : ℕ) → Own g procedure a → rowAt (g .variables) a .kind ≡ 3 → FoundOk g frames (rowAt (g .variables) a .a) (variableAt a)
@@ -367,10 +381,6 @@ module _ (g : Program) (ok : AcceptedTables (g .types) (g .fields) (g .variables
   test-ok b x is = content-ok (testOf g b) is (λ place declared extended thing. gives-boolean (extends (g .types) (place .dynamic) b))
 
   -- ---- every node, from the low rows up
-
-  designator-yes : {k : ℕ} → Designator (g .nodes) k → isDesignator (g .nodes) k ≡ true
-  unfolding isDesignator
-  designator-yes {k} d = also-yes (le-leb 1 (rowAt (g .nodes) k .kind) (d .least)) (le-leb (rowAt (g .nodes) k .kind) 4 (d .most))
 
   abbrev Right : ℕ → Meaning → Type 0
   Right r m = r < rowsOf (g .nodes) → (x : ℕ) → typeOf (g .types) (g .fields) (g .variables) (g .nodes) r ≡ Kind x

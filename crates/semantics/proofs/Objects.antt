@@ -1,7 +1,7 @@
 -- Where objects, variables and frames stand, and what their cells are to hold.
 use mathlib.Core.Path.{_≡_, refl, sym, _∙_}
 use mathlib.Core.Bool.{Bool, true, false}
-use mathlib.Core.List.{List, [], _∷_, _++_, append-nil}
+use mathlib.Core.List.{List, [], _∷_, append-nil}
 use mathlib.Core.Logic.{_⊎_, inl, inr}
 use Prim.Native.Nat.{ℕ, zero, suc, _+_, _-_, _≤_, _<_}
 use native.Mathlib.Omega.{arith}
@@ -36,12 +36,10 @@ use Rattle.semantics.specs.Sound.{Frame, rowsFrom, valuesOf, frameWants,
 use Rattle.semantics.specs.Sound.{Object, Object.of-global, Object.of-frame, Object.of-older, Object.of-field}
 use Rattle.semantics.specs.Sound.{Object.of-element}
 use Rattle.semantics.specs.Sound.{Slot, Slot.by-value, Slot.by-reference, Stack, Stack.a-frame}
+use Rattle.semantics.proofs.Holding.{part-start}
 use Rattle.semantics.proofs.FieldRows.{field-nth}
 
 -- ---- the variables of one run of rows
-
-part-start : {X : Type 0} (l m : List X) → Part (l ++ m) 0 l
-part-start l m = record { rest = m; seen = refl; within = omega arith }
 
 -- the first of some variables comes before the others
 room-first : (size : ℕ → ℕ) (v : List ℕ) (k n : ℕ)

@@ -1,17 +1,16 @@
 -- Each statement but the call, from a sound state: it goes on to a sound state, finishes, or ends in a trap.
-use mathlib.Core.Path.{_≡_, refl, sym, _∙_, ap, subst}
+use mathlib.Core.Path.{_≡_, refl, sym, _∙_, subst}
 use mathlib.Core.Bool.{Bool, true, false}
-use mathlib.Core.List.{List, [], _∷_, append-nil}
+use mathlib.Core.List.{List, [], _∷_}
 use Prim.Native.Nat.{ℕ, _+_, _≤_, _<_}
 use native.Mathlib.Omega.{arith}
-use borrow.Author.Tests.{leb-true, leb-false, eqb-false, lt-ltb, le-leb, eq-eqb}
-use lib.Dec.{eqb}
+use borrow.Author.Tests.{leb-true, leb-false, eqb-false, le-leb}
 use lib.IntN.{ℤ, pos}
-use lib.ListN.{length, take, getD, set, length-append, length-drop, length-set}
+use lib.ListN.{length, take, getD, set, length-set}
 use Rattle.prelude.specs.Choice.{choose}
 use Rattle.prelude.specs.Parts.{joined, Part}
-use Rattle.prelude.proofs.Choice.{choose-yes, also-yes}
-use Rattle.prelude.proofs.Parts.{part-part, part-back}
+use Rattle.prelude.proofs.Choice.{choose-yes}
+use Rattle.prelude.proofs.Parts.{part-back}
 use Rattle.image.specs.declared.Row.{Row}
 use Rattle.image.specs.Rows.{rowAt, rowsOf}
 use Rattle.image.proofs.Bytes.{Bytes}
@@ -47,7 +46,7 @@ use Rattle.semantics.specs.declared.Place.{Place}
 use Rattle.semantics.specs.declared.Found.{Found}
 use Rattle.semantics.specs.declared.Mark.{Mark}
 use Rattle.semantics.specs.declared.Mark.the-variants.{Number}
-use Rattle.semantics.specs.Memory.{LINK, TYPE, Cell, tagged, markOf, cellAt, markAt, partAt, overwrite}
+use Rattle.semantics.specs.Memory.{LINK, Cell, tagged, markAt, partAt, overwrite}
 use Rattle.semantics.specs.Layout.{Program}
 use Rattle.semantics.specs.Finding.{findOf, evalOf}
 use Rattle.semantics.specs.Stepping.{State, Next, Next.goes}
@@ -55,14 +54,15 @@ use Rattle.semantics.specs.Stepping.{onPlace, onValue, onInteger, onBool
 use Rattle.semantics.specs.Stepping.{following, withCells, written, onPart}
 use Rattle.semantics.specs.Stepping.{copied, assigned, jumped, returned}
 use Rattle.semantics.specs.Stepping.{inputAt, afterRead, received, sent, halted, perform, stepOf}
-use Rattle.semantics.specs.Sound.{Want, any-value, exactly, Fits, fits-value, fits-exactly}
+use Rattle.semantics.specs.Sound.{Want, any-value, exactly, Fits, fits-value}
 use Rattle.semantics.specs.Sound.{Matched, no-more, one-more, Frame, Inside, Object, Sound}
 use Rattle.semantics.specs.Sound.{is-first, is-called, Stack, a-frame, valuesOf, wants, frameWants}
-use Rattle.semantics.proofs.Holding.{matched-length, matched-part, matched-put, matched-at}
-use Rattle.semantics.proofs.Holding.{put-below, put-length, part-below, cell-below}
+use Rattle.semantics.proofs.Holding.{part-start, part-next, part-end, matched-length, matched-part, matched-put}
+use Rattle.semantics.proofs.Holding.{put-below, put-length, part-below}
 use Rattle.semantics.proofs.Objects.{values-length, object-front}
 use Rattle.semantics.proofs.Kinship.{extends-low, extends-scalar, scalar-layout}
 use Rattle.semantics.proofs.Evaluating.{FoundOk, found-ok, found-trap, Designates, itself, find-ok, eval-ok}
+use Rattle.semantics.proofs.Evaluating.{designator-yes, mark-there, part-top}
 use Rattle.semantics.proofs.Kept.{Unchanged, NextOk, ok-goes, ok-finished, ok-trapped}
 
 -- ---- what a step comes to, by the way it goes on
@@ -124,12 +124,6 @@ module _ (g : Program) (s : State Cell) where
 
 -- ---- cells
 
--- a part ends within its list
-pub part-end : {X : Type 0} {l xs : List X} {a : ℕ} → Part l a xs → a + length xs ≤ length l
-part-end {l = l} {xs} {a} p =
-    let w = p .within in
-    omega (arith, length-append xs (p .rest), length-drop a l, ap length (p .seen))
-
 first-cells : (cells : List Cell) (n : ℕ) → partAt cells 0 n ≡ take n cells
 unfolding partAt
 first-cells cells n = refl
@@ -148,30 +142,7 @@ input-range g input i = go (isInteger (getD input i (pos 0))) (getD input i (pos
     go true z e = e
     go false z e = refl
 
--- a link, an address or a type reads as its number
-pub mark-fits : (c : Cell) (k n : ℕ) → n ≤ 65535 → Fits c (exactly k n) → tagged .marked k c ≡ Number n
-unfolding tagged markOf choose
-mark-fits c k n small (fits-exactly kind number) =
-    rw (kind, number, eq-eqb k k refl, lt-ltb n (choose (eqb k TYPE) 65536 4294967296) (below (eqb k TYPE)))
-  where
-    below : (b : Bool) → n < choose b 65536 4294967296
-    below true = omega arith
-    below false = omega arith
-
--- such a cell below top
-pub mark-there : (top : ℕ) (cells : List Cell) {w ws : List Want} {k n a : ℕ} → Matched Fits (take top cells) w
-    → Part w a (exactly k n ∷ ws) → a < top → n ≤ 65535 → markAt tagged top cells k a ≡ Number n
-unfolding markAt cellAt
-mark-there top cells {k = k} {n} {a} h p low small =
-    let d : Cell = tagged .loose (pos 0) in
-    choose-yes _ _ _ (lt-ltb a top low)
-    ∙ mark-fits (getD cells a d) k n small (rw (cell-below cells d a top low) at (matched-at d h p))
-
 -- ---- objects and nodes of accepted tables
-
-designator-yes : (n : List ℕ) (k : ℕ) → 1 ≤ rowAt n k .kind → rowAt n k .kind ≤ 4 → isDesignator n k ≡ true
-unfolding isDesignator
-designator-yes n k low high = also-yes (le-leb 1 (rowAt n k .kind) low) (le-leb (rowAt n k .kind) 4 high)
 
 module _ (g : Program)
     (ok : AcceptedTables (g .types) (g .fields) (g .variables) (g .procedures) (g .nodes) (g .statements)) where
@@ -194,10 +165,10 @@ module _ (g : Program)
           let said = ok .questions .nodes in
           let low = constant-is (g .types) (g .variables) (g .nodes) said r (plain .within) k .typed in
           absurd (omega arith)
-      go (by-variable k e) = designator-yes (g .nodes) r (omega arith) (omega arith)
-      go (by-field k e) = designator-yes (g .nodes) r (omega arith) (omega arith)
-      go (by-element k e) = designator-yes (g .nodes) r (omega arith) (omega arith)
-      go (by-guard k e) = designator-yes (g .nodes) r (omega arith) (omega arith)
+      go (by-variable k e) = designator-yes (record { within = plain .within; least = omega arith; most = omega arith })
+      go (by-field k e) = designator-yes (record { within = plain .within; least = omega arith; most = omega arith })
+      go (by-element k e) = designator-yes (record { within = plain .within; least = omega arith; most = omega arith })
+      go (by-guard k e) = designator-yes (record { within = plain .within; least = omega arith; most = omega arith })
       go (by-dyadic k e) =
           let low = dyadic-low (rowAt (g .nodes) r .c) (e .left) (e .right) x (e .result) in
           absurd (omega arith)
@@ -235,16 +206,15 @@ module _ (g : Program) (f : Frame) (fs : List Frame) where
 
   older-part : Part (wants g (f ∷ fs)) 0 (wants g fs)
   unfolding wants
-  older-part = record { rest = frameWants g f; seen = refl; within = omega arith }
+  older-part = part-start (wants g fs) (frameWants g f)
 
   back-part : Part (wants g (f ∷ fs)) (length (wants g fs) + 1)
       (exactly LINK (f .back) ∷ exactly LINK (f .callers-base) ∷ joined (f .slots))
   unfolding frameWants
-  back-part = part-part frame-part (record { rest = []; seen = sym (append-nil _); within = omega arith })
+  back-part = part-next frame-part
 
   base-part : Part (wants g (f ∷ fs)) (length (wants g fs) + 2) (exactly LINK (f .callers-base) ∷ joined (f .slots))
-  unfolding frameWants
-  base-part = part-part frame-part (record { rest = []; seen = sym (append-nil _); within = omega arith })
+  base-part = let e : length (wants g fs) + 1 + 1 ≡ length (wants g fs) + 2 = omega arith in rw e at (part-next back-part)
 
 -- ---- from a sound state
 
@@ -339,20 +309,17 @@ module _ (g : Program)
 
   -- ---- its cells
 
-  pub part-top : {a : ℕ} {ws : List Want} → Part (wants g frames) a ws → a + length ws ≤ s .at .top
-  part-top p = omega (arith, part-end p, sound .ends)
-
   -- cells read below top
   pub part-cells : {a : ℕ} {ws : List Want} → Part (wants g frames) a ws
       → Matched Fits (partAt (s .cells) a (length ws)) ws
   part-cells {a} {ws} p =
-      rw (part-below (s .cells) a (length ws) (s .at .top) (part-top p)) at (matched-part (sound .holding) p)
+      rw (part-below (s .cells) a (length ws) (s .at .top) (part-top g ok bytes s sound p)) at (matched-part (sound .holding) p)
 
   pub on-part-ok : {a : ℕ} {ws : List Want} (n : ℕ) (k : List Cell → Next Cell) → Part (wants g frames) a ws
       → length ws ≡ n → ((new : List Cell) → Matched Fits new ws → NextOk g s (k new)) → NextOk g s (onPart s a n k)
   unfolding onPart
   on-part-ok {a} {ws} n k p size f =
-      let top = part-top p in
+      let top = part-top g ok bytes s sound p in
       ok-yes g s _ _ (le-leb (a + n) (s .at .top) (omega arith))
       (f (partAt (s .cells) a n) (rw size at (part-cells p)))
 
@@ -361,7 +328,7 @@ module _ (g : Program)
       → Inside g own-procedure (s .at .row + 1) → NextOk g s (written s a new)
   unfolding written following goTo withCells
   written-ok {a} {new} {ws} p m inside =
-      let top = part-top p in
+      let top = part-top g ok bytes s sound p in
       let stored = sound .stored in
       let fill = matched-length m in
       let within : a + length new ≤ s .at .top = omega arith in
@@ -426,7 +393,7 @@ module _ (g : Program)
       let inside = kind-inside 0 kind (omega arith) (omega arith) (omega arith) in
       let d = form .target in
       on-place-ok g s (unchanged g s) _ (found-here (row .a) y (d .within) (ruled .target-type) (ruled .own-target)
-      (itself (designator-yes (g .nodes) (row .a) (d .least) (d .most)))) (λ target declared extended object.
+      (itself (designator-yes d))) (λ target declared extended object.
       ok-choose g s _
       (λ scalar.
       let y-scalar : y ≤ 2 = omega (arith, leb-true (target .declared) 2 scalar) in
@@ -492,8 +459,8 @@ module _ (g : Program)
       let to : Part (wants g (f ∷ c ∷ fs)) (s .at .base + 1) (exactly LINK (f .back) ∷ base-link) =
       rw begins (back-part g f (c ∷ fs)) in
       let from : Part (wants g (f ∷ c ∷ fs)) (s .at .base + 2) base-link = rw begins (base-part g f (c ∷ fs)) in
-      on-mark-ok g s _ (mark-there (s .at .top) (s .cells) h to (omega arith) (omega arith))
-      (on-mark-ok g s _ (mark-there (s .at .top) (s .cells) h from (omega arith) (omega arith))
+      on-mark-ok g s _ (mark-there (s .at .top) (s .cells) h to (omega arith) (omega arith) (λ e. absurd (omega arith)))
+      (on-mark-ok g s _ (mark-there (s .at .top) (s .cells) h from (omega arith) (omega arith) (λ e. absurd (omega arith)))
       (ok-goes (record {
         newest = c;
         others = fs;
@@ -540,7 +507,7 @@ module _ (g : Program)
       let inside = kind-inside 5 kind (omega arith) (omega arith) (omega arith) in
       let d = form .target in
       on-place-ok g s (unchanged g s) _ (found-here (row .a) INTEGER (d .within) (ruled .type) (ruled .own)
-      (itself (designator-yes (g .nodes) (row .a) (d .least) (d .most)))) (λ target declared extended object.
+      (itself (designator-yes d))) (λ target declared extended object.
       ok-choose g s _
       (λ more. read-ok (put-ok target (Vs.Int (inputAt tagged g input (s .at .read))) extended object (sym declared)
       (integer (input-range g input (s .at .read))) (omega arith) inside))
