@@ -1,7 +1,5 @@
 -- What a step comes to from a sound state.
 use mathlib.Core.Path.{_≡_}
-use mathlib.Core.List.{List}
-use Prim.Native.Nat.{ℕ}
 use lib.IntN.{ℤ}
 use lib.ListN.{length, take}
 use Rattle.values.specs.declared.Trap.{Trap}

@@ -1,25 +1,25 @@
 -- Laws of types and variables that soundness needs.
-use mathlib.Core.Path.{_≡_, refl, sym, _∙_, ap}
+use mathlib.Core.Path.{_≡_, refl, _∙_}
 use mathlib.Core.Bool.{Bool, true, false}
 use mathlib.Core.List.{List, [], _∷_, _++_, map}
 use mathlib.Core.Logic.{_⊎_, inl, inr}
-use Prim.Native.Nat.{ℕ, zero, suc, _+_, _-_, _≤_, _<_}
+use Prim.Native.Nat.{ℕ, zero, suc, _+_, _≤_, _<_}
 use native.Mathlib.Omega.{arith}
 use native.Mathlib.Decide.{decLt}
-use borrow.Author.Tests.{lt-ltb, ltb-true, eqb-true}
-use lib.Dec.{ltb, eqb}
+use borrow.Author.Tests.{lt-ltb, ltb-true}
+use lib.Dec.{ltb}
 use lib.ListN.{length, getD, take, drop, length-append, List·getD-append}
 use lib.Seq.{take-append-le}
 use Rattle.prelude.specs.Choice.{choose}
-use Rattle.prelude.specs.Parts.{sum, Part}
+use Rattle.prelude.specs.Parts.{sum}
 use Rattle.prelude.proofs.Choice.{choose-yes, choose-cases}
 use Rattle.image.specs.Rows.{rowAt, rowsOf}
 use Rattle.image.specs.Faults.{KeptIn}
 use Rattle.image.proofs.Faults.{kept-next}
-use Rattle.shapes.specs.Forms.{Form, Form.scalar, Form.array, Form.recordOf, Form.noForm, form, formOf, baseOf}
+use Rattle.shapes.specs.Forms.{Form, form, baseOf}
 use Rattle.shapes.specs.Sizes.{layoutBy, layoutOf, fieldsOf, offsetOf, sizeOf}
 use Rattle.shapes.proofs.Rows.{form-record}
-use Rattle.shapes.proofs.Accepted.{TypesKept, RowKept, Shape, Shape.is-scalar, Shape.is-array, Shape.is-record, record-is, IsRecord}
+use Rattle.shapes.proofs.Accepted.{TypesKept, Shape, Shape.is-scalar, Shape.is-array, Shape.is-record, record-is}
 use Rattle.shapes.proofs.Accepted.{Based, Based.no-base, Based.on-base, layout-is}
 use Rattle.relations.specs.declared.FieldAnswer.{FieldAnswer}
 use Rattle.relations.specs.declared.FieldAnswer.the-variants.{Missing, Field}
