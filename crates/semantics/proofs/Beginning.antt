@@ -14,10 +14,8 @@ use Rattle.checker.proofs.Accepted.{AcceptedTables}
 use Rattle.semantics.specs.Memory.{LINK, Cell, tagged}
 use Rattle.semantics.specs.Layout.{Program, kindsFrom}
 use Rattle.semantics.specs.Running.{globalRoom, firstTop, freshCells, fresh}
-use Rattle.semantics.specs.Sound.{Want, Fits, Fits.fits-exactly}
-use Rattle.semantics.specs.Sound.{Matched, Matched.one-more}
-use Rattle.semantics.specs.Sound.{Frame, frameWants, wants, room, Inside}
-use Rattle.semantics.specs.Sound.{Called.is-first, Stack, Stack.no-frame, Stack.a-frame}
+use Rattle.semantics.specs.Sound.{Want, Fits, Fits.fits-exactly, Matched, Matched.one-more, Frame, frameWants}
+use Rattle.semantics.specs.Sound.{wants, room, Inside, Called.is-first, Stack, Stack.no-frame, Stack.a-frame}
 use Rattle.semantics.specs.Sound.{Sound}
 use Rattle.semantics.proofs.Holding.{matched-length}
 use Rattle.semantics.proofs.Objects.{global-kind, room-next, room-globals}

@@ -23,10 +23,8 @@ use Rattle.frames.specs.Variables.{isLocal, kindWithin}
 use Rattle.values.specs.Values.{cellOf, booleanCell, integerCell, isInteger, setCell, isSet}
 use Rattle.semantics.specs.Memory.{Cell, tagged}
 use Rattle.semantics.specs.Layout.{Program, kindsOf, kindsFrom}
-use Rattle.semantics.specs.Sound.{Want, Want.any-value, Fits, Fits.fits-value}
-use Rattle.semantics.specs.Sound.{Matched, Matched.no-more, Matched.one-more}
-use Rattle.semantics.specs.Sound.{Frame, rowsFrom, valuesOf}
-use Rattle.semantics.specs.Sound.{Slot, Slot.by-value}
+use Rattle.semantics.specs.Sound.{Want, Want.any-value, Fits, Fits.fits-value, Matched, Matched.no-more}
+use Rattle.semantics.specs.Sound.{Matched.one-more, Frame, rowsFrom, valuesOf, Slot, Slot.by-value}
 use Rattle.semantics.proofs.Objects.{kinds-value}
 
 -- ---- layouts are made of scalar kinds
@@ -137,5 +135,10 @@ module _ (g : Program) where
   pub slots-fit : (n k : ℕ) → ((j : ℕ) → k ≤ j → j < k + n → rowAt (g .variables) j .kind ≤ 2)
       → Matched Fits (map (tagged .blank) (kindsFrom g k n)) (joined (slotsFrom k n))
   slots-fit n k low =
-      rw (slots-kinds n k low, ← append-nil (map (tagged .blank) (kindsFrom g k n)), ← append-nil (map any-value (kindsFrom g k n)))
+      rw (
+        slots-kinds n k low,
+        ← append-nil (map (tagged .blank) (kindsFrom g k n)),
+        ← append-nil
+            (map any-value (kindsFrom g k n)),
+      )
       (blanks-fit (kinds-scalar n k low) no-more)

@@ -33,20 +33,22 @@ use Rattle.semantics.specs.declared.Place.{Place}
 use Rattle.semantics.specs.Memory.{LINK, ADDRESS, TYPE, Cell, tagged, overwrite}
 use Rattle.semantics.specs.Layout.{Program, placeOf, kindsFrom}
 use Rattle.semantics.specs.Finding.{findOf, evalOf}
-use Rattle.semantics.specs.Stepping.{State, Next, onPlace, onValue, onPart, withCells, argumentCells, passed, entered, called}
-use Rattle.semantics.specs.Sound.{Want, Want.any-value, Want.exactly, Fits, Fits.fits-exactly}
-use Rattle.semantics.specs.Sound.{Matched, Matched.no-more, Matched.one-more, Frame, rowsFrom, valuesOf}
-use Rattle.semantics.specs.Sound.{frameWants, wants, room, Inside, Slot, Slot.by-value, Slot.by-reference}
-use Rattle.semantics.specs.Sound.{Called.is-called, Stack, Stack.a-frame, Sound}
+use Rattle.semantics.specs.Stepping.{State, Next, onPlace, onValue, onPart, withCells, argumentCells, passed}
+use Rattle.semantics.specs.Stepping.{entered, called}
+use Rattle.semantics.specs.Sound.{Want, Want.any-value, Want.exactly, Fits, Fits.fits-exactly, Matched}
+use Rattle.semantics.specs.Sound.{Matched.no-more, Matched.one-more, Frame, rowsFrom, valuesOf, frameWants}
+use Rattle.semantics.specs.Sound.{wants, room, Inside, Slot, Slot.by-value, Slot.by-reference, Called.is-called}
+use Rattle.semantics.specs.Sound.{Stack, Stack.a-frame, Sound}
 use Rattle.semantics.proofs.Holding.{matched-length, matched-append, put-above, put-length}
 use Rattle.semantics.proofs.Kept.{Unchanged, NextOk, NextOk.ok-goes, NextOk.ok-trapped}
-use Rattle.semantics.proofs.Evaluating.{FoundOk, Designates.as-argument}
-use Rattle.semantics.proofs.Evaluating.{find-ok, eval-ok, part-top}
-use Rattle.semantics.proofs.Objects.{values-length, slot-width, object-front, slots-length, room-next, place-own}
+use Rattle.semantics.proofs.Evaluating.{FoundOk, Designates.as-argument, find-ok, eval-ok, part-top}
+use Rattle.semantics.proofs.Objects.{values-length, slot-width, object-front, slots-length, room-next}
+use Rattle.semantics.proofs.Objects.{place-own}
 use Rattle.semantics.proofs.Blanks.{local-low, slotsFrom, slots-matched, slots-fit}
 use Rattle.semantics.proofs.Kinship.{extends-low, extends-scalar}
-use Rattle.semantics.proofs.Performing.{unchanged, ok-choose, ok-yes, on-place-ok, on-value-ok, part-cells, put-fits}
-use Rattle.semantics.proofs.Performing.{typed-low, structured-designator, scalar-values, row-within, procedure-is, kind-inside}
+use Rattle.semantics.proofs.Performing.{unchanged, ok-choose, ok-yes, on-place-ok, on-value-ok, part-cells}
+use Rattle.semantics.proofs.Performing.{put-fits, typed-low, structured-designator, scalar-values, row-within}
+use Rattle.semantics.proofs.Performing.{procedure-is, kind-inside}
 
 -- ---- lists
 
@@ -78,7 +80,9 @@ module _ {A : Type 0} where
       rw front (append-assoc (take at l) xs (new ++ behind)) in
       record {
         rest = behind;
-        seen = ap (drop at) whole ∙ drop-at (take at l) (xs ++ (new ++ behind)) at size ∙ sym (append-assoc xs new behind);
+        seen =
+            ap (drop at) whole ∙ drop-at (take at l) (xs ++ (new ++ behind)) at size ∙ sym
+            (append-assoc xs new behind);
         within = rw whole (omega (arith, size, length-append (take at l) (xs ++ (new ++ behind))));
       }
 
@@ -90,13 +94,15 @@ module _ {A : Type 0} where
       let size : length (take top l) ≡ top = length-take-le top l h in
       let behind : links ++ drop (top + length links) l ≡ (links ++ xs) ++ p .rest =
       rw (p .seen) (sym (append-assoc links xs (p .rest))) in
-      let from : take (length (take top l) + n) (take top l ++ ((links ++ xs) ++ p .rest)) ≡ take top l ++ (links ++ xs) =
+      let from : take (length (take top l) + n) (take top l ++ ((links ++ xs) ++ p .rest)) ≡ take top l ++
+      (links ++ xs) =
       take-append-add (take top l) ((links ++ xs) ++ p .rest) n ∙ rw (take-at (links ++ xs) (p .rest) n e) in
       rw behind (rw size at from)
 
 -- ---- one argument
 
-module _ (g : Program) (ok : AcceptedTables (g .types) (g .fields) (g .variables) (g .procedures) (g .nodes) (g .statements))
+module _ (g : Program)
+    (ok : AcceptedTables (g .types) (g .fields) (g .variables) (g .procedures) (g .nodes) (g .statements))
     (bytes : Bytes (g .nodes)) (s : State Cell) (sound : Sound g s) where
   -- the same state with other cells above top
   record Above (cells : List Cell) : Type 0 where
@@ -125,9 +131,11 @@ module _ (g : Program) (ok : AcceptedTables (g .types) (g .fields) (g .variables
 
   module _ (k a : ℕ) (there : a < rowsOf (g .variables)) (parameter : isParameter (g .variables) a ≡ true)
       (argument : isArgument (g .nodes) k ≡ true)
-      (ruled : ArgumentRuled (g .types) (g .fields) (g .variables) (g .procedures) (g .nodes) (sound .newest .procedure) k a)
+      (ruled : ArgumentRuled (g .types) (g .fields) (g .variables) (g .procedures) (g .nodes)
+      (sound .newest .procedure) k a)
       (cells : List Cell) (above : Above cells) (next : List Cell → Next Cell)
-      (more : (new : List Cell) (ws : List Want) → Slot g (sound .newest ∷ sound .others) a ws → Matched Fits new ws → NextOk g s (next new))
+      (more : (new : List Cell) (ws : List Want) → Slot g (sound .newest ∷ sound .others) a ws → Matched Fits new ws
+      → NextOk g s (next new))
     where
       within : k < rowsOf (g .nodes)
       within = argument-within (g .nodes) k argument
@@ -139,15 +147,19 @@ module _ (g : Program) (ok : AcceptedTables (g .types) (g .fields) (g .variables
       passed-row = typed-low g ok k (ruled .passed) (ruled .passed-type)
 
       found : isDesignator (g .nodes) (rowAt (g .nodes) k .a) ≡ true
-          → FoundOk g (sound .newest ∷ sound .others) (ruled .passed) (findOf tagged g (s .at .base) (s .at .top) cells k)
+          → FoundOk g (sound .newest ∷ sound .others) (ruled .passed)
+          (findOf tagged g (s .at .base) (s .at .top) cells k)
       found d =
-          find-ok g ok bytes (over cells) (above-sound cells above) k (ruled .passed) within (ruled .passed-type) (ruled .own)
+          find-ok g ok bytes (over cells) (above-sound cells above) k (ruled .passed) within (ruled .passed-type)
+          (ruled .own)
           (as-argument kind d)
 
-      extended : (place : Place) → place .declared ≡ ruled .passed → extends (g .types) (place .dynamic) (place .declared) ≡ true
+      extended : (place : Place) → place .declared ≡ ruled .passed
+          → extends (g .types) (place .dynamic) (place .declared) ≡ true
           → extends (g .types) (place .dynamic) (rowAt (g .variables) a .a) ≡ true
       extended place d e =
-          extends-trans (g .types) (place .dynamic) (ruled .passed) (rowAt (g .variables) a .a) (rw d at e) (ruled .extension)
+          extends-trans (g .types) (place .dynamic) (ruled .passed) (rowAt (g .variables) a .a) (rw d at e)
+          (ruled .extension)
 
       -- "A VAR argument passes its object's address and dynamic type."
       reference-ok : rowAt (g .variables) a .kind ≡ 3
@@ -156,34 +168,43 @@ module _ (g : Program) (ok : AcceptedTables (g .types) (g .fields) (g .variables
       unfolding tagged
       reference-ok var =
           on-place-ok g s (above-unchanged cells above) _ (found (ruled .designator var)) λ place d e o.
-          more _ (exactly ADDRESS (place .address) ∷ exactly TYPE (place .dynamic) ∷ []) (by-reference var o (extended place d e))
+          more _ (exactly ADDRESS (place .address) ∷ exactly TYPE (place .dynamic) ∷ [])
+          (by-reference var o (extended place d e))
           (one-more (fits-exactly refl refl) (one-more (fits-exactly refl refl) no-more))
 
       -- a scalar's value
       scalar-ok : rowAt (g .variables) a .kind ≤ 2 → rowAt (g .variables) a .a ≤ 2
-          → NextOk g s (onValue (over cells) (evalOf tagged g (s .at .base) (s .at .top) cells k) λ v. next (tagged .put v ∷ []))
+          → NextOk g s
+          (onValue (over cells) (evalOf tagged g (s .at .base) (s .at .top) cells k) λ v. next (tagged .put v ∷ []))
       unfolding valuesOf
       scalar-ok plain few =
           let low = ok .variable a there .typed in
           let same-type : ruled .passed ≡ rowAt (g .variables) a .a =
-          extends-scalar (g .types) (g .fields) (ok .types) (ruled .passed) (rowAt (g .variables) a .a) few low (ruled .extension) passed-row in
+          extends-scalar (g .types) (g .fields) (ok .types) (ruled .passed) (rowAt (g .variables) a .a) few low
+          (ruled .extension) passed-row in
           let values = scalar-values g ok (rowAt (g .variables) a .a) few in
-          let slot : Slot g (sound .newest ∷ sound .others) a (valuesOf g (rowAt (g .variables) a .a)) = by-value plain in
+          let slot : Slot g (sound .newest ∷ sound .others) a (valuesOf g (rowAt (g .variables) a .a)) =
+          by-value plain in
           on-value-ok g s (above-unchanged cells above) _
-          (eval-ok g ok bytes (over cells) (above-sound cells above) k (ruled .passed) within (ruled .passed-type) (ruled .own) (omega arith))
-          λ v e h. more _ (any-value (rowAt (g .variables) a .a) ∷ []) (rw values at slot) (one-more (put-fits v (rowAt (g .variables) a .a) (e ∙ same-type) h) no-more)
+          (eval-ok g ok bytes (over cells) (above-sound cells above) k (ruled .passed) within (ruled .passed-type)
+          (ruled .own) (omega arith))
+          λ v e h. more _ (any-value (rowAt (g .variables) a .a) ∷ []) (rw values at slot)
+          (one-more (put-fits v (rowAt (g .variables) a .a) (e ∙ same-type) h) no-more)
 
       -- another object's cells
       holds : 3 ≤ rowAt (g .variables) a .a → isDesignator (g .nodes) (rowAt (g .nodes) k .a) ≡ true
       holds many =
           let low = extends-low (g .types) (ruled .passed) (rowAt (g .variables) a .a) (ruled .extension) in
-          let child = argument-is (g .types) (g .variables) (g .nodes) (ok .questions .nodes) k within kind .holds .node in
-          let type = argument-typed (g .types) (g .fields) (g .variables) (g .nodes) (ok .questions .nodes) k within (ruled .passed-type) kind in
+          let child = argument-is (g .types) (g .variables) (g .nodes)
+          (ok .questions .nodes) k within kind .holds .node in
+          let type = argument-typed (g .types) (g .fields) (g .variables) (g .nodes) (ok .questions .nodes) k within
+          (ruled .passed-type) kind in
           structured-designator g ok (rowAt (g .nodes) k .a) (ruled .passed) child type (omega arith)
 
       copied-ok : rowAt (g .variables) a .kind ≤ 2 → 3 ≤ rowAt (g .variables) a .a
           → NextOk g s (onPlace (over cells) (findOf tagged g (s .at .base) (s .at .top) cells k)
-          λ place. onPart (over cells) (place .address) (sizeOf (g .types) (g .fields) (rowAt (g .variables) a .a)) next)
+          λ place. onPart (over cells) (place .address)
+          (sizeOf (g .types) (g .fields) (rowAt (g .variables) a .a)) next)
       unfolding onPart
       copied-ok plain many =
           on-place-ok g s (above-unchanged cells above) _ (found (holds many)) λ place d e o.
@@ -212,7 +233,8 @@ module _ (g : Program) (ok : AcceptedTables (g .types) (g .fields) (g .variables
   -- ---- all arguments
 
   module _ (q : ℕ) (exists : q < rowsOf (g .procedures))
-      (fitting : s .at .top + frameSize (g .types) (g .fields) (g .variables) (g .procedures) q ≤ length (s .cells)) where
+      (fitting : s .at .top + frameSize (g .types) (g .fields) (g .variables) (g .procedures) q ≤ length
+      (s .cells)) where
     abbrev first : ℕ
     first = firstVariable (g .variables) (g .procedures) q
 
@@ -258,7 +280,8 @@ module _ (g : Program) (ok : AcceptedTables (g .types) (g .fields) (g .variables
           ≤ frameSize (g .types) (g .fields) (g .variables) (g .procedures) q
       place-within =
           let at = place-own g ok q (first + j) exists (record { low = omega arith; high = variable-own }) in
-          rw at (own-within (g .types) (g .fields) (g .variables) (g .procedures) q (first + j) (record { low = omega arith; high = variable-own }))
+          rw at (own-within (g .types) (g .fields) (g .variables) (g .procedures) q (first + j)
+          (record { low = omega arith; high = variable-own }))
 
       passing-next : (cells : List Cell) → Passing j cells → (new : List Cell) (ws : List Want)
           → Slot g (sound .newest ∷ sound .others) (first + j) ws → Matched Fits new ws
@@ -268,7 +291,8 @@ module _ (g : Program) (ok : AcceptedTables (g .types) (g .fields) (g .variables
           let args : List Cell = p .arguments in
           let width : length new ≡ widthOf (g .types) (g .fields) (g .variables) (first + j) =
           matched-length matched ∙ slot-width g slot in
-          let at : s .at .top + placeOf g (first + j) ≡ s .at .top + 3 + length args = omega (arith, place-next, p .filled) in
+          let at : s .at .top + placeOf g (first + j) ≡ s .at .top + 3 + length args =
+          omega (arith, place-next, p .filled) in
           let most = place-within in
           let many = p .above .as-many in
           let room : s .at .top + 3 + length args + length new ≤ length cells = omega arith in
@@ -276,19 +300,29 @@ module _ (g : Program) (ok : AcceptedTables (g .types) (g .fields) (g .variables
           rw at (record {
             above = record {
               as-many = put-length cells new (s .at .top + 3 + length args) room ∙ many;
-              same-below = put-above cells new (s .at .top + 3 + length args) (s .at .top) (omega arith) (omega arith) ∙ p .above .same-below;
+              same-below =
+                  put-above cells new (s .at .top + 3 + length args) (s .at .top) (omega arith) (omega arith)
+                  ∙ p .above .same-below;
             };
             arguments = args ++ new;
             slots = p .slots ++ (ws ∷ []);
             placed = part-put cells args new (s .at .top + 3) (p .placed) room;
-            filled = rw one (omega (arith, length-append args new, p .filled, room-more (sizeOf (g .types) (g .fields)) (g .variables) first j));
+            filled =
+                rw one (omega (
+                  arith,
+                  length-append args new,
+                  p .filled,
+                  room-more (sizeOf (g .types) (g .fields))
+                      (g .variables) first j,
+                ));
             fits = rw (joined-both (p .slots) (ws ∷ []), append-nil ws) (matched-append (p .fits) matched);
             slotted = rw (rows-both first j 1) (matched-append (p .slotted) (one-more slot no-more));
           })
 
     -- ---- the frame is entered
 
-    module _ (call : rowAt (g .statements) (s .at .row) .kind ≡ 1) (named : rowAt (g .statements) (s .at .row) .a ≡ q) where
+    module _ (call : rowAt (g .statements) (s .at .row) .kind ≡ 1)
+        (named : rowAt (g .statements) (s .at .row) .a ≡ q) where
       abbrev count : ℕ
       count = rowAt (g .procedures) q .b
 
@@ -304,7 +338,8 @@ module _ (g : Program) (ok : AcceptedTables (g .types) (g .fields) (g .variables
 
       module _ (cells : List Cell) (p : Passing count cells) where
         -- "then locals zero"
-        locals-low : (j : ℕ) → first + count ≤ j → j < first + count + rowAt (g .procedures) q .c → rowAt (g .variables) j .kind ≤ 2
+        locals-low : (j : ℕ) → first + count ≤ j → j < first + count + rowAt (g .procedures) q .c
+            → rowAt (g .variables) j .kind ≤ 2
         locals-low j low high = local-low (g .variables) j (ok .procedures .row q exists .locals .each j low high)
 
         abbrev own-slots : List (List Want)
@@ -327,9 +362,13 @@ module _ (g : Program) (ok : AcceptedTables (g .types) (g .fields) (g .variables
           slots = p .slots ++ own-slots;
         }
 
-        frame-slots : Matched (Slot g (sound .newest ∷ sound .others)) (rowsFrom first (claimedBy (rowAt (g .procedures) q))) (frame .slots)
+        frame-slots : Matched (Slot g (sound .newest ∷ sound .others))
+            (rowsFrom first (claimedBy (rowAt (g .procedures) q))) (frame .slots)
         unfolding claimedBy
-        frame-slots = rw (rows-both first count (rowAt (g .procedures) q .c)) (matched-append (p .slotted) (slots-matched g (sound .newest ∷ sound .others) (rowAt (g .procedures) q .c) (first + count) locals-low))
+        frame-slots =
+            rw (rows-both first count (rowAt (g .procedures) q .c))
+            (matched-append (p .slotted) (slots-matched g (sound .newest ∷ sound .others)
+            (rowAt (g .procedures) q .c) (first + count) locals-low))
 
         frame-stack : Stack g (frame ∷ sound .newest ∷ sound .others)
         frame-stack =
@@ -340,10 +379,13 @@ module _ (g : Program) (ok : AcceptedTables (g .types) (g .fields) (g .variables
         unfolding frameWants tagged
         frame-fits =
             let slots : Matched Fits (p .arguments ++ locals) (joined (p .slots ++ own-slots)) =
-            rw (joined-both (p .slots) own-slots) (matched-append (p .fits) (slots-fit g (rowAt (g .procedures) q .c) (first + count) locals-low)) in
-            one-more (fits-exactly refl refl) (one-more (fits-exactly refl refl) (one-more (fits-exactly refl refl) slots))
+            rw (joined-both (p .slots) own-slots) (matched-append (p .fits)
+            (slots-fit g (rowAt (g .procedures) q .c) (first + count) locals-low)) in
+            one-more (fits-exactly refl refl) (one-more (fits-exactly refl refl)
+            (one-more (fits-exactly refl refl) slots))
 
-        frame-length : length (links ++ (p .arguments ++ locals)) ≡ frameSize (g .types) (g .fields) (g .variables) (g .procedures) q
+        frame-length : length (links ++ (p .arguments ++ locals))
+            ≡ frameSize (g .types) (g .fields) (g .variables) (g .procedures) q
         frame-length = matched-length frame-fits ∙ slots-length g ok frame-stack
 
         abbrev zeroed : List Cell
@@ -355,7 +397,8 @@ module _ (g : Program) (ok : AcceptedTables (g .types) (g .fields) (g .variables
             let many = p .above .as-many in
             omega (arith, length-append (p .arguments) locals)
 
-        zeroed-at : s .at .top + (3 + roomFrom (g .types) (g .fields) (g .variables) first count) ≡ s .at .top + 3 + length (p .arguments)
+        zeroed-at : s .at .top + (3 + roomFrom (g .types) (g .fields) (g .variables) first count)
+            ≡ s .at .top + 3 + length (p .arguments)
         zeroed-at = omega (arith, p .filled)
 
         zeroed-part : Part zeroed (s .at .top + 3) (p .arguments ++ locals)
@@ -363,12 +406,14 @@ module _ (g : Program) (ok : AcceptedTables (g .types) (g .fields) (g .variables
 
         zeroed-length : length zeroed ≡ length (s .cells)
         zeroed-length =
-            rw zeroed-at (put-length cells locals (s .at .top + 3 + length (p .arguments)) zeroed-room) ∙ p .above .as-many
+            rw zeroed-at (put-length cells locals (s .at .top + 3 + length (p .arguments)) zeroed-room)
+            ∙ p .above .as-many
 
         zeroed-below : take (s .at .top) zeroed ≡ take (s .at .top) (s .cells)
         zeroed-below =
             let room = zeroed-room in
-            rw zeroed-at (put-above cells locals (s .at .top + 3 + length (p .arguments)) (s .at .top) (omega arith) (omega arith))
+            rw zeroed-at (put-above cells locals (s .at .top + 3 + length (p .arguments)) (s .at .top) (omega arith)
+            (omega arith))
             ∙ p .above .same-below
 
         final-length : length (overwrite zeroed (s .at .top) links) ≡ length (s .cells)
@@ -377,13 +422,20 @@ module _ (g : Program) (ok : AcceptedTables (g .types) (g .fields) (g .variables
             let many = zeroed-length in
             put-length zeroed links (s .at .top) (omega (arith, length-append links (p .arguments ++ locals))) ∙ many
 
-        final-holds : Matched Fits (take (s .at .top + frameSize (g .types) (g .fields) (g .variables) (g .procedures) q) (overwrite zeroed (s .at .top) links))
+        final-holds : Matched Fits
+            (take (s .at .top + frameSize (g .types) (g .fields) (g .variables) (g .procedures) q)
+            (overwrite zeroed (s .at .top) links))
             (wants g (frame ∷ sound .newest ∷ sound .others))
         unfolding wants
         final-holds =
             let many = zeroed-length in
             let stored = sound .stored in
-            rw (frame-cells zeroed links (p .arguments ++ locals) (s .at .top) (frameSize (g .types) (g .fields) (g .variables) (g .procedures) q) (omega arith) frame-length zeroed-part, zeroed-below)
+            rw (
+              frame-cells zeroed links (p .arguments ++ locals) (s .at .top)
+                  (frameSize (g .types) (g .fields) (g .variables) (g .procedures) q)
+                  (omega arith) frame-length zeroed-part,
+              zeroed-below,
+            )
             (matched-append (sound .holding) frame-fits)
 
         entered-sound : Sound g (record {
@@ -422,7 +474,8 @@ module _ (g : Program) (ok : AcceptedTables (g .types) (g .fields) (g .variables
       -- ---- the call
 
       call-row : CallRow (g .nodes) (g .procedures) (rowAt (g .statements) (s .at .row))
-      call-row = call-is (g .nodes) (g .procedures) (g .statements) (ok .questions .statements) (s .at .row) row-there call
+      call-row =
+          call-is (g .nodes) (g .procedures) (g .statements) (ok .questions .statements) (s .at .row) row-there call
 
       argument-there : (j : ℕ) → j < count → isArgument (g .nodes) (rowAt (g .statements) (s .at .row) .b + j) ≡ true
       argument-there j less =
@@ -436,7 +489,8 @@ module _ (g : Program) (ok : AcceptedTables (g .types) (g .fields) (g .variables
       argument-ruled j less =
           let counted : rowAt (g .procedures) (rowAt (g .statements) (s .at .row) .a) .b ≡ count =
           ap (λ x. rowAt (g .procedures) x .b) named in
-          let ruled = call-ruled (g .types) (g .fields) (g .variables) (g .procedures) (g .nodes) (g .statements) (ok .questions .rules)
+          let ruled = call-ruled (g .types) (g .fields) (g .variables) (g .procedures) (g .nodes) (g .statements)
+          (ok .questions .rules)
           (s .at .row) row-there call in
           rw (caller, named) at (ruled .argument j (omega arith))
 
@@ -452,13 +506,16 @@ module _ (g : Program) (ok : AcceptedTables (g .types) (g .fields) (g .variables
           (ok .procedures .row q exists .parameters .each (first + j) (omega arith) (omega arith))
           (argument-there j (omega arith)) (argument-ruled j (omega arith)) cells (p .above) _
           λ new ws slot matched.
-          passed-ok n (j + 1) (rowAt (g .statements) (s .at .row) .b + j + 1) (first + j + 1) (omega arith) (omega arith) (omega arith) _
+          passed-ok n (j + 1) (rowAt (g .statements) (s .at .row) .b + j + 1) (first + j + 1) (omega arith)
+          (omega arith) (omega arith) _
           (passing-next j (omega arith) cells p new ws slot matched))
 
   -- the procedure of a call
-  callee-there : rowAt (g .statements) (s .at .row) .kind ≡ 1 → rowAt (g .statements) (s .at .row) .a < rowsOf (g .procedures)
+  callee-there : rowAt (g .statements) (s .at .row) .kind ≡ 1
+      → rowAt (g .statements) (s .at .row) .a < rowsOf (g .procedures)
   callee-there call =
-      call-is (g .nodes) (g .procedures) (g .statements) (ok .questions .statements) (s .at .row) (row-within g ok bytes s sound) call .procedure
+      call-is (g .nodes) (g .procedures) (g .statements) (ok .questions .statements) (s .at .row)
+      (row-within g ok bytes s sound) call .procedure
 
   -- a call goes on to a sound state or ends in a trap
   pub called-ok : rowAt (g .statements) (s .at .row) .kind ≡ 1
@@ -468,6 +525,8 @@ module _ (g : Program) (ok : AcceptedTables (g .types) (g .fields) (g .variables
       let q : ℕ = rowAt (g .statements) (s .at .row) .a in
       let there = callee-there call in
       ok-choose g s _ (λ e. ok-trapped (unchanged g s)) λ e.
-      let fitting : s .at .top + frameSize (g .types) (g .fields) (g .variables) (g .procedures) q ≤ length (s .cells) = ltb-false _ _ e in
+      let fitting : s .at .top + frameSize (g .types) (g .fields) (g .variables) (g .procedures) q ≤ length
+      (s .cells) = ltb-false _ _ e in
       passed-ok q there fitting call refl (rowAt (g .procedures) q .b) 0 (rowAt (g .statements) (s .at .row) .b)
-      (firstVariable (g .variables) (g .procedures) q) (omega arith) (omega arith) (omega arith) (s .cells) (passing-none q there fitting)
+      (firstVariable (g .variables) (g .procedures) q) (omega arith) (omega arith) (omega arith) (s .cells)
+      (passing-none q there fitting)

@@ -40,15 +40,17 @@ use Rattle.operators.proofs.Typed.{monadic-typed as operator-typed}
 use Rattle.operators.proofs.Skipping.{applied-typed}
 use Rattle.frames.specs.Variables.{isGlobal}
 use Rattle.nodes.specs.Nodes.{isDesignator}
-use Rattle.nodes.proofs.Accepted.{NodeRow, NodeRow.is-constant, NodeRow.is-variable, NodeRow.is-field, NodeRow.is-element}
-use Rattle.nodes.proofs.Accepted.{NodeRow.is-guard, NodeRow.is-dyadic, NodeRow.is-monadic, NodeRow.is-test, NodeRow.is-argument}
-use Rattle.nodes.proofs.Accepted.{Designator, designator-is, Whole, ConstantNode, VariableNode, FieldNode, ElementNode, GuardNode}
-use Rattle.nodes.proofs.Accepted.{DyadicNode, MonadicNode, ArgumentNode}
+use Rattle.nodes.proofs.Accepted.{NodeRow, NodeRow.is-constant, NodeRow.is-variable, NodeRow.is-field}
+use Rattle.nodes.proofs.Accepted.{NodeRow.is-element, NodeRow.is-guard, NodeRow.is-dyadic, NodeRow.is-monadic}
+use Rattle.nodes.proofs.Accepted.{NodeRow.is-test, NodeRow.is-argument, Designator, designator-is, Whole}
+use Rattle.nodes.proofs.Accepted.{ConstantNode, VariableNode, FieldNode, ElementNode, GuardNode, DyadicNode}
+use Rattle.nodes.proofs.Accepted.{MonadicNode, ArgumentNode}
 use Rattle.typing.specs.Typing.{typeOf}
-use Rattle.typing.proofs.Accepted.{constant-typed as constant-type, variable-typed, field-typed, element-typed, guard-typed}
-use Rattle.typing.proofs.Accepted.{dyadic-typed, monadic-typed, test-typed, argument-typed}
+use Rattle.typing.proofs.Accepted.{constant-typed as constant-type, variable-typed, field-typed, element-typed}
+use Rattle.typing.proofs.Accepted.{guard-typed, dyadic-typed, monadic-typed, test-typed, argument-typed}
 use Rattle.owners.specs.Owners.{ownVariable, ownBelow}
-use Rattle.owners.proofs.Accepted.{own-variable, variable-own, field-own, element-own, guard-own, dyadic-own, monadic-own, test-own, argument-own}
+use Rattle.owners.proofs.Accepted.{own-variable, variable-own, field-own, element-own, guard-own, dyadic-own}
+use Rattle.owners.proofs.Accepted.{monadic-own, test-own, argument-own}
 use Rattle.checker.proofs.Accepted.{AcceptedTables}
 use Rattle.semantics.specs.declared.Place.{Place}
 use Rattle.semantics.specs.declared.Found.{Found}
@@ -56,14 +58,18 @@ use Rattle.semantics.specs.declared.Found.the-variants as Fs
 use Rattle.semantics.specs.declared.Mark.the-variants.{Number}
 use Rattle.semantics.specs.Memory.{ADDRESS, TYPE, Cell, tagged, markOf, cellAt, valueAt, markAt}
 use Rattle.semantics.specs.Layout.{Program, placeOf}
-use Rattle.semantics.specs.Finding.{reach, content, index, withMark, object, parameterPlace, variablePlace, fieldPlace, elementPlace, arrayPlace}
-use Rattle.semantics.specs.Finding.{guardPlace, testOf, Meaning, noMeaning, designator, meaningBy, meaningOf, findOf, evalOf}
+use Rattle.semantics.specs.Finding.{reach, content, index, withMark, object, parameterPlace, variablePlace}
+use Rattle.semantics.specs.Finding.{fieldPlace, elementPlace, arrayPlace, guardPlace, testOf, Meaning}
+use Rattle.semantics.specs.Finding.{noMeaning, designator, meaningBy, meaningOf, findOf, evalOf}
 use Rattle.semantics.specs.Stepping.{State}
-use Rattle.semantics.specs.Sound.{Want, Want.any-value, Want.exactly, Fits, Fits.fits-value, Fits.fits-exactly, Matched, Frame}
-use Rattle.semantics.specs.Sound.{valuesOf, frameWants, wants, room, Own, Object, Object.of-global, Object.of-frame, Object.of-older}
-use Rattle.semantics.specs.Sound.{Object.of-field, Object.of-element, Slot, Slot.by-value, Slot.by-reference, Stack, Stack.a-frame, Sound}
+use Rattle.semantics.specs.Sound.{Want, Want.any-value, Want.exactly, Fits, Fits.fits-value, Fits.fits-exactly}
+use Rattle.semantics.specs.Sound.{Matched, Frame, valuesOf, frameWants, wants, room, Own, Object}
+use Rattle.semantics.specs.Sound.{Object.of-global, Object.of-frame, Object.of-older, Object.of-field}
+use Rattle.semantics.specs.Sound.{Object.of-element, Slot, Slot.by-value, Slot.by-reference, Stack}
+use Rattle.semantics.specs.Sound.{Stack.a-frame, Sound}
 use Rattle.semantics.proofs.Holding.{part-next, part-end, matched-at, cell-below}
-use Rattle.semantics.proofs.Objects.{global-is, own-kind, object-typed, object-part, slot-at, place-own, place-global}
+use Rattle.semantics.proofs.Objects.{global-is, own-kind, object-typed, object-part, slot-at, place-own}
+use Rattle.semantics.proofs.Objects.{place-global}
 use Rattle.semantics.proofs.Kinship.{extends-other, extension-field, scalar-layout, scalar-other, global-low}
 
 -- an object of type x was found, or a trap ends the step
@@ -102,19 +108,22 @@ module _ {g : Program} {fs : List Frame} where
   content-ok k (found-ok {place = place} a b c) next = next place a b c
   content-ok k found-trap next = trapped
 
-  index-ok : {y : ℕ} {m : Answer} (k : ℤ → Found) → Gives INTEGER m → ((z : ℤ) → FoundOk g fs y (k z)) → FoundOk g fs y (index m k)
+  index-ok : {y : ℕ} {m : Answer} (k : ℤ → Found) → Gives INTEGER m → ((z : ℤ) → FoundOk g fs y (k z))
+      → FoundOk g fs y (index m k)
   unfolding index
   index-ok k (value {v = Vs.Int z} e range) next = next z
   index-ok k (value {v = Vs.Bool b} e range) next = absurd (bool-other b e)
   index-ok k (value {v = Vs.Set b} e range) next = absurd (set-other b e)
   index-ok k trapped next = found-trap
 
-  choose-ok : {x : ℕ} (b : Bool) {m n : Found} → (b ≡ true → FoundOk g fs x m) → (b ≡ false → FoundOk g fs x n) → FoundOk g fs x (choose b m n)
+  choose-ok : {x : ℕ} (b : Bool) {m n : Found} → (b ≡ true → FoundOk g fs x m) → (b ≡ false → FoundOk g fs x n)
+      → FoundOk g fs x (choose b m n)
   unfolding choose
   choose-ok true yes-case no-case = yes-case refl
   choose-ok false yes-case no-case = no-case refl
 
-bind-ok : {x y : ℕ} {m : Answer} (k : Value → Answer) → Gives x m → ((v : Value) → kindOf v ≡ x → InRange v → Gives y (k v)) → Gives y (bind m k)
+bind-ok : {x y : ℕ} {m : Answer} (k : Value → Answer) → Gives x m
+    → ((v : Value) → kindOf v ≡ x → InRange v → Gives y (k v)) → Gives y (bind m k)
 unfolding bind
 bind-ok k (value {v = v} e range) next = next v e range
 bind-ok k trapped next = trapped
@@ -131,13 +140,15 @@ dyadic-operands : (op left right x : ℕ) → dyadicKind op left right ≡ Kind 
 unfolding dyadicKind
 dyadic-operands op left right x e =
     ⊎-elim
-    (λ k. let l = eqb-true left 0 (k .0) in let r = eqb-true right 0 (test-yes _ (k .1) .0) in (omega arith, omega arith))
+    (λ k. let l = eqb-true left 0 (k .0) in let r = eqb-true right 0 (test-yes _ (k .1) .0) in
+    (omega arith, omega arith))
     (λ k. ⊎-elim
     (λ m. let l = eqb-true left 1 (m .0) in
     ⊎-elim (λ a. let r = eqb-true right 1 (a .0) in (omega arith, omega arith))
     (λ a. let r = eqb-true right 2 (test-yes _ (a .1) .0) in (omega arith, omega arith))
     (choose-cases (eqb right 1) (m .1)))
-    (λ m. let (a, b) = test-yes _ (m .1) in let l = eqb-true left 2 a in let r = eqb-true right 2 (test-yes _ b .0) in (omega arith, omega arith))
+    (λ m. let (a, b) = test-yes _ (m .1) in let l = eqb-true left 2 a in let r = eqb-true right 2
+    (test-yes _ b .0) in (omega arith, omega arith))
     (choose-cases (eqb left 1) (k .1)))
     (choose-cases (eqb left 0) e)
 
@@ -194,7 +205,8 @@ record MeaningOk (g : Program) (fs : List Frame) (r x : ℕ) (m : Meaning) : Typ
   place : Designates g r → FoundOk g fs x (m .place)
   value : x ≤ 2 → Gives x (m .value)
 
-module _ (g : Program) (ok : AcceptedTables (g .types) (g .fields) (g .variables) (g .procedures) (g .nodes) (g .statements))
+module _ (g : Program)
+    (ok : AcceptedTables (g .types) (g .fields) (g .variables) (g .procedures) (g .nodes) (g .statements))
     (bytes : Bytes (g .nodes)) (s : State Cell) (sound : Sound g s) where
   abbrev frames : List Frame
   frames = sound .newest ∷ sound .others
@@ -226,30 +238,42 @@ module _ (g : Program) (ok : AcceptedTables (g .types) (g .fields) (g .variables
   unfolding tagged
   held-value x c (fits-value {v = v} kind e) =
       let held = cell-held x (c .number) e in
-      rw (choose-yes _ (cellOf x (c .number)) As.Stuck (eq-eqb x (c .kind) (sym kind)), e) (value (held .kind) (held .range))
+      rw (choose-yes _ (cellOf x (c .number)) As.Stuck (eq-eqb x (c .kind) (sym kind)), e)
+      (value (held .kind) (held .range))
 
   -- ---- an object's value
 
-  scalar-value : (x : ℕ) → x ≤ 2 → (place : Place) → place .declared ≡ x → extends (g .types) (place .dynamic) (place .declared) ≡ true
-      → Object g frames (place .address) (place .dynamic) → Gives x (valueAt tagged top cells (place .declared) (place .address))
+  scalar-value : (x : ℕ) → x ≤ 2 → (place : Place) → place .declared ≡ x
+      → extends (g .types) (place .dynamic) (place .declared) ≡ true
+      → Object g frames (place .address) (place .dynamic)
+      → Gives x (valueAt tagged top cells (place .declared) (place .address))
   unfolding valueAt valuesOf
   scalar-value x h place declared extended object =
       let scalars = ok .scalars in
       let low = object-typed g ok object in
-      let other : rowAt (g .types) (place .declared) .kind ≡ 4 → ⊥ = rw declared (scalar-other (g .types) (g .fields) (ok .types) x (omega arith) (omega arith)) in
-      let dynamic : place .dynamic ≡ x = extends-other (g .types) (g .fields) (ok .types) (place .dynamic) (place .declared) extended low other ∙ declared in
+      let other : rowAt (g .types) (place .declared) .kind ≡ 4 → ⊥ =
+      rw declared (scalar-other (g .types) (g .fields) (ok .types) x (omega arith) (omega arith)) in
+      let dynamic : place .dynamic ≡ x =
+      extends-other (g .types) (g .fields) (ok .types) (place .dynamic) (place .declared) extended low other
+      ∙ declared in
       let part = rw dynamic at (object-part g ok (sound .stack) object) in
       let one = rw (scalar-layout (g .types) (g .fields) (ok .types) x (omega arith) (omega arith)) at part in
       let inside = part-inside one in
       let fits = cell-there top cells (sound .holding) one inside in
-      rw (declared, choose-yes _ (tagged .held x (cellAt tagged cells (place .address))) As.Stuck (lt-ltb (place .address) top inside))
+      rw (
+        declared,
+        choose-yes _ (tagged .held x (cellAt tagged cells (place .address))) As.Stuck
+            (lt-ltb (place .address) top inside),
+      )
       (held-value x (cellAt tagged cells (place .address)) fits)
 
-  designator-ok : (r x : ℕ) (found : Found) → FoundOk g frames x found → MeaningOk g frames r x (designator tagged top cells found)
+  designator-ok : (r x : ℕ) (found : Found) → FoundOk g frames x found
+      → MeaningOk g frames r x (designator tagged top cells found)
   unfolding designator
   designator-ok r x found is = record {
     place = λ d. is;
-    value = λ h. content-ok (λ place. valueAt tagged top cells (place .declared) (place .address)) is (scalar-value x h);
+    value =
+        λ h. content-ok (λ place. valueAt tagged top cells (place .declared) (place .address)) is (scalar-value x h);
   }
 
   -- ---- variables
@@ -257,25 +281,43 @@ module _ (g : Program) (ok : AcceptedTables (g .types) (g .fields) (g .variables
   abbrev variableAt : ℕ → Found
   variableAt a = variablePlace tagged g base top cells a (rowAt (g .variables) a)
 
-  variable-global : (a : ℕ) → a < rowsOf (g .variables) → isGlobal (g .variables) a ≡ true → FoundOk g frames (rowAt (g .variables) a .a) (variableAt a)
+  variable-global : (a : ℕ) → a < rowsOf (g .variables) → isGlobal (g .variables) a ≡ true
+      → FoundOk g frames (rowAt (g .variables) a .a) (variableAt a)
   unfolding variablePlace
   variable-global a low e =
       let kind = global-is (g .variables) a e in
-      rw (choose-yes _ (object (placeOf g a) (rowAt (g .variables) a .a)) _ (eq-eqb (rowAt (g .variables) a .kind) 0 kind))
-      (found-ok {place = record { address = placeOf g a; declared = rowAt (g .variables) a .a; dynamic = rowAt (g .variables) a .a }} refl (extends-refl (g .types) (rowAt (g .variables) a .a))
-      (rw (place-global g ok a e) (of-global (global-low (g .types) (g .variables) a (ok .variable a low) low e kind))))
+      rw (choose-yes _ (object (placeOf g a) (rowAt (g .variables) a .a)) _
+      (eq-eqb (rowAt (g .variables) a .kind) 0 kind))
+      (found-ok {place = record {
+        address = placeOf g a;
+        declared = rowAt (g .variables) a .a;
+        dynamic = rowAt
+            (g .variables) a .a;
+      }} refl (extends-refl (g .types) (rowAt (g .variables) a .a))
+      (rw (place-global g ok a e) (of-global (global-low (g .types) (g .variables) a
+      (ok .variable a low) low e kind))))
 
   -- a local or value parameter stands in the newest frame
   variable-plain : (a : ℕ) → Own g procedure a → 1 ≤ rowAt (g .variables) a .kind → rowAt (g .variables) a .kind ≤ 2
       → FoundOk g frames (rowAt (g .variables) a .a) (variableAt a)
   unfolding variablePlace
   variable-plain a own least most =
-      rw (choose-no _ _ _ (ne-eqb (rowAt (g .variables) a .kind) 0 (λ e. absurd (omega arith))), choose-yes _ _ _ (le-leb (rowAt (g .variables) a .kind) 2 most))
-      (found-ok {place = record { address = base + placeOf g a; declared = rowAt (g .variables) a .a; dynamic = rowAt (g .variables) a .a }} refl (extends-refl (g .types) (rowAt (g .variables) a .a))
+      rw (
+        choose-no _ _ _ (ne-eqb (rowAt (g .variables) a .kind) 0 (λ e. absurd (omega arith))),
+        choose-yes _ _ _
+            (le-leb (rowAt (g .variables) a .kind) 2 most),
+      )
+      (found-ok {place = record {
+        address = base + placeOf g a;
+        declared = rowAt (g .variables) a .a;
+        dynamic = rowAt
+            (g .variables) a .a;
+      }} refl (extends-refl (g .types) (rowAt (g .variables) a .a))
       (rw (sound .begins, place-own g ok procedure a there own) (of-frame own most)))
 
   -- the address of an object, and its type, as numbers of cells
-  object-small : {fs : List Frame} {at r : ℕ} → Stack g fs → Object g fs at r → room g fs ≤ 65536 → (at ≤ 65536) × (r < 65536)
+  object-small : {fs : List Frame} {at r : ℕ} → Stack g fs → Object g fs at r → room g fs ≤ 65536
+      → (at ≤ 65536) × (r < 65536)
   object-small st object small =
       let within = object-part g ok st object .within in
       let typed = object-typed g ok object in
@@ -298,7 +340,8 @@ module _ (g : Program) (ok : AcceptedTables (g .types) (g .fields) (g .variables
       omega arith
 
   parameter-slot : (a : ℕ) {ws : List Want} → Slot g (sound .others) a ws → rowAt (g .variables) a .kind ≡ 3 → (at : ℕ)
-      → Part (wants g frames) at ws → FoundOk g frames (rowAt (g .variables) a .a) (parameterPlace tagged top cells at (rowAt (g .variables) a .a))
+      → Part (wants g frames) at ws
+      → FoundOk g frames (rowAt (g .variables) a .a) (parameterPlace tagged top cells at (rowAt (g .variables) a .a))
   unfolding parameterPlace withMark
   parameter-slot a (by-value most) kind at part = absurd (omega arith)
   parameter-slot a (by-reference {at = address} {r = r} is object extended) kind at part =
@@ -306,12 +349,19 @@ module _ (g : Program) (ok : AcceptedTables (g .types) (g .fields) (g .variables
       let (low, type) = object-small older object small in
       let next = part-next part in
       rw (
-        mark-there top cells {k = ADDRESS} {n = address} (sound .holding) part (part-inside part) low (λ e. absurd (omega arith)),
+        mark-there top cells {k = ADDRESS} {n = address} (sound .holding) part (part-inside part) low
+            (λ e. absurd (omega arith)),
         mark-there top cells {k = TYPE} {n = r} (sound .holding) next (part-inside next) (omega arith) (λ e. type),
       )
-      (found-ok {place = record { address = address; declared = rowAt (g .variables) a .a; dynamic = r }} refl extended (of-older object))
+      (found-ok {place = record {
+        address = address;
+        declared = rowAt
+            (g .variables) a .a;
+        dynamic = r;
+      }} refl extended (of-older object))
 
-  variable-parameter : (a : ℕ) → Own g procedure a → rowAt (g .variables) a .kind ≡ 3 → FoundOk g frames (rowAt (g .variables) a .a) (variableAt a)
+  variable-parameter : (a : ℕ) → Own g procedure a → rowAt (g .variables) a .kind ≡ 3
+      → FoundOk g frames (rowAt (g .variables) a .a) (variableAt a)
   unfolding variablePlace
   variable-parameter a own kind =
       let (ws, slot, part) = slot-at g ok (sound .stack) a own in
@@ -325,7 +375,8 @@ module _ (g : Program) (ok : AcceptedTables (g .types) (g .fields) (g .variables
   variable-ok : (a : ℕ) → a < rowsOf (g .variables) → ownVariable (g .variables) (g .procedures) procedure a ≡ true
       → FoundOk g frames (rowAt (g .variables) a .a) (variableAt a)
   variable-ok a low e =
-      ⊎-elim (variable-global a low) (λ h. mine (record { low = h .0; high = h .1 })) (own-variable (g .variables) (g .procedures) procedure a e)
+      ⊎-elim (variable-global a low) (λ h. mine (record { low = h .0; high = h .1 }))
+      (own-variable (g .variables) (g .procedures) procedure a e)
     where
       mine : Own g procedure a → FoundOk g frames (rowAt (g .variables) a .a) (variableAt a)
       mine own = go (decLe (rowAt (g .variables) a .kind) 2)
@@ -340,45 +391,66 @@ module _ (g : Program) (ok : AcceptedTables (g .types) (g .fields) (g .variables
   unfolding guardPlace
   guard-ok b x is =
       reach-ok (guardPlace g b) is (λ place declared extended object.
-      choose-ok (extends (g .types) (place .dynamic) b) (λ e. found-ok {place = record { address = place .address; declared = b; dynamic = place .dynamic }} refl e object)
+      choose-ok (extends (g .types) (place .dynamic) b)
+      (λ e. found-ok {place = record { address = place .address; declared = b; dynamic = place .dynamic }} refl e
+      object)
       (λ e. found-trap))
 
   field-ok : (w j at x : ℕ) {m : Found} → fieldOf (g .types) (g .fields) w j ≡ Field at x → FoundOk g frames w m
       → FoundOk g frames x (reach m (λ whole. fieldPlace whole (fieldOf (g .types) (g .fields) (whole .declared) j)))
   unfolding fieldPlace
   field-ok w j at x field is =
-      reach-ok (λ whole. fieldPlace whole (fieldOf (g .types) (g .fields) (whole .declared) j)) is (λ place declared extended object.
+      reach-ok (λ whole. fieldPlace whole (fieldOf (g .types) (g .fields) (whole .declared) j)) is
+      (λ place declared extended object.
       let here : fieldOf (g .types) (g .fields) (place .declared) j ≡ Field at x = rw declared field in
       rw here
-      (found-ok {place = record { address = place .address + at; declared = x; dynamic = x }} refl (extends-refl (g .types) x)
-      (of-field j object (extension-field (g .types) (g .fields) (ok .types) (place .dynamic) (place .declared) j extended (object-typed g ok object) here))))
+      (found-ok {place = record { address = place .address + at; declared = x; dynamic = x }} refl
+      (extends-refl (g .types) x)
+      (of-field j object (extension-field (g .types) (g .fields) (ok .types) (place .dynamic)
+      (place .declared) j extended (object-typed g ok object) here))))
 
-  element-there : (place : Place) → rowAt (g .types) (place .declared) .kind ≡ 3 → extends (g .types) (place .dynamic) (place .declared) ≡ true
+  element-there : (place : Place) → rowAt (g .types) (place .declared) .kind ≡ 3
+      → extends (g .types) (place .dynamic) (place .declared) ≡ true
       → Object g frames (place .address) (place .dynamic) → (z : ℤ)
-      → FoundOk g frames (rowAt (g .types) (place .declared) .a) (elementPlace g place (rowAt (g .types) (place .declared)) z)
+      → FoundOk g frames (rowAt (g .types) (place .declared) .a)
+      (elementPlace g place (rowAt (g .types) (place .declared)) z)
   unfolding elementPlace
   element-there place array extended thing (pos i) =
       let other : rowAt (g .types) (place .declared) .kind ≡ 4 → ⊥ = λ e. absurd (omega arith) in
-      let same = extends-other (g .types) (g .fields) (ok .types) (place .dynamic) (place .declared) extended (object-typed g ok thing) other in
+      let same = extends-other (g .types) (g .fields) (ok .types) (place .dynamic) (place .declared) extended
+      (object-typed g ok thing) other in
       let element = rowAt (g .types) (place .declared) .a in
       choose-ok (ltb i (rowAt (g .types) (place .declared) .b))
-      (λ e. found-ok {place = record { address = place .address + i * sizeOf (g .types) (g .fields) element; declared = element; dynamic = element }} refl
+      (λ e. found-ok {place = record {
+        address = place .address + i * sizeOf (g .types)
+            (g .fields) element;
+        declared = element;
+        dynamic = element;
+      }} refl
       (extends-refl (g .types) element) (of-element (rw same at thing) array (ltb-true i _ e)))
       (λ e. found-trap)
   element-there place array extended thing (negsuc i) = found-trap
 
-  element-ok : (w : ℕ) {m : Found} {index-answer : Answer} → rowAt (g .types) w .kind ≡ 3 → FoundOk g frames w m → Gives INTEGER index-answer
+  element-ok : (w : ℕ) {m : Found} {index-answer : Answer} → rowAt (g .types) w .kind ≡ 3 → FoundOk g frames w m
+      → Gives INTEGER index-answer
       → FoundOk g frames (rowAt (g .types) w .a) (reach m (λ whole. arrayPlace g whole index-answer))
   unfolding arrayPlace
   element-ok w {index-answer = answer} array is gives =
       reach-ok (λ whole. arrayPlace g whole answer) is (λ place declared extended thing.
       let here : rowAt (g .types) (place .declared) .kind ≡ 3 = rw declared array in
-      rw (choose-yes _ (index answer (elementPlace g place (rowAt (g .types) (place .declared)))) Fs.Stuck (eq-eqb _ 3 here), ← declared)
-      (index-ok (elementPlace g place (rowAt (g .types) (place .declared))) gives (element-there place here extended thing)))
+      rw (
+        choose-yes _ (index answer (elementPlace g place (rowAt (g .types) (place .declared)))) Fs.Stuck
+            (eq-eqb _ 3 here),
+        ← declared,
+      )
+      (index-ok (elementPlace g place (rowAt (g .types) (place .declared))) gives
+      (element-there place here extended thing)))
 
   test-ok : (b x : ℕ) {m : Found} → FoundOk g frames x m → Gives BOOLEAN (content m (testOf g b))
   unfolding testOf
-  test-ok b x is = content-ok (testOf g b) is (λ place declared extended thing. gives-boolean (extends (g .types) (place .dynamic) b))
+  test-ok b x is =
+      content-ok (testOf g b) is (λ place declared extended thing. gives-boolean
+      (extends (g .types) (place .dynamic) b))
 
   -- ---- every node, from the low rows up
 
@@ -389,7 +461,8 @@ module _ (g : Program) (ok : AcceptedTables (g .types) (g .fields) (g .variables
   abbrev by : (ℕ → Meaning) → ℕ → Row → Meaning
   by child kind row = meaningBy tagged g base top cells child kind row
 
-  expression-ok : (r x : ℕ) {answer : Answer} → (isDesignator (g .nodes) r ≡ true → ⊥) → (rowAt (g .nodes) r .kind ≡ 8 → ⊥) → Gives x answer
+  expression-ok : (r x : ℕ) {answer : Answer} → (isDesignator (g .nodes) r ≡ true → ⊥)
+      → (rowAt (g .nodes) r .kind ≡ 8 → ⊥) → Gives x answer
       → MeaningOk g frames r x (record { place = Fs.Stuck; value = answer })
   expression-ok r x plain other gives = record { place = λ d. no d; value = λ h. gives }
     where
@@ -403,7 +476,8 @@ module _ (g : Program) (ok : AcceptedTables (g .types) (g .fields) (g .variables
   not-constant : (r : ℕ) → rowAt (g .nodes) r .kind ≡ 0 → isDesignator (g .nodes) r ≡ true → ⊥
   not-constant r h e = let d = designator-is (g .nodes) r e in let least = d .least in absurd (omega arith)
 
-  module _ (r : ℕ) (child : ℕ → Meaning) (ih : (k : ℕ) → k < r → Right k (child k)) (low : r < rowsOf (g .nodes)) (x : ℕ)
+  module _ (r : ℕ) (child : ℕ → Meaning) (ih : (k : ℕ) → k < r → Right k (child k)) (low : r < rowsOf (g .nodes))
+      (x : ℕ)
       (typed : typeOf (g .types) (g .fields) (g .variables) (g .nodes) r ≡ Kind x)
       (own : ownBelow (g .variables) (g .procedures) (g .nodes) procedure r ≡ true) where
     abbrev row : Row
@@ -415,85 +489,107 @@ module _ (g : Program) (ok : AcceptedTables (g .types) (g .fields) (g .variables
     abbrev owned : ℕ → Type 0
     owned k = ownBelow (g .variables) (g .procedures) (g .nodes) procedure k ≡ true
 
-    whole-place : (k w : ℕ) → Whole (g .nodes) r k → types-of k ≡ Kind w → owned k → FoundOk g frames w (child k .place)
+    whole-place : (k w : ℕ) → Whole (g .nodes) r k → types-of k ≡ Kind w → owned k
+        → FoundOk g frames w (child k .place)
     whole-place k w is type own-child =
         let there-row = is .node .within in
         ih k (is .low) there-row w type own-child .place (itself (designator-yes (is .node)))
 
-    child-value : (k w : ℕ) → k < r → k < rowsOf (g .nodes) → types-of k ≡ Kind w → owned k → w ≤ 2 → Gives w (child k .value)
+    child-value : (k w : ℕ) → k < r → k < rowsOf (g .nodes) → types-of k ≡ Kind w → owned k → w ≤ 2
+        → Gives w (child k .value)
     child-value k w less there-row type own-child h = ih k less there-row w type own-child .value h
 
-    node-by : (kind : ℕ) → row .kind ≡ kind → MeaningOk g frames r x (by child kind row) → MeaningOk g frames r x (by child (row .kind) row)
+    node-by : (kind : ℕ) → row .kind ≡ kind → MeaningOk g frames r x (by child kind row)
+        → MeaningOk g frames r x (by child (row .kind) row)
     node-by kind e m = subst (λ (j : ℕ). MeaningOk g frames r x (by child j row)) (sym e) m
 
     constant-node : row .kind ≡ 0 → ConstantNode row → MeaningOk g frames r x (by child 0 row)
     unfolding meaningBy choose
     constant-node k c =
         let small = row-small (g .nodes) bytes r in
-        let type = constant-type (g .types) (g .fields) (g .variables) (g .nodes) (ok .questions .nodes) r low typed k in
+        let type = constant-type (g .types) (g .fields) (g .variables) (g .nodes)
+        (ok .questions .nodes) r low typed k in
         let most = c .typed in
         rw type (expression-ok r (row .a) (not-constant r k) (λ e. absurd (omega arith))
-        (constant-typed (row .a) (row .b) (row .c) (omega arith) (λ e. let (b, d) = c .boolean e in omega arith) (small .b) (small .c)))
+        (constant-typed (row .a) (row .b) (row .c) (omega arith) (λ e. let (b, d) = c .boolean e in omega arith)
+        (small .b) (small .c)))
 
     variable-node : row .kind ≡ 1 → VariableNode (g .variables) row → MeaningOk g frames r x (by child 1 row)
     unfolding meaningBy choose
     variable-node k c =
-        let type = variable-typed (g .types) (g .fields) (g .variables) (g .nodes) (ok .questions .nodes) r low typed k in
-        let mine = variable-own (g .types) (g .variables) (g .procedures) (g .nodes) (ok .questions .nodes) procedure r low own k in
-        rw type (designator-ok r (rowAt (g .variables) (row .a) .a) (variableAt (row .a)) (variable-ok (row .a) (c .variable) mine))
+        let type = variable-typed (g .types) (g .fields) (g .variables) (g .nodes)
+        (ok .questions .nodes) r low typed k in
+        let mine = variable-own (g .types) (g .variables) (g .procedures) (g .nodes)
+        (ok .questions .nodes) procedure r low own k in
+        rw type (designator-ok r (rowAt (g .variables) (row .a) .a) (variableAt (row .a))
+        (variable-ok (row .a) (c .variable) mine))
 
     field-node : row .kind ≡ 2 → FieldNode (g .nodes) r row → MeaningOk g frames r x (by child 2 row)
     unfolding meaningBy choose
     field-node k c =
         let type = field-typed (g .types) (g .fields) (g .variables) (g .nodes) (ok .questions .nodes) r low typed k in
-        let mine = field-own (g .types) (g .variables) (g .procedures) (g .nodes) (ok .questions .nodes) procedure r low own k in
-        designator-ok r x _ (field-ok (type .whole) (row .b) (type .at) x (type .field) (whole-place (row .a) (type .whole) (c .whole) (type .whole-type) mine))
+        let mine = field-own (g .types) (g .variables) (g .procedures) (g .nodes)
+        (ok .questions .nodes) procedure r low own k in
+        designator-ok r x _ (field-ok (type .whole) (row .b) (type .at) x (type .field)
+        (whole-place (row .a) (type .whole) (c .whole) (type .whole-type) mine))
 
     element-node : row .kind ≡ 3 → ElementNode (g .nodes) r row → MeaningOk g frames r x (by child 3 row)
     unfolding meaningBy choose
     element-node k c =
-        let type = element-typed (g .types) (g .fields) (g .variables) (g .nodes) (ok .questions .nodes) r low typed k in
-        let (mine, index-own) = element-own (g .types) (g .variables) (g .procedures) (g .nodes) (ok .questions .nodes) procedure r low own k in
+        let type = element-typed (g .types) (g .fields) (g .variables) (g .nodes)
+        (ok .questions .nodes) r low typed k in
+        let (mine, index-own) = element-own (g .types) (g .variables) (g .procedures) (g .nodes)
+        (ok .questions .nodes) procedure r low own k in
         rw (type .element)
         (designator-ok r (rowAt (g .types) (type .whole) .a) _
         (element-ok (type .whole) (type .array) (whole-place (row .a) (type .whole) (c .whole) (type .whole-type) mine)
-        (child-value (row .b) INTEGER (c .index .low) (c .index .node .within) (type .index-type) index-own (omega arith))))
+        (child-value (row .b) INTEGER (c .index .low) (c .index .node .within) (type .index-type) index-own
+        (omega arith))))
 
     guard-node : row .kind ≡ 4 → GuardNode (g .types) (g .variables) row → MeaningOk g frames r x (by child 4 row)
     unfolding meaningBy choose
     guard-node k c =
         let type = guard-typed (g .types) (g .fields) (g .variables) (g .nodes) (ok .questions .nodes) r low typed k in
-        let mine = guard-own (g .types) (g .variables) (g .procedures) (g .nodes) (ok .questions .nodes) procedure r low own k in
-        rw (type .guarded) (designator-ok r (row .b) _ (guard-ok (row .b) (rowAt (g .variables) (row .a) .a) (variable-ok (row .a) (c .variable) mine)))
+        let mine = guard-own (g .types) (g .variables) (g .procedures) (g .nodes)
+        (ok .questions .nodes) procedure r low own k in
+        rw (type .guarded) (designator-ok r (row .b) _
+        (guard-ok (row .b) (rowAt (g .variables) (row .a) .a) (variable-ok (row .a) (c .variable) mine)))
 
     dyadic-node : row .kind ≡ 5 → DyadicNode (g .nodes) r row → MeaningOk g frames r x (by child 5 row)
     unfolding meaningBy choose
     dyadic-node k c =
-        let type = dyadic-typed (g .types) (g .fields) (g .variables) (g .nodes) (ok .questions .nodes) r low typed k in
-        let (left-own, right-own) = dyadic-own (g .types) (g .variables) (g .procedures) (g .nodes) (ok .questions .nodes) procedure r low own k in
+        let type = dyadic-typed (g .types) (g .fields) (g .variables) (g .nodes)
+        (ok .questions .nodes) r low typed k in
+        let (left-own, right-own) = dyadic-own (g .types) (g .variables) (g .procedures) (g .nodes)
+        (ok .questions .nodes) procedure r low own k in
         let (left-low, right-low) = dyadic-operands (row .c) (type .left) (type .right) x (type .result) in
         expression-ok r x (not-designator r (omega arith)) (λ e. absurd (omega arith))
         (bind-ok (λ left. appliedTo (row .c) left (child (row .b) .value))
         (child-value (row .a) (type .left) (c .left .low) (c .left .node .within) (type .left-type) left-own left-low)
         (λ v e range. applied-typed (row .c) (rw e (type .result)) range
-        (child-value (row .b) (type .right) (c .right .low) (c .right .node .within) (type .right-type) right-own right-low)))
+        (child-value (row .b) (type .right) (c .right .low) (c .right .node .within)
+        (type .right-type) right-own right-low)))
 
     monadic-node : row .kind ≡ 6 → MonadicNode (g .nodes) r row → MeaningOk g frames r x (by child 6 row)
     unfolding meaningBy choose
     monadic-node k c =
-        let type = monadic-typed (g .types) (g .fields) (g .variables) (g .nodes) (ok .questions .nodes) r low typed k in
-        let mine = monadic-own (g .types) (g .variables) (g .procedures) (g .nodes) (ok .questions .nodes) procedure r low own k in
+        let type = monadic-typed (g .types) (g .fields) (g .variables) (g .nodes)
+        (ok .questions .nodes) r low typed k in
+        let mine = monadic-own (g .types) (g .variables) (g .procedures) (g .nodes)
+        (ok .questions .nodes) procedure r low own k in
         let scalar = monadic-operand (row .c) (type .operand) x (type .result) in
         expression-ok r x (not-designator r (omega arith)) (λ e. absurd (omega arith))
         (bind-ok (λ operand. monadicOf (row .c) operand)
-        (child-value (row .a) (type .operand) (c .operand .low) (c .operand .node .within) (type .operand-type) mine scalar)
+        (child-value (row .a) (type .operand) (c .operand .low) (c .operand .node .within)
+        (type .operand-type) mine scalar)
         (λ v e range. operator-typed (row .c) (rw e (type .result)) range))
 
     test-node : row .kind ≡ 7 → GuardNode (g .types) (g .variables) row → MeaningOk g frames r x (by child 7 row)
     unfolding meaningBy choose
     test-node k c =
         let type = test-typed (g .types) (g .fields) (g .variables) (g .nodes) (ok .questions .nodes) r low typed k in
-        let mine = test-own (g .types) (g .variables) (g .procedures) (g .nodes) (ok .questions .nodes) procedure r low own k in
+        let mine = test-own (g .types) (g .variables) (g .procedures) (g .nodes)
+        (ok .questions .nodes) procedure r low own k in
         rw (type .boolean)
         (expression-ok r BOOLEAN (not-designator r (omega arith)) (λ e. absurd (omega arith))
         (test-ok (row .b) (rowAt (g .variables) (row .a) .a) (variable-ok (row .a) (c .variable) mine)))
@@ -501,12 +597,15 @@ module _ (g : Program) (ok : AcceptedTables (g .types) (g .fields) (g .variables
     argument-node : row .kind ≡ 8 → ArgumentNode (g .nodes) r row → MeaningOk g frames r x (by child 8 row)
     unfolding meaningBy choose
     argument-node k c =
-        let type = argument-typed (g .types) (g .fields) (g .variables) (g .nodes) (ok .questions .nodes) r low typed k in
-        let mine = argument-own (g .types) (g .variables) (g .procedures) (g .nodes) (ok .questions .nodes) procedure r low own k in
+        let type = argument-typed (g .types) (g .fields) (g .variables) (g .nodes)
+        (ok .questions .nodes) r low typed k in
+        let mine = argument-own (g .types) (g .variables) (g .procedures) (g .nodes)
+        (ok .questions .nodes) procedure r low own k in
         let inner = ih (row .a) (c .holds .low) (c .holds .node .within) x type mine in
         record { place = λ d. go inner d; value = inner .value }
       where
-        go : MeaningOk g frames (row .a) x (child (row .a)) → Designates g r → FoundOk g frames x (child (row .a) .place)
+        go : MeaningOk g frames (row .a) x (child (row .a)) → Designates g r
+            → FoundOk g frames x (child (row .a) .place)
         go inner (itself e) = absurd (not-designator r (omega arith) e)
         go inner (as-argument kind e) = inner .place (itself e)
 
@@ -527,12 +626,14 @@ module _ (g : Program) (ok : AcceptedTables (g .types) (g .fields) (g .variables
   meaning-ok : (r : ℕ) → Right r (meaningOf tagged g base top cells r)
   unfolding meaningOf
   meaning-ok r =
-      rec-ind noMeaning (λ child k. meaningBy tagged g base top cells child (rowAt (g .nodes) k .kind) (rowAt (g .nodes) k)) Right
+      rec-ind noMeaning (λ child k. meaningBy tagged g base top cells child (rowAt (g .nodes) k .kind)
+      (rowAt (g .nodes) k)) Right
       (λ k child ih high low x typed own. node-ok k child ih low x typed own) r
 
   -- ---- what the statements cite
 
-  module _ (r x : ℕ) (low : r < rowsOf (g .nodes)) (typed : typeOf (g .types) (g .fields) (g .variables) (g .nodes) r ≡ Kind x)
+  module _ (r x : ℕ) (low : r < rowsOf (g .nodes))
+      (typed : typeOf (g .types) (g .fields) (g .variables) (g .nodes) r ≡ Kind x)
       (own : ownBelow (g .variables) (g .procedures) (g .nodes) procedure r ≡ true) where
     pub find-ok : Designates g r → FoundOk g frames x (findOf tagged g (s .at .base) (s .at .top) (s .cells) r)
     unfolding findOf

@@ -18,8 +18,8 @@ use Rattle.shapes.specs.Forms.{form}
 use Rattle.shapes.specs.Sizes.{sizeOf}
 use Rattle.relations.specs.Extends.{extends}
 use Rattle.relations.proofs.Extension.{Extends.same, extends-refl, extends-trans}
-use Rattle.values.specs.Values.{BOOLEAN, INTEGER, kindOf, isInteger, InRange, InRange.integer, Gives}
-use Rattle.values.specs.Values.{Gives.value, Gives.trapped as gives-trap}
+use Rattle.values.specs.Values.{BOOLEAN, INTEGER, kindOf, isInteger, InRange, InRange.integer, Gives, Gives.value}
+use Rattle.values.specs.Values.{Gives.trapped as gives-trap}
 use Rattle.values.specs.declared.Value.{Value}
 use Rattle.values.specs.declared.Value.the-variants as Vs
 use Rattle.values.specs.declared.Answer.{Answer}
@@ -30,16 +30,16 @@ use Rattle.nodes.proofs.Accepted.{Plain, constant-is}
 use Rattle.typing.specs.Typing.{typeOf}
 use Rattle.typing.proofs.Lower.{dyadic-low, monadic-low}
 use Rattle.typing.proofs.Accepted.{NodeTyped, NodeTyped.by-constant, NodeTyped.by-variable, NodeTyped.by-field}
-use Rattle.typing.proofs.Accepted.{NodeTyped.by-element, NodeTyped.by-guard, NodeTyped.by-dyadic, NodeTyped.by-monadic}
-use Rattle.typing.proofs.Accepted.{NodeTyped.by-test, NodeTyped.by-argument, typed-node, type-low}
+use Rattle.typing.proofs.Accepted.{NodeTyped.by-element, NodeTyped.by-guard, NodeTyped.by-dyadic}
+use Rattle.typing.proofs.Accepted.{NodeTyped.by-monadic, NodeTyped.by-test, NodeTyped.by-argument, typed-node}
+use Rattle.typing.proofs.Accepted.{type-low}
 use Rattle.owners.specs.Owners.{ownBelow}
 use Rattle.statements.specs.Statements.{procedureAt}
 use Rattle.statements.proofs.Bodies.{InBody, end-within, body-only}
 use Rattle.statements.proofs.Accepted.{StatementRow, StatementRow.is-assign, StatementRow.is-call}
 use Rattle.statements.proofs.Accepted.{StatementRow.is-jump, StatementRow.is-goto, StatementRow.is-return}
-use Rattle.statements.proofs.Accepted.{StatementRow.is-read, StatementRow.is-write, StatementRow.is-halt}
-use Rattle.statements.proofs.Accepted.{AssignRow, JumpRow, GotoRow, ReadRow, ValueRow, Target}
-use Rattle.statements.proofs.Accepted.{target-in, behind-in, no-end}
+use Rattle.statements.proofs.Accepted.{StatementRow.is-read, StatementRow.is-write, StatementRow.is-halt, AssignRow}
+use Rattle.statements.proofs.Accepted.{JumpRow, GotoRow, ReadRow, ValueRow, Target, target-in, behind-in, no-end}
 use Rattle.rules.proofs.Accepted.{assign-ruled, jump-ruled, read-ruled, write-ruled, halt-ruled}
 use Rattle.checker.proofs.Accepted.{AcceptedTables}
 use Rattle.semantics.specs.declared.Place.{Place}
@@ -49,16 +49,14 @@ use Rattle.semantics.specs.declared.Mark.the-variants.{Number}
 use Rattle.semantics.specs.Memory.{LINK, Cell, tagged, markAt, partAt, overwrite}
 use Rattle.semantics.specs.Layout.{Program}
 use Rattle.semantics.specs.Finding.{findOf, evalOf}
-use Rattle.semantics.specs.Stepping.{State, Next, Next.goes}
-use Rattle.semantics.specs.Stepping.{onPlace, onValue, onInteger, onBoolean, onMark, goTo}
-use Rattle.semantics.specs.Stepping.{following, withCells, written, onPart}
-use Rattle.semantics.specs.Stepping.{copied, assigned, jumped, returned}
-use Rattle.semantics.specs.Stepping.{inputAt, afterRead, received, sent, halted, perform, stepOf}
-use Rattle.semantics.specs.Sound.{Want, any-value, exactly, Fits, fits-value}
-use Rattle.semantics.specs.Sound.{Matched, no-more, one-more, Frame, Inside, Object, Sound}
-use Rattle.semantics.specs.Sound.{is-first, is-called, Stack, a-frame, valuesOf, wants, frameWants}
-use Rattle.semantics.proofs.Holding.{part-start, part-next, part-end, matched-length, matched-part, matched-put}
-use Rattle.semantics.proofs.Holding.{put-below, put-length, part-below}
+use Rattle.semantics.specs.Stepping.{State, Next, Next.goes, onPlace, onValue, onInteger, onBoolean, onMark}
+use Rattle.semantics.specs.Stepping.{goTo, following, withCells, written, onPart, copied, assigned, jumped}
+use Rattle.semantics.specs.Stepping.{returned, inputAt, afterRead, received, sent, halted, perform, stepOf}
+use Rattle.semantics.specs.Sound.{Want, any-value, exactly, Fits, fits-value, Matched, no-more, one-more, Frame}
+use Rattle.semantics.specs.Sound.{Inside, Object, Sound, is-first, is-called, Stack, a-frame, valuesOf, wants}
+use Rattle.semantics.specs.Sound.{frameWants}
+use Rattle.semantics.proofs.Holding.{part-start, part-next, part-end, matched-length, matched-part}
+use Rattle.semantics.proofs.Holding.{matched-put, put-below, put-length, part-below}
 use Rattle.semantics.proofs.Objects.{values-length, object-front}
 use Rattle.semantics.proofs.Kinship.{extends-low, extends-scalar, scalar-layout}
 use Rattle.semantics.proofs.Evaluating.{FoundOk, found-ok, found-trap, Designates, itself, find-ok, eval-ok}
@@ -165,7 +163,8 @@ module _ (g : Program)
           let said = ok .questions .nodes in
           let low = constant-is (g .types) (g .variables) (g .nodes) said r (plain .within) k .typed in
           absurd (omega arith)
-      go (by-variable k e) = designator-yes (record { within = plain .within; least = omega arith; most = omega arith })
+      go (by-variable k e) =
+          designator-yes (record { within = plain .within; least = omega arith; most = omega arith })
       go (by-field k e) = designator-yes (record { within = plain .within; least = omega arith; most = omega arith })
       go (by-element k e) = designator-yes (record { within = plain .within; least = omega arith; most = omega arith })
       go (by-guard k e) = designator-yes (record { within = plain .within; least = omega arith; most = omega arith })
@@ -214,7 +213,8 @@ module _ (g : Program) (f : Frame) (fs : List Frame) where
   back-part = part-next frame-part
 
   base-part : Part (wants g (f ∷ fs)) (length (wants g fs) + 2) (exactly LINK (f .callers-base) ∷ joined (f .slots))
-  base-part = let e : length (wants g fs) + 1 + 1 ≡ length (wants g fs) + 2 = omega arith in rw e at (part-next back-part)
+  base-part =
+      let e : length (wants g fs) + 1 + 1 ≡ length (wants g fs) + 2 = omega arith in rw e at (part-next back-part)
 
 -- ---- from a sound state
 
@@ -313,7 +313,8 @@ module _ (g : Program)
   pub part-cells : {a : ℕ} {ws : List Want} → Part (wants g frames) a ws
       → Matched Fits (partAt (s .cells) a (length ws)) ws
   part-cells {a} {ws} p =
-      rw (part-below (s .cells) a (length ws) (s .at .top) (part-top g ok bytes s sound p)) at (matched-part (sound .holding) p)
+      rw (part-below (s .cells) a (length ws) (s .at .top) (part-top g ok bytes s sound p)) at
+      (matched-part (sound .holding) p)
 
   pub on-part-ok : {a : ℕ} {ws : List Want} (n : ℕ) (k : List Cell → Next Cell) → Part (wants g frames) a ws
       → length ws ≡ n → ((new : List Cell) → Matched Fits new ws → NextOk g s (k new)) → NextOk g s (onPart s a n k)
@@ -399,14 +400,16 @@ module _ (g : Program)
       let y-scalar : y ≤ 2 = omega (arith, leb-true (target .declared) 2 scalar) in
       let one : x ≡ y = extends-scalar t (g .fields) (ok .types) x y y-scalar y-low (ruled .extension) x-low in
       let known = form .source .within in
-      on-value-ok g s (unchanged g s) _ (given-here (row .b) x known (ruled .source-type) (ruled .own-source) (omega arith))
+      on-value-ok g s (unchanged g s) _ (given-here (row .b) x known (ruled .source-type) (ruled .own-source)
+      (omega arith))
       (λ v k range. put-ok target v extended object (k ∙ one ∙ sym declared) range (omega arith) inside))
       (λ structured.
       let y-large : 3 ≤ y = omega (arith, leb-false (target .declared) 2 structured) in
       let upward = extends-low t x y (ruled .extension) in
       let from = structured-designator g ok (row .b) x (form .source) (ruled .source-type) (omega arith) in
       let known = form .source .within in
-      on-place-ok g s (unchanged g s) _ (found-here (row .b) x known (ruled .source-type) (ruled .own-source) (itself from))
+      on-place-ok g s (unchanged g s) _ (found-here (row .b) x known (ruled .source-type) (ruled .own-source)
+      (itself from))
       (λ source stated held there.
       copied-ok target source extended object held there
       (rw (declared, stated) (ruled .extension)) inside)))
@@ -459,8 +462,10 @@ module _ (g : Program)
       let to : Part (wants g (f ∷ c ∷ fs)) (s .at .base + 1) (exactly LINK (f .back) ∷ base-link) =
       rw begins (back-part g f (c ∷ fs)) in
       let from : Part (wants g (f ∷ c ∷ fs)) (s .at .base + 2) base-link = rw begins (base-part g f (c ∷ fs)) in
-      on-mark-ok g s _ (mark-there (s .at .top) (s .cells) h to (omega arith) (omega arith) (λ e. absurd (omega arith)))
-      (on-mark-ok g s _ (mark-there (s .at .top) (s .cells) h from (omega arith) (omega arith) (λ e. absurd (omega arith)))
+      on-mark-ok g s _ (mark-there (s .at .top) (s .cells) h to (omega arith) (omega arith)
+      (λ e. absurd (omega arith)))
+      (on-mark-ok g s _ (mark-there (s .at .top) (s .cells) h from (omega arith) (omega arith)
+      (λ e. absurd (omega arith)))
       (ok-goes (record {
         newest = c;
         others = fs;
@@ -519,7 +524,8 @@ module _ (g : Program)
       let rules = write-ruled (g .types) (g .fields) (g .variables) (g .procedures) (g .nodes) (g .statements) in
       let ruled = rules (ok .questions .rules) (s .at .row) row-within kind in
       let inside = kind-inside 6 kind (omega arith) (omega arith) (omega arith) in
-      on-value-ok g s (unchanged g s) _ (given-here (row .a) INTEGER (form .value .within) (ruled .type) (ruled .own) (omega arith))
+      on-value-ok g s (unchanged g s) _ (given-here (row .a) INTEGER (form .value .within) (ruled .type) (ruled .own)
+      (omega arith))
       (λ v k range. on-integer-ok g s v _ k (λ z.
       ok-choose g s _
       (λ more. ok-goes (sound-with (s .at .row + 1) (s .at .read) (s .at .written + 1) (s .cells)
@@ -532,7 +538,8 @@ module _ (g : Program)
   halted-ok kind form =
       let rules = halt-ruled (g .types) (g .fields) (g .variables) (g .procedures) (g .nodes) (g .statements) in
       let ruled = rules (ok .questions .rules) (s .at .row) row-within kind .value in
-      on-value-ok g s (unchanged g s) _ (given-here (row .a) INTEGER (form .value .within) (ruled .type) (ruled .own) (omega arith))
+      on-value-ok g s (unchanged g s) _ (given-here (row .a) INTEGER (form .value .within) (ruled .type) (ruled .own)
+      (omega arith))
       (λ v k range. on-integer-ok g s v _ k (λ z. ok-trapped (unchanged g s)))
 
   -- ---- by the kind
