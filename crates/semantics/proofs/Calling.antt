@@ -42,13 +42,14 @@ use Rattle.semantics.specs.Sound.{Stack, Stack.a-frame, Sound}
 use Rattle.semantics.proofs.Holding.{matched-length, matched-append, put-above, put-length}
 use Rattle.semantics.proofs.Kept.{Unchanged, NextOk, NextOk.ok-goes, NextOk.ok-trapped}
 use Rattle.semantics.proofs.Evaluating.{FoundOk, Designates.as-argument, find-ok, eval-ok, part-top}
+use Rattle.semantics.proofs.Evaluating.{scalar-values}
 use Rattle.semantics.proofs.Objects.{values-length, slot-width, object-front, slots-length, room-next}
 use Rattle.semantics.proofs.Objects.{place-own}
 use Rattle.semantics.proofs.Blanks.{local-low, slotsFrom, slots-matched, slots-fit}
 use Rattle.semantics.proofs.Kinship.{extends-low, extends-scalar}
 use Rattle.semantics.proofs.Performing.{unchanged, ok-choose, ok-yes, on-place-ok, on-value-ok, part-cells}
-use Rattle.semantics.proofs.Performing.{put-fits, typed-low, structured-designator, scalar-values, row-within}
-use Rattle.semantics.proofs.Performing.{procedure-is, kind-inside}
+use Rattle.semantics.proofs.Performing.{put-fits, typed-low, structured-designator, row-within, procedure-is}
+use Rattle.semantics.proofs.Performing.{kind-inside}
 
 -- ---- lists
 
@@ -81,8 +82,8 @@ module _ {A : Type 0} where
       record {
         rest = behind;
         seen =
-            ap (drop at) whole ∙ drop-at (take at l) (xs ++ (new ++ behind)) at size ∙ sym
-            (append-assoc xs new behind);
+            ap (drop at) whole ∙ drop-at (take at l) (xs ++ (new ++ behind)) at size
+            ∙ sym (append-assoc xs new behind);
         within = rw whole (omega (arith, size, length-append (take at l) (xs ++ (new ++ behind))));
       }
 
@@ -94,8 +95,8 @@ module _ {A : Type 0} where
       let size : length (take top l) ≡ top = length-take-le top l h in
       let behind : links ++ drop (top + length links) l ≡ (links ++ xs) ++ p .rest =
       rw (p .seen) (sym (append-assoc links xs (p .rest))) in
-      let from : take (length (take top l) + n) (take top l ++ ((links ++ xs) ++ p .rest)) ≡ take top l ++
-      (links ++ xs) =
+      let from : take (length (take top l) + n) (take top l ++ ((links ++ xs) ++ p .rest))
+      ≡ take top l ++ (links ++ xs) =
       take-append-add (take top l) ((links ++ xs) ++ p .rest) n ∙ rw (take-at (links ++ xs) (p .rest) n e) in
       rw behind (rw size at from)
 
@@ -233,8 +234,8 @@ module _ (g : Program)
   -- ---- all arguments
 
   module _ (q : ℕ) (exists : q < rowsOf (g .procedures))
-      (fitting : s .at .top + frameSize (g .types) (g .fields) (g .variables) (g .procedures) q ≤ length
-      (s .cells)) where
+      (fitting : s .at .top + frameSize (g .types) (g .fields) (g .variables) (g .procedures) q
+      ≤ length (s .cells)) where
     abbrev first : ℕ
     first = firstVariable (g .variables) (g .procedures) q
 
@@ -525,8 +526,8 @@ module _ (g : Program)
       let q : ℕ = rowAt (g .statements) (s .at .row) .a in
       let there = callee-there call in
       ok-choose g s _ (λ e. ok-trapped (unchanged g s)) λ e.
-      let fitting : s .at .top + frameSize (g .types) (g .fields) (g .variables) (g .procedures) q ≤ length
-      (s .cells) = ltb-false _ _ e in
+      let fitting : s .at .top + frameSize (g .types) (g .fields) (g .variables) (g .procedures) q
+      ≤ length (s .cells) = ltb-false _ _ e in
       passed-ok q there fitting call refl (rowAt (g .procedures) q .b) 0 (rowAt (g .statements) (s .at .row) .b)
       (firstVariable (g .variables) (g .procedures) q) (omega arith) (omega arith) (omega arith) (s .cells)
       (passing-none q there fitting)

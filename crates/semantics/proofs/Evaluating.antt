@@ -1,9 +1,9 @@
 -- Finding and evaluating from a sound state: an object of the node's type, a value of its kind, or a trap.
 use mathlib.Core.Path.{_≡_, refl, sym, _∙_, subst}
 use mathlib.Core.Bool.{Bool, true, false, _&&_}
-use mathlib.Core.List.{List, _∷_}
+use mathlib.Core.List.{[], List, _∷_}
 use mathlib.Core.Logic.{_⊎_, inl, inr, ⊎-elim}
-use Prim.Native.Nat.{ℕ, _+_, _*_, _≤_, _<_}
+use Prim.Native.Nat.{ℕ, _+_, _≤_, _<_}
 use native.Mathlib.Omega.{arith}
 use native.Mathlib.Decide.{decLe}
 use borrow.Author.Tests.{lt-ltb, le-leb, lt-leb, eq-eqb, ne-eqb, eqb-true, leb-true, ltb-true}
@@ -17,12 +17,11 @@ use Rattle.prelude.proofs.Rec.{rec-ind}
 use Rattle.image.specs.declared.Row.{Row}
 use Rattle.image.specs.Rows.{rowAt, rowsOf}
 use Rattle.image.proofs.Bytes.{Bytes, row-small}
-use Rattle.shapes.specs.Sizes.{sizeOf}
 use Rattle.shapes.proofs.Layouts.{decide}
 use Rattle.relations.specs.declared.FieldAnswer.the-variants.{Field}
 use Rattle.relations.specs.Extends.{extends}
 use Rattle.relations.specs.Fields.{fieldOf}
-use Rattle.relations.proofs.Extension.{extends-refl}
+use Rattle.relations.proofs.Extension.{extends-refl, extends-trans}
 use Rattle.values.specs.Values.{BOOLEAN, INTEGER, kindOf, InRange, Gives, Gives.value, Gives.trapped, bind, cellOf}
 use Rattle.values.specs.declared.Value.{Value}
 use Rattle.values.specs.declared.Value.the-variants as Vs
@@ -68,9 +67,9 @@ use Rattle.semantics.specs.Sound.{Object.of-global, Object.of-frame, Obj
 use Rattle.semantics.specs.Sound.{Object.of-element, Slot, Slot.by-value, Slot.by-reference, Stack}
 use Rattle.semantics.specs.Sound.{Stack.a-frame, Sound}
 use Rattle.semantics.proofs.Holding.{part-next, part-end, matched-at, cell-below}
-use Rattle.semantics.proofs.Objects.{global-is, own-kind, object-typed, object-part, slot-at, place-own}
-use Rattle.semantics.proofs.Objects.{place-global}
-use Rattle.semantics.proofs.Kinship.{extends-other, extension-field, scalar-layout, scalar-other, global-low}
+use Rattle.semantics.proofs.Objects.{global-is, own-kind, object-typed, object-part, object-front, slot-at}
+use Rattle.semantics.proofs.Objects.{place-own, place-global}
+use Rattle.semantics.proofs.Kinship.{extends-other, extension-field, scalar-layout, global-low}
 
 -- an object of type x was found, or a trap ends the step
 pub data FoundOk (g : Program) (fs : List Frame) (x : ℕ) : Found → Type 0 where
@@ -115,6 +114,11 @@ module _ {g : Program} {fs : List Frame} where
   index-ok k (value {v = Vs.Bool b} e range) next = absurd (bool-other b e)
   index-ok k (value {v = Vs.Set b} e range) next = absurd (set-other b e)
   index-ok k trapped next = found-trap
+
+  -- "every other object's is its declared type"
+  object-ok : {at r : ℕ} → Object g fs at r → FoundOk g fs r (object at r)
+  object-ok {at} {r} o =
+      found-ok {place = record { address = at; declared = r; dynamic = r }} refl (extends-refl (g .types) r) o
 
   choose-ok : {x : ℕ} (b : Bool) {m n : Found} → (b ≡ true → FoundOk g fs x m) → (b ≡ false → FoundOk g fs x n)
       → FoundOk g fs x (choose b m n)
@@ -194,6 +198,29 @@ mark-there top cells {k = k} {n} {a} h p low small type =
     choose-yes _ _ _ (lt-ltb a top low)
     ∙ marked-number (cellAt tagged cells a) k n small type (cell-there top cells h p low)
 
+-- ---- scalar objects
+
+module _ (g : Program)
+    (ok : AcceptedTables (g .types) (g .fields) (g .variables) (g .procedures) (g .nodes) (g .statements)) where
+  pub scalar-values : (x : ℕ) → x ≤ 2 → valuesOf g x ≡ any-value x ∷ []
+  unfolding valuesOf
+  scalar-values x h = let most = ok .scalars in rw (scalar-layout (g .types) (g .fields) (ok .types) x h (omega arith))
+
+  module _ {fs : List Frame} (stack : Stack g fs) (place : Place)
+      (extended : extends (g .types) (place .dynamic) (place .declared) ≡ true)
+      (object : Object g fs (place .address) (place .dynamic)) where
+    -- the cells of an object that was found, as those of a type that its declared one extends
+    pub found-front : (u : ℕ) → extends (g .types) (place .declared) u ≡ true
+        → Part (wants g fs) (place .address) (valuesOf g u)
+    found-front u e =
+        object-front g ok u stack object (extends-trans (g .types) (place .dynamic) (place .declared) u extended e)
+
+    -- a scalar one's single cell
+    pub found-scalar : place .declared ≤ 2 → Part (wants g fs) (place .address) (any-value (place .declared) ∷ [])
+    found-scalar h =
+        rw (← scalar-values (place .declared) h)
+        (found-front (place .declared) (extends-refl (g .types) (place .declared)))
+
 -- ---- nodes
 
 pub designator-yes : {n : List ℕ} {k : ℕ} → Designator n k → isDesignator n k ≡ true
@@ -247,25 +274,14 @@ module _ (g : Program)
       → extends (g .types) (place .dynamic) (place .declared) ≡ true
       → Object g frames (place .address) (place .dynamic)
       → Gives x (valueAt tagged top cells (place .declared) (place .address))
-  unfolding valueAt valuesOf
+  unfolding valueAt
   scalar-value x h place declared extended object =
-      let scalars = ok .scalars in
-      let low = object-typed g ok object in
-      let other : rowAt (g .types) (place .declared) .kind ≡ 4 → ⊥ =
-      rw declared (scalar-other (g .types) (g .fields) (ok .types) x (omega arith) (omega arith)) in
-      let dynamic : place .dynamic ≡ x =
-      extends-other (g .types) (g .fields) (ok .types) (place .dynamic) (place .declared) extended low other
-      ∙ declared in
-      let part = rw dynamic at (object-part g ok (sound .stack) object) in
-      let one = rw (scalar-layout (g .types) (g .fields) (ok .types) x (omega arith) (omega arith)) at part in
+      let one = found-scalar g ok (sound .stack) place extended object (omega arith) in
       let inside = part-inside one in
-      let fits = cell-there top cells (sound .holding) one inside in
-      rw (
-        declared,
-        choose-yes _ (tagged .held x (cellAt tagged cells (place .address))) As.Stuck
-            (lt-ltb (place .address) top inside),
-      )
-      (held-value x (cellAt tagged cells (place .address)) fits)
+      let c : Cell = cellAt tagged cells (place .address) in
+      let gives = held-value (place .declared) c (cell-there top cells (sound .holding) one inside) in
+      rw (choose-yes _ (tagged .held (place .declared) c) As.Stuck (lt-ltb (place .address) top inside))
+      (rw declared (rw declared at gives))
 
   designator-ok : (r x : ℕ) (found : Found) → FoundOk g frames x found
       → MeaningOk g frames r x (designator tagged top cells found)
@@ -288,14 +304,8 @@ module _ (g : Program)
       let kind = global-is (g .variables) a e in
       rw (choose-yes _ (object (placeOf g a) (rowAt (g .variables) a .a)) _
       (eq-eqb (rowAt (g .variables) a .kind) 0 kind))
-      (found-ok {place = record {
-        address = placeOf g a;
-        declared = rowAt (g .variables) a .a;
-        dynamic = rowAt
-            (g .variables) a .a;
-      }} refl (extends-refl (g .types) (rowAt (g .variables) a .a))
-      (rw (place-global g ok a e) (of-global (global-low (g .types) (g .variables) a
-      (ok .variable a low) low e kind))))
+      (object-ok (rw (place-global g ok a e)
+      (of-global (global-low (g .types) (g .variables) a (ok .variable a low) low e kind))))
 
   -- a local or value parameter stands in the newest frame
   variable-plain : (a : ℕ) → Own g procedure a → 1 ≤ rowAt (g .variables) a .kind → rowAt (g .variables) a .kind ≤ 2
@@ -304,16 +314,9 @@ module _ (g : Program)
   variable-plain a own least most =
       rw (
         choose-no _ _ _ (ne-eqb (rowAt (g .variables) a .kind) 0 (λ e. absurd (omega arith))),
-        choose-yes _ _ _
-            (le-leb (rowAt (g .variables) a .kind) 2 most),
+        choose-yes _ _ _ (le-leb (rowAt (g .variables) a .kind) 2 most),
       )
-      (found-ok {place = record {
-        address = base + placeOf g a;
-        declared = rowAt (g .variables) a .a;
-        dynamic = rowAt
-            (g .variables) a .a;
-      }} refl (extends-refl (g .types) (rowAt (g .variables) a .a))
-      (rw (sound .begins, place-own g ok procedure a there own) (of-frame own most)))
+      (object-ok (rw (sound .begins, place-own g ok procedure a there own) (of-frame own most)))
 
   -- the address of an object, and its type, as numbers of cells
   object-small : {fs : List Frame} {at r : ℕ} → Stack g fs → Object g fs at r → room g fs ≤ 65536
@@ -353,12 +356,8 @@ module _ (g : Program)
             (λ e. absurd (omega arith)),
         mark-there top cells {k = TYPE} {n = r} (sound .holding) next (part-inside next) (omega arith) (λ e. type),
       )
-      (found-ok {place = record {
-        address = address;
-        declared = rowAt
-            (g .variables) a .a;
-        dynamic = r;
-      }} refl extended (of-older object))
+      (found-ok {place = record { address = address; declared = rowAt (g .variables) a .a; dynamic = r }}
+      refl extended (of-older object))
 
   variable-parameter : (a : ℕ) → Own g procedure a → rowAt (g .variables) a .kind ≡ 3
       → FoundOk g frames (rowAt (g .variables) a .a) (variableAt a)
@@ -392,8 +391,8 @@ module _ (g : Program)
   guard-ok b x is =
       reach-ok (guardPlace g b) is (λ place declared extended object.
       choose-ok (extends (g .types) (place .dynamic) b)
-      (λ e. found-ok {place = record { address = place .address; declared = b; dynamic = place .dynamic }} refl e
-      object)
+      (λ e. found-ok {place = record { address = place .address; declared = b; dynamic = place .dynamic }}
+      refl e object)
       (λ e. found-trap))
 
   field-ok : (w j at x : ℕ) {m : Found} → fieldOf (g .types) (g .fields) w j ≡ Field at x → FoundOk g frames w m
@@ -404,9 +403,7 @@ module _ (g : Program)
       (λ place declared extended object.
       let here : fieldOf (g .types) (g .fields) (place .declared) j ≡ Field at x = rw declared field in
       rw here
-      (found-ok {place = record { address = place .address + at; declared = x; dynamic = x }} refl
-      (extends-refl (g .types) x)
-      (of-field j object (extension-field (g .types) (g .fields) (ok .types) (place .dynamic)
+      (object-ok (of-field j object (extension-field (g .types) (g .fields) (ok .types) (place .dynamic)
       (place .declared) j extended (object-typed g ok object) here))))
 
   element-there : (place : Place) → rowAt (g .types) (place .declared) .kind ≡ 3
@@ -419,15 +416,8 @@ module _ (g : Program)
       let other : rowAt (g .types) (place .declared) .kind ≡ 4 → ⊥ = λ e. absurd (omega arith) in
       let same = extends-other (g .types) (g .fields) (ok .types) (place .dynamic) (place .declared) extended
       (object-typed g ok thing) other in
-      let element = rowAt (g .types) (place .declared) .a in
       choose-ok (ltb i (rowAt (g .types) (place .declared) .b))
-      (λ e. found-ok {place = record {
-        address = place .address + i * sizeOf (g .types)
-            (g .fields) element;
-        declared = element;
-        dynamic = element;
-      }} refl
-      (extends-refl (g .types) element) (of-element (rw same at thing) array (ltb-true i _ e)))
+      (λ e. object-ok (of-element (rw same at thing) array (ltb-true i _ e)))
       (λ e. found-trap)
   element-there place array extended thing (negsuc i) = found-trap
 

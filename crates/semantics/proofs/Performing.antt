@@ -17,7 +17,7 @@ use Rattle.image.proofs.Bytes.{Bytes}
 use Rattle.shapes.specs.Forms.{form}
 use Rattle.shapes.specs.Sizes.{sizeOf}
 use Rattle.relations.specs.Extends.{extends}
-use Rattle.relations.proofs.Extension.{Extends.same, extends-refl, extends-trans}
+use Rattle.relations.proofs.Extension.{Extends.same, extends-refl}
 use Rattle.values.specs.Values.{BOOLEAN, INTEGER, kindOf, isInteger, InRange, InRange.integer, Gives, Gives.value}
 use Rattle.values.specs.Values.{Gives.trapped as gives-trap}
 use Rattle.values.specs.declared.Value.{Value}
@@ -53,14 +53,13 @@ use Rattle.semantics.specs.Stepping.{State, Next, Next.goes, onPlace, on
 use Rattle.semantics.specs.Stepping.{goTo, following, withCells, written, onPart, copied, assigned, jumped}
 use Rattle.semantics.specs.Stepping.{returned, inputAt, afterRead, received, sent, halted, perform, stepOf}
 use Rattle.semantics.specs.Sound.{Want, any-value, exactly, Fits, fits-value, Matched, no-more, one-more, Frame}
-use Rattle.semantics.specs.Sound.{Inside, Object, Sound, is-first, is-called, Stack, a-frame, valuesOf, wants}
-use Rattle.semantics.specs.Sound.{frameWants}
+use Rattle.semantics.specs.Sound.{Inside, Object, Sound, is-first, is-called, Stack, a-frame, wants, frameWants}
 use Rattle.semantics.proofs.Holding.{part-start, part-next, part-end, matched-length, matched-part}
 use Rattle.semantics.proofs.Holding.{matched-put, put-below, put-length, part-below}
-use Rattle.semantics.proofs.Objects.{values-length, object-front}
-use Rattle.semantics.proofs.Kinship.{extends-low, extends-scalar, scalar-layout}
+use Rattle.semantics.proofs.Objects.{values-length}
+use Rattle.semantics.proofs.Kinship.{extends-low, extends-scalar}
 use Rattle.semantics.proofs.Evaluating.{FoundOk, found-ok, found-trap, Designates, itself, find-ok, eval-ok}
-use Rattle.semantics.proofs.Evaluating.{designator-yes, mark-there, part-top}
+use Rattle.semantics.proofs.Evaluating.{found-front, found-scalar, designator-yes, mark-there, part-top}
 use Rattle.semantics.proofs.Kept.{Unchanged, NextOk, ok-goes, ok-finished, ok-trapped}
 
 -- ---- what a step comes to, by the way it goes on
@@ -176,25 +175,6 @@ module _ (g : Program)
           absurd (omega arith)
       go (by-test k e) = let is = e .boolean in absurd (omega arith)
       go (by-argument k e) = absurd (plain .plain k)
-
-  pub scalar-values : (x : ℕ) → x ≤ 2 → valuesOf g x ≡ any-value x ∷ []
-  unfolding valuesOf
-  scalar-values x h = let most = ok .scalars in rw (scalar-layout (g .types) (g .fields) (ok .types) x h (omega arith))
-
-  module _ {fs : List Frame} (stack : Stack g fs) (place : Place)
-      (extended : extends (g .types) (place .dynamic) (place .declared) ≡ true)
-      (object : Object g fs (place .address) (place .dynamic)) where
-    -- the cells of an object that was found, as those of a type that its declared one extends
-    pub found-front : (u : ℕ) → extends (g .types) (place .declared) u ≡ true
-        → Part (wants g fs) (place .address) (valuesOf g u)
-    found-front u e =
-        object-front g ok u stack object (extends-trans (g .types) (place .dynamic) (place .declared) u extended e)
-
-    -- a scalar one's single cell
-    pub found-scalar : place .declared ≤ 2 → Part (wants g fs) (place .address) (any-value (place .declared) ∷ [])
-    found-scalar h =
-        rw (← scalar-values (place .declared) h)
-        (found-front (place .declared) (extends-refl (g .types) (place .declared)))
 
 -- ---- the newest frame is left
 
