@@ -49,7 +49,7 @@ use Rattle.semantics.proofs.Blanks.{local-low, slotsFrom, slots-matched
 use Rattle.semantics.proofs.Kinship.{extends-low, extends-scalar}
 use Rattle.semantics.proofs.Performing.{unchanged, ok-choose, ok-yes, on-place-ok, on-value-ok, part-cells}
 use Rattle.semantics.proofs.Performing.{put-fits, typed-low, structured-designator, row-within, procedure-is}
-use Rattle.semantics.proofs.Performing.{kind-inside}
+use Rattle.semantics.proofs.Performing.{kind-inside, sound-with}
 
 -- ---- lists
 
@@ -118,17 +118,9 @@ module _ (g : Program)
 
   -- is sound in the same frames
   abbrev above-sound : (cells : List Cell) → Above cells → Sound g (over cells)
-  above-sound cells k = record {
-    newest = sound .newest;
-    others = sound .others;
-    stack = sound .stack;
-    holding = rw (k .same-below) (sound .holding);
-    inside = sound .inside;
-    begins = sound .begins;
-    ends = sound .ends;
-    stored = let h = sound .stored in omega (arith, k .as-many);
-    lent = let h = sound .lent in omega (arith, k .as-many);
-  }
+  above-sound cells k =
+      sound-with g ok bytes s sound (s .at .row) (s .at .read) (s .at .written) cells (s .output) (sound .inside)
+      (rw (k .same-below) (sound .holding)) (k .as-many)
 
   module _ (k a : ℕ) (there : a < rowsOf (g .variables)) (parameter : isParameter (g .variables) a ≡ true)
       (argument : isArgument (g .nodes) k ≡ true)

@@ -1,4 +1,5 @@
--- Finding and evaluating from a sound state: an object of the node's type, a value of its kind, or a trap.
+-- Finding and evaluating from a sound state: an object of the node's type, a value of its kind, or a trap; and what
+-- cells below top read as.
 use mathlib.Core.Path.{_≡_, refl, sym, _∙_, subst}
 use mathlib.Core.Bool.{Bool, true, false, _&&_}
 use mathlib.Core.List.{[], List, _∷_}

@@ -1,4 +1,4 @@
--- Laws of types and variables that soundness needs.
+-- Laws of extension, of scalar types, and of the globals that come first.
 use mathlib.Core.Path.{_≡_, refl, _∙_}
 use mathlib.Core.Bool.{Bool, true, false}
 use mathlib.Core.List.{List, [], _∷_, _++_, map}

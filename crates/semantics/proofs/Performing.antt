@@ -258,27 +258,24 @@ module _ (g : Program)
 
   -- ---- the same frames, another row, other counts, cells and output
 
-  pub sound-with : (r read out : ℕ) (cells : List Cell) (output : List ℤ) → Inside g own-procedure r
+  abbrev pub sound-with : (r read out : ℕ) (cells : List Cell) (output : List ℤ) → Inside g own-procedure r
       → Matched Fits (take (s .at .top) cells) (wants g frames) → length cells ≡ length (s .cells)
       → Sound g (record {
         at = record { row = r; base = s .at .base; top = s .at .top; read = read; written = out };
         cells = cells;
         output = output;
       })
-  sound-with r read out cells output inside holding size =
-      let stored = sound .stored in
-      let lent = sound .lent in
-      record {
-        newest = sound .newest;
-        others = sound .others;
-        stack = sound .stack;
-        holding = holding;
-        inside = inside;
-        begins = sound .begins;
-        ends = sound .ends;
-        stored = omega arith;
-        lent = omega arith;
-      }
+  sound-with r read out cells output inside holding size = record {
+    newest = sound .newest;
+    others = sound .others;
+    stack = sound .stack;
+    holding = holding;
+    inside = inside;
+    begins = sound .begins;
+    ends = sound .ends;
+    stored = let stored = sound .stored in omega arith;
+    lent = let lent = sound .lent in omega arith;
+  }
 
   -- a jump within the body
   pub gone-ok : (r : ℕ) → Inside g own-procedure r → NextOk g s (goes (goTo s r))
