@@ -16,7 +16,8 @@ use Rattle.semantics.proofs.Kept.{NextOk}
 use Rattle.semantics.proofs.Performing.{performed, simple-ok}
 use Rattle.semantics.proofs.Calling.{called-ok}
 
-module _ (g : Program) (ok : AcceptedTables (g .types) (g .fields) (g .variables) (g .procedures) (g .nodes) (g .statements))
+module _ (g : Program)
+    (ok : AcceptedTables (g .types) (g .fields) (g .variables) (g .procedures) (g .nodes) (g .statements))
     (bytes : Bytes (g .nodes)) (s : State Cell) (sound : Sound g s) (input : List ℤ) where
   call-ok : rowAt (g .statements) (s .at .row) .kind ≡ 1 → NextOk g s (stepOf tagged g input s)
   unfolding perform choose
@@ -25,6 +26,7 @@ module _ (g : Program) (ok : AcceptedTables (g .types) (g .fields) (g .variables
   pub step-ok : NextOk g s (stepOf tagged g input s)
   step-ok = go (decide (rowAt (g .statements) (s .at .row) .kind) 1)
     where
-      go : (rowAt (g .statements) (s .at .row) .kind ≡ 1) ⊎ (rowAt (g .statements) (s .at .row) .kind ≡ 1 → ⊥) → NextOk g s (stepOf tagged g input s)
+      go : (rowAt (g .statements) (s .at .row) .kind ≡ 1) ⊎ (rowAt (g .statements) (s .at .row) .kind ≡ 1 → ⊥)
+          → NextOk g s (stepOf tagged g input s)
       go (inl kind) = call-ok kind
       go (inr other) = simple-ok g ok bytes s sound input other

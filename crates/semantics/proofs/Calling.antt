@@ -1,80 +1,57 @@
 -- A call from a sound state: arguments are passed one by one, then the procedure's frame is entered.
-use mathlib.Core.Path.{_≡_, refl, sym, _∙_, ap, subst}
-use mathlib.Core.Bool.{Bool, true, false}
+use mathlib.Core.Path.{_≡_, refl, sym, _∙_, ap}
+use mathlib.Core.Bool.{true}
 use mathlib.Core.List.{List, [], _∷_, _++_, map, append-assoc, append-nil}
 use Prim.Native.Nat.{ℕ, zero, suc, _+_, _-_, _≤_, _<_}
 use native.Mathlib.Omega.{arith}
-use native.Mathlib.Decide.{decLt}
-use borrow.Author.Tests.{eqb-true, eqb-false, leb-true, leb-false, ltb-false, eq-eqb, ne-eqb, le-leb}
-use lib.Dec.{ltb, leb, eqb}
-use lib.IntN.{ℤ, pos}
-use lib.ListN.{length, take, drop, replicate, length-append, length-drop, length-map}
+use borrow.Author.Tests.{eqb-true, eqb-false, leb-true, leb-false, ltb-false, le-leb}
+use lib.Dec.{leb, eqb}
+use lib.ListN.{length, take, drop, length-append}
 use lib.Seq.{length-take-le, take-add, take-at, take-append-seam, take-append-add, drop-at}
-use Rattle.prelude.specs.Choice.{choose, _also_}
 use Rattle.prelude.specs.Parts.{joined, Part}
-use Rattle.prelude.proofs.Choice.{choose-yes, choose-no, also-true, also-yes}
-use Rattle.prelude.proofs.Parts.{map-append}
-use Rattle.prelude.proofs.Rec.{rec-ind}
-use Rattle.image.specs.declared.Row.{Row}
+use Rattle.prelude.proofs.Choice.{also-true}
 use Rattle.image.specs.Rows.{rowAt, rowsOf}
-use Rattle.image.specs.Faults.{KeptIn}
 use Rattle.image.proofs.Bytes.{Bytes}
-use Rattle.shapes.specs.Forms.{Form, Form.scalar, Form.array, Form.recordOf, Form.noForm, form, formOf, baseOf, ofBase, ownTypes}
-use Rattle.shapes.specs.Sizes.{layoutBy, layoutOf, sizeOf}
-use Rattle.shapes.proofs.Rows.{form-record}
-use Rattle.shapes.proofs.Accepted.{TypesKept, Shape, Shape.is-scalar, Shape.is-array, Shape.is-record, record-is}
-use Rattle.shapes.proofs.Accepted.{Based, Based.no-base, Based.on-base, layout-is}
+use Rattle.shapes.specs.Sizes.{sizeOf}
 use Rattle.relations.specs.Extends.{extends}
-use Rattle.relations.proofs.Extension.{Extends, Extends.same, Extends.up, extends-yes, extends-trans}
-use Rattle.image.specs.declared.Verdict.the-variants.{Kept}
-use Rattle.nodes.specs.Nodes.{isDesignator, isArgument, question7}
-use Rattle.nodes.proofs.Accepted.{constant-is, argument-is, argument-kind, argument-within}
-use Rattle.typing.specs.Typing.{typeOf}
-use Rattle.typing.proofs.Lower.{dyadic-low, monadic-low}
-use Rattle.typing.proofs.Accepted.{NodeTyped, NodeTyped.by-constant, NodeTyped.by-variable, NodeTyped.by-field}
-use Rattle.typing.proofs.Accepted.{NodeTyped.by-element, NodeTyped.by-guard, NodeTyped.by-dyadic, NodeTyped.by-monadic}
-use Rattle.typing.proofs.Accepted.{NodeTyped.by-test, NodeTyped.by-argument, typed-node, argument-typed, type-low}
-use Rattle.frames.specs.Variables.{isLocal, isParameter, kindWithin}
+use Rattle.relations.proofs.Extension.{extends-trans}
+use Rattle.nodes.specs.Nodes.{isDesignator, isArgument}
+use Rattle.nodes.proofs.Accepted.{argument-is, argument-kind, argument-within}
+use Rattle.typing.proofs.Accepted.{argument-typed}
+use Rattle.frames.specs.Variables.{isParameter, kindWithin}
 use Rattle.frames.specs.Procedures.{firstVariable, claimedBy}
 use Rattle.places.specs.Places.{roomBy, widthOf, roomFrom, frameSize, placeIn}
-use Rattle.places.proofs.Rooms.{width-var, width-other, room-more}
+use Rattle.places.proofs.Rooms.{room-more}
 use Rattle.places.proofs.Counting.{first-next}
 use Rattle.places.proofs.Owning.{own-within}
 use Rattle.statements.specs.Statements.{procedureAt}
-use Rattle.statements.proofs.Accepted.{CallRow, call-is, behind-in, no-end}
-use Rattle.statements.proofs.Bodies.{InBody, start-in, end-within, body-only}
-use Rattle.rules.proofs.Accepted.{ArgumentRuled, CallRuled, call-ruled}
+use Rattle.statements.proofs.Accepted.{CallRow, call-is}
+use Rattle.statements.proofs.Bodies.{start-in}
+use Rattle.rules.proofs.Accepted.{ArgumentRuled, call-ruled}
 use Rattle.checker.proofs.Accepted.{AcceptedTables}
-use Rattle.values.specs.Values.{kindOf, numberOf, cellOf, booleanCell, integerCell, setCell, isInteger, isSet, InRange, Gives}
-use Rattle.values.specs.Values.{Gives.value, Gives.trapped}
-use Rattle.values.proofs.Cells.{cell-back}
-use Rattle.values.specs.declared.Value.{Value}
-use Rattle.values.specs.declared.Value.the-variants as Vs
-use Rattle.values.specs.declared.Answer.{Answer}
-use Rattle.values.specs.declared.Answer.the-variants as As
 use Rattle.semantics.specs.declared.Place.{Place}
-use Rattle.semantics.specs.declared.Found.{Found}
-use Rattle.semantics.specs.declared.Found.the-variants as Fs
-use Rattle.semantics.specs.Memory.{LINK, ADDRESS, TYPE, Cell, tagged, partAt, overwrite}
-use Rattle.semantics.specs.Layout.{Program, placeOf, kindsOf, kindsFrom}
+use Rattle.semantics.specs.Memory.{LINK, ADDRESS, TYPE, Cell, tagged, overwrite}
+use Rattle.semantics.specs.Layout.{Program, placeOf, kindsFrom}
 use Rattle.semantics.specs.Finding.{findOf, evalOf}
-use Rattle.semantics.specs.Stepping.{State, Next, onPlace, onValue, onPart, withCells, argumentCells, passed, entered, called}
-use Rattle.semantics.specs.Sound.{Want, Want.any-value, Want.exactly, Fits, Fits.fits-value, Fits.fits-exactly}
-use Rattle.semantics.specs.Sound.{Matched, Matched.no-more, Matched.one-more, Frame, rowsFrom, valuesOf}
-use Rattle.semantics.specs.Sound.{frameWants, wants, room, Inside, Own, Object, Slot, Slot.by-value, Slot.by-reference}
-use Rattle.semantics.specs.Sound.{Called, Called.is-called, Stack, Stack.a-frame, Sound}
-use Rattle.semantics.proofs.Holding.{matched-length, matched-part, put-above, put-length, part-below}
+use Rattle.semantics.specs.Stepping.{State, Next, onPlace, onValue, onPart, withCells, argumentCells, passed}
+use Rattle.semantics.specs.Stepping.{entered, called}
+use Rattle.semantics.specs.Sound.{Want, Want.any-value, Want.exactly, Fits, Fits.fits-exactly, Matched}
+use Rattle.semantics.specs.Sound.{Matched.no-more, Matched.one-more, Frame, rowsFrom, valuesOf, frameWants}
+use Rattle.semantics.specs.Sound.{wants, room, Inside, Slot, Slot.by-value, Slot.by-reference, Called.is-called}
+use Rattle.semantics.specs.Sound.{Stack, Stack.a-frame, Sound}
+use Rattle.semantics.proofs.Holding.{matched-length, matched-append, put-above, put-length}
 use Rattle.semantics.proofs.Kept.{Unchanged, NextOk, NextOk.ok-goes, NextOk.ok-trapped}
-use Rattle.semantics.proofs.Evaluating.{FoundOk, FoundOk.found-ok, FoundOk.found-trap, Designates, Designates.as-argument}
-use Rattle.semantics.proofs.Evaluating.{find-ok, eval-ok}
-use Rattle.semantics.proofs.Objects.{values-length, object-front, slots-length, room-next, place-own}
+use Rattle.semantics.proofs.Evaluating.{FoundOk, Designates.as-argument, find-ok, eval-ok, part-top}
+use Rattle.semantics.proofs.Evaluating.{scalar-values}
+use Rattle.semantics.proofs.Objects.{values-length, slot-width, object-front, slots-length, room-next}
+use Rattle.semantics.proofs.Objects.{place-own}
+use Rattle.semantics.proofs.Blanks.{local-low, slotsFrom, slots-matched, slots-fit}
+use Rattle.semantics.proofs.Kinship.{extends-low, extends-scalar}
+use Rattle.semantics.proofs.Performing.{unchanged, ok-choose, ok-yes, on-place-ok, on-value-ok, part-cells}
+use Rattle.semantics.proofs.Performing.{put-fits, typed-low, structured-designator, row-within, procedure-is}
+use Rattle.semantics.proofs.Performing.{kind-inside, sound-with}
 
 -- ---- lists
-
-module _ {A B : Type 0} {R : A → B → Type 0} where
-  matched-both : {l m : List A} {w x : List B} → Matched R l w → Matched R m x → Matched R (l ++ m) (w ++ x)
-  matched-both no-more k = k
-  matched-both (one-more r h) k = one-more r (matched-both h k)
 
 rows-both : (k m n : ℕ) → rowsFrom k (m + n) ≡ rowsFrom k m ++ rowsFrom (k + m) n
 unfolding rowsFrom
@@ -90,11 +67,6 @@ module _ {A : Type 0} where
   joined-both [] ys = refl
   joined-both (x ∷ xs) ys = ap (λ l. x ++ l) (joined-both xs ys) ∙ sym (append-assoc x (joined xs) (joined ys))
 
-  part-ends : {l xs : List A} {at : ℕ} → Part l at xs → at + length xs ≤ length l
-  part-ends {l} {xs} {at} p =
-      let w = p .within in
-      omega (arith, length-append xs (p .rest), length-drop at l, ap length (p .seen))
-
   -- a part grows by what is written behind it
   part-put : (l xs new : List A) (at : ℕ) → Part l at xs → at + length xs + length new ≤ length l
       → Part (overwrite l (at + length xs) new) at (xs ++ new)
@@ -109,7 +81,9 @@ module _ {A : Type 0} where
       rw front (append-assoc (take at l) xs (new ++ behind)) in
       record {
         rest = behind;
-        seen = ap (drop at) whole ∙ drop-at (take at l) (xs ++ (new ++ behind)) at size ∙ sym (append-assoc xs new behind);
+        seen =
+            ap (drop at) whole ∙ drop-at (take at l) (xs ++ (new ++ behind)) at size
+            ∙ sym (append-assoc xs new behind);
         within = rw whole (omega (arith, size, length-append (take at l) (xs ++ (new ++ behind))));
       }
 
@@ -121,219 +95,15 @@ module _ {A : Type 0} where
       let size : length (take top l) ≡ top = length-take-le top l h in
       let behind : links ++ drop (top + length links) l ≡ (links ++ xs) ++ p .rest =
       rw (p .seen) (sym (append-assoc links xs (p .rest))) in
-      let from : take (length (take top l) + n) (take top l ++ ((links ++ xs) ++ p .rest)) ≡ take top l ++ (links ++ xs) =
+      let from : take (length (take top l) + n) (take top l ++ ((links ++ xs) ++ p .rest))
+      ≡ take top l ++ (links ++ xs) =
       take-append-add (take top l) ((links ++ xs) ++ p .rest) n ∙ rw (take-at (links ++ xs) (p .rest) n e) in
       rw behind (rw size at from)
 
--- ---- cells
-
-put-fits : {v : Value} {k : ℕ} → kindOf v ≡ k → InRange v → Fits (tagged .put v) (any-value k)
-unfolding tagged
-put-fits {v} {k} e h =
-    let back : cellOf k (numberOf v) ≡ As.Val v = rw (← e) (cell-back h) in
-    fits-value {c = record { kind = kindOf v; number = numberOf v }} {v = v} e back
-
--- a zeroed cell of a scalar kind
-blank-fits : (k : ℕ) → k ≤ 2 → Fits (tagged .blank k) (any-value k)
-unfolding tagged cellOf booleanCell integerCell setCell isInteger isSet choose
-blank-fits zero h = fits-value refl refl
-blank-fits (suc zero) h = fits-value refl refl
-blank-fits (suc (suc zero)) h = fits-value refl refl
-blank-fits (suc (suc (suc k))) h = absurd (omega arith)
-
--- zeroed cells of these kinds
-record BlanksFit (l : List ℕ) : Type 0 where
-  matched : Matched Fits (map (tagged .blank) l) (map any-value l)
-
-blanks-none : BlanksFit []
-blanks-none = record { matched = no-more }
-
-blanks-both : (l m : List ℕ) → BlanksFit l → BlanksFit m → BlanksFit (l ++ m)
-blanks-both l m a b = record {
-  matched = rw (map-append (tagged .blank) l m, map-append any-value l m) (matched-both (a .matched) (b .matched));
-}
-
-blanks-replicated : (n : ℕ) (l : List ℕ) → BlanksFit l → BlanksFit (joined (replicate n l))
-unfolding joined
-blanks-replicated zero l h = blanks-none
-blanks-replicated (suc n) l h = blanks-both l (joined (replicate n l)) h (blanks-replicated n l h)
-
-module _ (layout : ℕ → List ℕ) (each : (k : ℕ) → BlanksFit (layout k)) where
-  blanks-joined : (l : List ℕ) → BlanksFit (joined (map layout l))
-  unfolding joined
-  blanks-joined [] = blanks-none
-  blanks-joined (k ∷ l) = blanks-both (layout k) (joined (map layout l)) (each k) (blanks-joined l)
-
-  blanks-based : (a : ℕ) → BlanksFit (ofBase [] layout a)
-  unfolding ofBase
-  blanks-based zero = blanks-none
-  blanks-based (suc b) = each b
-
-  blanks-by : (f : List ℕ) (row : Row) → BlanksFit (layoutBy f layout (formOf row))
-  unfolding formOf layoutBy choose
-  blanks-by f row = go (leb (row .kind) 2) refl (eqb (row .kind) 3) (eqb (row .kind) 4)
-    where
-      go : (x : Bool) → leb (row .kind) 2 ≡ x → (y z : Bool)
-          → BlanksFit (layoutBy f layout (choose x (scalar (row .kind)) (choose y (array (row .a) (row .b)) (choose z (recordOf (row .a) (row .b) (row .c)) noForm))))
-      go true e y z = record { matched = one-more (blank-fits (row .kind) (leb-true _ _ e)) no-more }
-      go false e true z = blanks-replicated (row .b) (layout (row .a)) (each (row .a))
-      go false e false true = blanks-both (ofBase [] layout (row .a)) _ (blanks-based (row .a)) (blanks-joined (ownTypes f (row .b) (row .c)))
-      go false e false false = blanks-none
-
--- zeroed cells are of their layout
-blanks-layout : (t f : List ℕ) (r : ℕ) → BlanksFit (layoutOf t f r)
-unfolding layoutOf form
-blanks-layout t f r =
-    rec-ind [] (λ layout k. layoutBy f layout (form t k)) (λ k l. BlanksFit l)
-    (λ k layout low high. blanks-by layout (λ j. each layout k low high j (decLt j k)) f (rowAt t k)) r
-  where
-    each : (layout : ℕ → List ℕ) (k : ℕ) → ((j : ℕ) → j < k → BlanksFit (layout j)) → ((j : ℕ) → k ≤ j → layout j ≡ [])
-        → (j : ℕ) → Dec (j < k) → BlanksFit (layout j)
-    each layout k low high j (yes h) = low j h
-    each layout k low high j (no h) = rw (high j (omega arith)) blanks-none
-
--- ---- types
-
--- a type extends lower rows only
-extends-low : {t : List ℕ} {r u : ℕ} → Extends t r u → u ≤ r
-extends-low same = omega arith
-extends-low (up base low e) = let below = extends-low e in omega arith
-
-scalar-shape : {t f : List ℕ} {used r : ℕ} {x : Form} → Shape t f used r x → r < 3 → x ≡ scalar r
-scalar-shape (is-scalar l) h = refl
-scalar-shape (is-array l a b c) h = absurd (omega arith)
-scalar-shape (is-record l a b c) h = absurd (omega arith)
-
-shape-based : {t f : List ℕ} {used r b : ℕ} {x : Form} → Shape t f used r x → baseOf x ≡ suc b → Based t r (suc b)
-unfolding baseOf
-shape-based (is-scalar l) e = absurd (omega arith)
-shape-based (is-array l a b c) e = absurd (omega arith)
-shape-based (is-record l on rows own) e = rw e at on
-
-based-kind : {t : List ℕ} {r b : ℕ} → Based t r (suc b) → rowAt t b .kind ≡ 4
-based-kind (on-base low kind) = kind
-
-module _ (t f : List ℕ) (kept : TypesKept t f) where
-  -- a base is no scalar
-  base-later : (r b : ℕ) → r < rowsOf t → b < r → baseOf (form t r) ≡ suc b → 3 ≤ b
-  unfolding form
-  base-later r b h low e =
-      let kind = based-kind (shape-based (kept .row r h .shape) e) in
-      record-is (kept .row b (omega arith) .shape) (form-record (rowAt t b) kind) .later
-
-  -- nothing else extends a scalar
-  scalar-extended : {r u : ℕ} → Extends t r u → r < rowsOf t → u ≤ 2 → r ≡ u
-  scalar-extended same h few = refl
-  scalar-extended {r} (up {b = b} base low e) h few =
-      let later = base-later r b h low base in
-      let there = scalar-extended e (omega arith) few in
-      absurd (omega arith)
-
-  scalar-values : (r : ℕ) → r < 3 → r < rowsOf t → layoutOf t f r ≡ r ∷ []
-  unfolding layoutBy
-  scalar-values r h low =
-      let shape = kept .row r low .shape in
-      layout-is t f r shape ∙ ap (layoutBy f (layoutOf t f)) (scalar-shape shape h)
-
--- only a designator has a type that is no scalar
-module _ (t f v n : List ℕ) (kept : question7 t v n ≡ Kept) (r : ℕ) (h : r < rowsOf n) where
-  designator-by : 1 ≤ rowAt n r .kind → rowAt n r .kind ≤ 4 → isDesignator n r ≡ true
-  unfolding isDesignator
-  designator-by low high = also-yes (le-leb _ _ low) (le-leb _ _ high)
-
-  designator-typed : {x : ℕ} → NodeTyped t f v n r x → 3 ≤ x → (rowAt n r .kind ≡ 8 → ⊥) → isDesignator n r ≡ true
-  designator-typed (by-constant k e) l plain = let low = constant-is t v n kept r h k .typed in absurd (omega arith)
-  designator-typed (by-variable k e) l plain = designator-by (omega arith) (omega arith)
-  designator-typed (by-field k e) l plain = designator-by (omega arith) (omega arith)
-  designator-typed (by-element k e) l plain = designator-by (omega arith) (omega arith)
-  designator-typed (by-guard k e) l plain = designator-by (omega arith) (omega arith)
-  designator-typed {x} (by-dyadic k e) l plain =
-      let low = dyadic-low (rowAt n r .c) (e .left) (e .right) x (e .result) in
-      absurd (omega arith)
-  designator-typed {x} (by-monadic k e) l plain =
-      let low = monadic-low (rowAt n r .c) (e .operand) x (e .result) in
-      absurd (omega arith)
-  designator-typed (by-test k e) l plain = let zero-row = e .boolean in absurd (omega arith)
-  designator-typed (by-argument k e) l plain = absurd (plain k)
-
--- ---- ways to go on from cells that differ above top
-
-module _ (g : Program) (s : State Cell) where
-  either-ok : (b : Bool) {x y : Next Cell} → (b ≡ true → NextOk g s x) → (b ≡ false → NextOk g s y)
-      → NextOk g s (choose b x y)
-  unfolding choose
-  either-ok true f h = f refl
-  either-ok false f h = h refl
-
-  module _ {s′ : State Cell} (same-below : Unchanged s s′) where
-    place-ok : {fs : List Frame} {x : ℕ} {found : Found} (next : Place → Next Cell) → FoundOk g fs x found
-        → ((place : Place) → place .declared ≡ x → extends (g .types) (place .dynamic) (place .declared) ≡ true
-        → Object g fs (place .address) (place .dynamic) → NextOk g s (next place))
-        → NextOk g s (onPlace s′ found next)
-    unfolding onPlace
-    place-ok next (found-ok {place = place} d e o) more = more place d e o
-    place-ok next found-trap more = ok-trapped same-below
-
-    value-ok : {k : ℕ} {answer : Answer} (next : Value → Next Cell) → Gives k answer
-        → ((v : Value) → kindOf v ≡ k → InRange v → NextOk g s (next v))
-        → NextOk g s (onValue s′ answer next)
-    unfolding onValue
-    value-ok next (Gives.value {v = v} e h) more = more v e h
-    value-ok next Gives.trapped more = ok-trapped same-below
-
-    part-ok : (a n : ℕ) (next : List Cell → Next Cell) → a + n ≤ s′ .at .top
-        → NextOk g s (next (partAt (s′ .cells) a n)) → NextOk g s (onPart s′ a n next)
-    unfolding onPart
-    part-ok a n next h more = rw (choose-yes (leb (a + n) (s′ .at .top)) (next (partAt (s′ .cells) a n)) _ (le-leb _ _ h)) more
-
 -- ---- one argument
 
-module _ (g : Program) (ok : AcceptedTables (g .types) (g .fields) (g .variables) (g .procedures) (g .nodes) (g .statements)) where
-  -- a variable's cells are as many as its width
-  slot-width : {fs : List Frame} {a : ℕ} {ws : List Want} → a < rowsOf (g .variables) → Slot g fs a ws
-      → length ws ≡ widthOf (g .types) (g .fields) (g .variables) a
-  slot-width {a = a} h (by-value k) =
-      values-length g ok (rowAt (g .variables) a .a) (ok .variable a h .typed)
-      ∙ sym (width-other (sizeOf (g .types) (g .fields)) (g .variables) a (λ e. absurd (omega arith)))
-  slot-width {a = a} h (by-reference k o e) = sym (width-var (sizeOf (g .types) (g .fields)) (g .variables) a k)
-
--- ---- "then locals zero"
-
--- slots that the zeroed cells of n variables from row k on fit
-record LocalsFit (g : Program) (fs : List Frame) (k n : ℕ) : Type 0 where
-  slots : List (List Want)
-  fits : Matched Fits (map (tagged .blank) (kindsFrom g k n)) (joined slots)
-  slotted : Matched (Slot g fs) (rowsFrom k n) slots
-
-local-kind : (v : List ℕ) (k : ℕ) → isLocal v k ≡ true → rowAt v k .kind ≡ 1
-unfolding kindWithin
-local-kind v k e =
-    let (low, high) = also-true _ _ e in
-    let least : 1 ≤ rowAt v k .kind = leb-true _ _ low in
-    let most : rowAt v k .kind ≤ 1 = leb-true _ _ high in
-    omega arith
-
-local-kinds : (g : Program) (k : ℕ) → rowAt (g .variables) k .kind ≡ 1
-    → kindsOf g k ≡ layoutOf (g .types) (g .fields) (rowAt (g .variables) k .a)
-unfolding kindsOf
-local-kinds g k e = choose-no _ _ _ (ne-eqb (rowAt (g .variables) k .kind) 3 (λ z. absurd (omega arith)))
-
-locals-fit : (g : Program) (fs : List Frame) (n k : ℕ) → KeptIn (isLocal (g .variables)) k (k + n) → LocalsFit g fs k n
-unfolding kindsFrom rowsFrom joined valuesOf
-locals-fit g fs zero k kept = record { slots = []; fits = no-more; slotted = no-more }
-locals-fit g fs (suc n) k kept =
-    let rest = locals-fit g fs n (k + 1) (record { each = λ j low high. kept .each j (omega arith) (omega arith) }) in
-    let kind = local-kind (g .variables) k (kept .each k (omega arith) (omega arith)) in
-    let own = blanks-layout (g .types) (g .fields) (rowAt (g .variables) k .a) .matched in
-    let all = matched-both own (rest .fits) in
-    let slot : Slot g fs k (valuesOf g (rowAt (g .variables) k .a)) = by-value (omega arith) in
-    record {
-      slots = valuesOf g (rowAt (g .variables) k .a) ∷ rest .slots;
-      fits = rw (local-kinds g k kind, map-append (tagged .blank) (layoutOf (g .types) (g .fields) (rowAt (g .variables) k .a)) (kindsFrom g (k + 1) n)) all;
-      slotted = one-more slot (rest .slotted);
-    }
-
-module _ (g : Program) (ok : AcceptedTables (g .types) (g .fields) (g .variables) (g .procedures) (g .nodes) (g .statements))
+module _ (g : Program)
+    (ok : AcceptedTables (g .types) (g .fields) (g .variables) (g .procedures) (g .nodes) (g .statements))
     (bytes : Bytes (g .nodes)) (s : State Cell) (sound : Sound g s) where
   -- the same state with other cells above top
   record Above (cells : List Cell) : Type 0 where
@@ -348,23 +118,17 @@ module _ (g : Program) (ok : AcceptedTables (g .types) (g .fields) (g .variables
 
   -- is sound in the same frames
   abbrev above-sound : (cells : List Cell) → Above cells → Sound g (over cells)
-  above-sound cells k = record {
-    newest = sound .newest;
-    others = sound .others;
-    stack = sound .stack;
-    holding = rw (k .same-below) (sound .holding);
-    inside = sound .inside;
-    begins = sound .begins;
-    ends = sound .ends;
-    stored = let h = sound .stored in omega (arith, k .as-many);
-    lent = let h = sound .lent in omega (arith, k .as-many);
-  }
+  above-sound cells k =
+      sound-with g ok bytes s sound (s .at .row) (s .at .read) (s .at .written) cells (s .output) (sound .inside)
+      (rw (k .same-below) (sound .holding)) (k .as-many)
 
   module _ (k a : ℕ) (there : a < rowsOf (g .variables)) (parameter : isParameter (g .variables) a ≡ true)
       (argument : isArgument (g .nodes) k ≡ true)
-      (ruled : ArgumentRuled (g .types) (g .fields) (g .variables) (g .procedures) (g .nodes) (sound .newest .procedure) k a)
+      (ruled : ArgumentRuled (g .types) (g .fields) (g .variables) (g .procedures) (g .nodes)
+      (sound .newest .procedure) k a)
       (cells : List Cell) (above : Above cells) (next : List Cell → Next Cell)
-      (more : (new : List Cell) (ws : List Want) → Slot g (sound .newest ∷ sound .others) a ws → Matched Fits new ws → NextOk g s (next new))
+      (more : (new : List Cell) (ws : List Want) → Slot g (sound .newest ∷ sound .others) a ws → Matched Fits new ws
+      → NextOk g s (next new))
     where
       within : k < rowsOf (g .nodes)
       within = argument-within (g .nodes) k argument
@@ -373,20 +137,22 @@ module _ (g : Program) (ok : AcceptedTables (g .types) (g .fields) (g .variables
       kind = argument-kind (g .nodes) k argument
 
       passed-row : ruled .passed < rowsOf (g .types)
-      passed-row =
-          type-low (g .types) (g .fields) (g .variables) (g .nodes) (ok .questions .types) (ok .scalars) (ok .questions .variables)
-          (ok .questions .nodes) k (ruled .passed) (ruled .passed-type)
+      passed-row = typed-low g ok k (ruled .passed) (ruled .passed-type)
 
       found : isDesignator (g .nodes) (rowAt (g .nodes) k .a) ≡ true
-          → FoundOk g (sound .newest ∷ sound .others) (ruled .passed) (findOf tagged g (s .at .base) (s .at .top) cells k)
+          → FoundOk g (sound .newest ∷ sound .others) (ruled .passed)
+          (findOf tagged g (s .at .base) (s .at .top) cells k)
       found d =
-          find-ok g ok bytes (over cells) (above-sound cells above) k (ruled .passed) within (ruled .passed-type) (ruled .own)
+          find-ok g ok bytes (over cells) (above-sound cells above) k (ruled .passed) within (ruled .passed-type)
+          (ruled .own)
           (as-argument kind d)
 
-      extended : (place : Place) → place .declared ≡ ruled .passed → extends (g .types) (place .dynamic) (place .declared) ≡ true
+      extended : (place : Place) → place .declared ≡ ruled .passed
+          → extends (g .types) (place .dynamic) (place .declared) ≡ true
           → extends (g .types) (place .dynamic) (rowAt (g .variables) a .a) ≡ true
       extended place d e =
-          extends-trans (g .types) (place .dynamic) (ruled .passed) (rowAt (g .variables) a .a) (rw d at e) (ruled .extension)
+          extends-trans (g .types) (place .dynamic) (ruled .passed) (rowAt (g .variables) a .a) (rw d at e)
+          (ruled .extension)
 
       -- "A VAR argument passes its object's address and dynamic type."
       reference-ok : rowAt (g .variables) a .kind ≡ 3
@@ -394,49 +160,54 @@ module _ (g : Program) (ok : AcceptedTables (g .types) (g .fields) (g .variables
           λ place. next (tagged .mark ADDRESS (place .address) ∷ tagged .mark TYPE (place .dynamic) ∷ []))
       unfolding tagged
       reference-ok var =
-          place-ok g s (above-unchanged cells above) _ (found (ruled .designator var)) λ place d e o.
-          more _ (exactly ADDRESS (place .address) ∷ exactly TYPE (place .dynamic) ∷ []) (by-reference var o (extended place d e))
+          on-place-ok g s (above-unchanged cells above) _ (found (ruled .designator var)) λ place d e o.
+          more _ (exactly ADDRESS (place .address) ∷ exactly TYPE (place .dynamic) ∷ [])
+          (by-reference var o (extended place d e))
           (one-more (fits-exactly refl refl) (one-more (fits-exactly refl refl) no-more))
 
       -- a scalar's value
       scalar-ok : rowAt (g .variables) a .kind ≤ 2 → rowAt (g .variables) a .a ≤ 2
-          → NextOk g s (onValue (over cells) (evalOf tagged g (s .at .base) (s .at .top) cells k) λ v. next (tagged .put v ∷ []))
+          → NextOk g s
+          (onValue (over cells) (evalOf tagged g (s .at .base) (s .at .top) cells k) λ v. next (tagged .put v ∷ []))
       unfolding valuesOf
       scalar-ok plain few =
+          let low = ok .variable a there .typed in
           let same-type : ruled .passed ≡ rowAt (g .variables) a .a =
-          scalar-extended (g .types) (g .fields) (ok .types) (extends-yes (g .types) _ _ (ruled .extension)) passed-row few in
-          let values : valuesOf g (rowAt (g .variables) a .a) ≡ any-value (rowAt (g .variables) a .a) ∷ [] =
-          ap (map any-value) (scalar-values (g .types) (g .fields) (ok .types) (rowAt (g .variables) a .a) (omega arith) (ok .variable a there .typed)) in
-          let slot : Slot g (sound .newest ∷ sound .others) a (valuesOf g (rowAt (g .variables) a .a)) = by-value plain in
-          value-ok g s (above-unchanged cells above) _
-          (eval-ok g ok bytes (over cells) (above-sound cells above) k (ruled .passed) within (ruled .passed-type) (ruled .own) (omega arith))
-          λ v e h. more _ (any-value (rowAt (g .variables) a .a) ∷ []) (rw values at slot) (one-more (put-fits (e ∙ same-type) h) no-more)
+          extends-scalar (g .types) (g .fields) (ok .types) (ruled .passed) (rowAt (g .variables) a .a) few low
+          (ruled .extension) passed-row in
+          let values = scalar-values g ok (rowAt (g .variables) a .a) few in
+          let slot : Slot g (sound .newest ∷ sound .others) a (valuesOf g (rowAt (g .variables) a .a)) =
+          by-value plain in
+          on-value-ok g s (above-unchanged cells above) _
+          (eval-ok g ok bytes (over cells) (above-sound cells above) k (ruled .passed) within (ruled .passed-type)
+          (ruled .own) (omega arith))
+          λ v e h. more _ (any-value (rowAt (g .variables) a .a) ∷ []) (rw values at slot)
+          (one-more (put-fits v (rowAt (g .variables) a .a) (e ∙ same-type) h) no-more)
 
       -- another object's cells
       holds : 3 ≤ rowAt (g .variables) a .a → isDesignator (g .nodes) (rowAt (g .nodes) k .a) ≡ true
       holds many =
-          let low = extends-low (extends-yes (g .types) (ruled .passed) (rowAt (g .variables) a .a) (ruled .extension)) in
-          let child = argument-is (g .types) (g .variables) (g .nodes) (ok .questions .nodes) k within kind .holds .node in
-          let type = argument-typed (g .types) (g .fields) (g .variables) (g .nodes) (ok .questions .nodes) k within (ruled .passed-type) kind in
-          designator-typed (g .types) (g .fields) (g .variables) (g .nodes) (ok .questions .nodes) (rowAt (g .nodes) k .a) (child .within)
-          (typed-node (g .types) (g .fields) (g .variables) (g .nodes) (ok .questions .nodes) (rowAt (g .nodes) k .a) (child .within) type)
-          (omega arith) (child .plain)
+          let low = extends-low (g .types) (ruled .passed) (rowAt (g .variables) a .a) (ruled .extension) in
+          let child = argument-is (g .types) (g .variables) (g .nodes)
+          (ok .questions .nodes) k within kind .holds .node in
+          let type = argument-typed (g .types) (g .fields) (g .variables) (g .nodes) (ok .questions .nodes) k within
+          (ruled .passed-type) kind in
+          structured-designator g ok (rowAt (g .nodes) k .a) (ruled .passed) child type (omega arith)
 
       copied-ok : rowAt (g .variables) a .kind ≤ 2 → 3 ≤ rowAt (g .variables) a .a
           → NextOk g s (onPlace (over cells) (findOf tagged g (s .at .base) (s .at .top) cells k)
-          λ place. onPart (over cells) (place .address) (sizeOf (g .types) (g .fields) (rowAt (g .variables) a .a)) next)
+          λ place. onPart (over cells) (place .address)
+          (sizeOf (g .types) (g .fields) (rowAt (g .variables) a .a)) next)
+      unfolding onPart
       copied-ok plain many =
-          place-ok g s (above-unchanged cells above) _ (found (holds many)) λ place d e o.
+          on-place-ok g s (above-unchanged cells above) _ (found (holds many)) λ place d e o.
           let r : ℕ = rowAt (g .variables) a .a in
-          let size = values-length g ok r (ok .variable a there .typed) in
+          let size = values-length g r in
           let part = object-front g ok r (sound .stack) o (extended place d e) in
-          let matched = matched-part (above-sound cells above .holding) part in
-          let end = part-ends part in
-          let top = sound .ends in
-          let low : place .address + sizeOf (g .types) (g .fields) r ≤ s .at .top = omega arith in
-          part-ok g s (above-unchanged cells above) (place .address) (sizeOf (g .types) (g .fields) r) next low
-          (more _ (valuesOf g r) (by-value plain)
-          (rw (part-below cells (place .address) (sizeOf (g .types) (g .fields) r) (s .at .top) low) at (rw size at matched)))
+          let matched = part-cells g ok bytes (over cells) (above-sound cells above) part in
+          let low = rw size at (part-top g ok bytes s sound part) in
+          ok-yes g s _ _ (le-leb (place .address + sizeOf (g .types) (g .fields) r) (s .at .top) low)
+          (more _ (valuesOf g r) (by-value plain) (rw size at matched))
 
       parameter-kind : (rowAt (g .variables) a .kind ≡ 3 → ⊥) → rowAt (g .variables) a .kind ≤ 2
       unfolding kindWithin
@@ -447,15 +218,16 @@ module _ (g : Program) (ok : AcceptedTables (g .types) (g .fields) (g .variables
       argument-ok : NextOk g s (argumentCells tagged g (over cells) k (rowAt (g .variables) a) next)
       unfolding argumentCells
       argument-ok =
-          either-ok g s (eqb (rowAt (g .variables) a .kind) 3) (λ e. reference-ok (eqb-true _ _ e)) λ e.
+          ok-choose g s (eqb (rowAt (g .variables) a .kind) 3) (λ e. reference-ok (eqb-true _ _ e)) λ e.
           let plain = parameter-kind (eqb-false _ _ e) in
-          either-ok g s (leb (rowAt (g .variables) a .a) 2) (λ l. scalar-ok plain (leb-true _ _ l)) λ l.
+          ok-choose g s (leb (rowAt (g .variables) a .a) 2) (λ l. scalar-ok plain (leb-true _ _ l)) λ l.
           copied-ok plain (leb-false _ _ l)
 
   -- ---- all arguments
 
   module _ (q : ℕ) (exists : q < rowsOf (g .procedures))
-      (fitting : s .at .top + frameSize (g .types) (g .fields) (g .variables) (g .procedures) q ≤ length (s .cells)) where
+      (fitting : s .at .top + frameSize (g .types) (g .fields) (g .variables) (g .procedures) q
+      ≤ length (s .cells)) where
     abbrev first : ℕ
     first = firstVariable (g .variables) (g .procedures) q
 
@@ -501,7 +273,8 @@ module _ (g : Program) (ok : AcceptedTables (g .types) (g .fields) (g .variables
           ≤ frameSize (g .types) (g .fields) (g .variables) (g .procedures) q
       place-within =
           let at = place-own g ok q (first + j) exists (record { low = omega arith; high = variable-own }) in
-          rw at (own-within (g .types) (g .fields) (g .variables) (g .procedures) q (first + j) (record { low = omega arith; high = variable-own }))
+          rw at (own-within (g .types) (g .fields) (g .variables) (g .procedures) q (first + j)
+          (record { low = omega arith; high = variable-own }))
 
       passing-next : (cells : List Cell) → Passing j cells → (new : List Cell) (ws : List Want)
           → Slot g (sound .newest ∷ sound .others) (first + j) ws → Matched Fits new ws
@@ -510,8 +283,9 @@ module _ (g : Program) (ok : AcceptedTables (g .types) (g .fields) (g .variables
       passing-next cells p new ws slot matched =
           let args : List Cell = p .arguments in
           let width : length new ≡ widthOf (g .types) (g .fields) (g .variables) (first + j) =
-          matched-length matched ∙ slot-width g ok variable-there slot in
-          let at : s .at .top + placeOf g (first + j) ≡ s .at .top + 3 + length args = omega (arith, place-next, p .filled) in
+          matched-length matched ∙ slot-width g slot in
+          let at : s .at .top + placeOf g (first + j) ≡ s .at .top + 3 + length args =
+          omega (arith, place-next, p .filled) in
           let most = place-within in
           let many = p .above .as-many in
           let room : s .at .top + 3 + length args + length new ≤ length cells = omega arith in
@@ -519,47 +293,50 @@ module _ (g : Program) (ok : AcceptedTables (g .types) (g .fields) (g .variables
           rw at (record {
             above = record {
               as-many = put-length cells new (s .at .top + 3 + length args) room ∙ many;
-              same-below = put-above cells new (s .at .top + 3 + length args) (s .at .top) (omega arith) (omega arith) ∙ p .above .same-below;
+              same-below =
+                  put-above cells new (s .at .top + 3 + length args) (s .at .top) (omega arith) (omega arith)
+                  ∙ p .above .same-below;
             };
             arguments = args ++ new;
             slots = p .slots ++ (ws ∷ []);
             placed = part-put cells args new (s .at .top + 3) (p .placed) room;
-            filled = rw one (omega (arith, length-append args new, p .filled, room-more (sizeOf (g .types) (g .fields)) (g .variables) first j));
-            fits = rw (joined-both (p .slots) (ws ∷ []), append-nil ws) (matched-both (p .fits) matched);
-            slotted = rw (rows-both first j 1) (matched-both (p .slotted) (one-more slot no-more));
+            filled =
+                rw one (omega (
+                  arith,
+                  length-append args new,
+                  p .filled,
+                  room-more (sizeOf (g .types) (g .fields))
+                      (g .variables) first j,
+                ));
+            fits = rw (joined-both (p .slots) (ws ∷ []), append-nil ws) (matched-append (p .fits) matched);
+            slotted = rw (rows-both first j 1) (matched-append (p .slotted) (one-more slot no-more));
           })
 
     -- ---- the frame is entered
 
-    module _ (call : rowAt (g .statements) (s .at .row) .kind ≡ 1) (named : rowAt (g .statements) (s .at .row) .a ≡ q) where
+    module _ (call : rowAt (g .statements) (s .at .row) .kind ≡ 1)
+        (named : rowAt (g .statements) (s .at .row) .a ≡ q) where
       abbrev count : ℕ
       count = rowAt (g .procedures) q .b
 
       row-there : s .at .row < rowsOf (g .statements)
-      row-there =
-          let within = end-within (g .variables) (g .procedures) (g .statements) (ok .procedures) (sound .newest .procedure) (sound .inside .procedure) in
-          let end = sound .inside .end in
-          omega arith
+      row-there = row-within g ok bytes s sound
 
       caller : procedureAt (g .procedures) (s .at .row) ≡ sound .newest .procedure
-      caller =
-          let inside = sound .inside in
-          sym (body-only (g .variables) (g .procedures) (g .statements) (ok .procedures) (sound .newest .procedure) (s .at .row)
-          (record { procedure = inside .procedure; start = inside .start; end = inside .end }))
+      caller = sym (procedure-is g ok bytes s sound)
 
       -- the row behind a call is in the same body
       behind : Inside g (sound .newest .procedure) (s .at .row + 1)
-      behind =
-          let last = no-end (rowAt (g .statements) (s .at .row)) (λ e. absurd (omega arith)) (λ e. absurd (omega arith)) (λ e. absurd (omega arith)) in
-          let b = behind-in (g .variables) (g .procedures) (g .statements) (ok .procedures) (ok .counts .some-procedure) (s .at .row) row-there
-          (g .nodes) (ok .questions .statements) last in
-          let c = rw caller at b in
-          record { procedure = c .procedure; start = c .start; end = c .end }
+      behind = kind-inside g ok bytes s sound 1 call (omega arith) (omega arith) (omega arith)
 
       module _ (cells : List Cell) (p : Passing count cells) where
-        own-locals : LocalsFit g (sound .newest ∷ sound .others) (first + count) (rowAt (g .procedures) q .c)
-        own-locals =
-            locals-fit g (sound .newest ∷ sound .others) (rowAt (g .procedures) q .c) (first + count) (ok .procedures .row q exists .locals)
+        -- "then locals zero"
+        locals-low : (j : ℕ) → first + count ≤ j → j < first + count + rowAt (g .procedures) q .c
+            → rowAt (g .variables) j .kind ≤ 2
+        locals-low j low high = local-low (g .variables) j (ok .procedures .row q exists .locals .each j low high)
+
+        abbrev own-slots : List (List Want)
+        own-slots = slotsFrom g (first + count) (rowAt (g .procedures) q .c)
 
         abbrev locals : List Cell
         locals = map (tagged .blank) (kindsFrom g (first + count) (rowAt (g .procedures) q .c))
@@ -575,12 +352,16 @@ module _ (g : Program) (ok : AcceptedTables (g .types) (g .fields) (g .variables
           caller = procedureAt (g .procedures) (s .at .row);
           back = s .at .row + 1;
           callers-base = s .at .base;
-          slots = p .slots ++ own-locals .slots;
+          slots = p .slots ++ own-slots;
         }
 
-        frame-slots : Matched (Slot g (sound .newest ∷ sound .others)) (rowsFrom first (claimedBy (rowAt (g .procedures) q))) (frame .slots)
+        frame-slots : Matched (Slot g (sound .newest ∷ sound .others))
+            (rowsFrom first (claimedBy (rowAt (g .procedures) q))) (frame .slots)
         unfolding claimedBy
-        frame-slots = rw (rows-both first count (rowAt (g .procedures) q .c)) (matched-both (p .slotted) (own-locals .slotted))
+        frame-slots =
+            rw (rows-both first count (rowAt (g .procedures) q .c))
+            (matched-append (p .slotted) (slots-matched g (sound .newest ∷ sound .others)
+            (rowAt (g .procedures) q .c) (first + count) locals-low))
 
         frame-stack : Stack g (frame ∷ sound .newest ∷ sound .others)
         frame-stack =
@@ -590,11 +371,14 @@ module _ (g : Program) (ok : AcceptedTables (g .types) (g .fields) (g .variables
         frame-fits : Matched Fits (links ++ (p .arguments ++ locals)) (frameWants g frame)
         unfolding frameWants tagged
         frame-fits =
-            let slots : Matched Fits (p .arguments ++ locals) (joined (p .slots ++ own-locals .slots)) =
-            rw (joined-both (p .slots) (own-locals .slots)) (matched-both (p .fits) (own-locals .fits)) in
-            one-more (fits-exactly refl refl) (one-more (fits-exactly refl refl) (one-more (fits-exactly refl refl) slots))
+            let slots : Matched Fits (p .arguments ++ locals) (joined (p .slots ++ own-slots)) =
+            rw (joined-both (p .slots) own-slots) (matched-append (p .fits)
+            (slots-fit g (rowAt (g .procedures) q .c) (first + count) locals-low)) in
+            one-more (fits-exactly refl refl) (one-more (fits-exactly refl refl)
+            (one-more (fits-exactly refl refl) slots))
 
-        frame-length : length (links ++ (p .arguments ++ locals)) ≡ frameSize (g .types) (g .fields) (g .variables) (g .procedures) q
+        frame-length : length (links ++ (p .arguments ++ locals))
+            ≡ frameSize (g .types) (g .fields) (g .variables) (g .procedures) q
         frame-length = matched-length frame-fits ∙ slots-length g ok frame-stack
 
         abbrev zeroed : List Cell
@@ -606,7 +390,8 @@ module _ (g : Program) (ok : AcceptedTables (g .types) (g .fields) (g .variables
             let many = p .above .as-many in
             omega (arith, length-append (p .arguments) locals)
 
-        zeroed-at : s .at .top + (3 + roomFrom (g .types) (g .fields) (g .variables) first count) ≡ s .at .top + 3 + length (p .arguments)
+        zeroed-at : s .at .top + (3 + roomFrom (g .types) (g .fields) (g .variables) first count)
+            ≡ s .at .top + 3 + length (p .arguments)
         zeroed-at = omega (arith, p .filled)
 
         zeroed-part : Part zeroed (s .at .top + 3) (p .arguments ++ locals)
@@ -614,12 +399,14 @@ module _ (g : Program) (ok : AcceptedTables (g .types) (g .fields) (g .variables
 
         zeroed-length : length zeroed ≡ length (s .cells)
         zeroed-length =
-            rw zeroed-at (put-length cells locals (s .at .top + 3 + length (p .arguments)) zeroed-room) ∙ p .above .as-many
+            rw zeroed-at (put-length cells locals (s .at .top + 3 + length (p .arguments)) zeroed-room)
+            ∙ p .above .as-many
 
         zeroed-below : take (s .at .top) zeroed ≡ take (s .at .top) (s .cells)
         zeroed-below =
             let room = zeroed-room in
-            rw zeroed-at (put-above cells locals (s .at .top + 3 + length (p .arguments)) (s .at .top) (omega arith) (omega arith))
+            rw zeroed-at (put-above cells locals (s .at .top + 3 + length (p .arguments)) (s .at .top) (omega arith)
+            (omega arith))
             ∙ p .above .same-below
 
         final-length : length (overwrite zeroed (s .at .top) links) ≡ length (s .cells)
@@ -628,14 +415,21 @@ module _ (g : Program) (ok : AcceptedTables (g .types) (g .fields) (g .variables
             let many = zeroed-length in
             put-length zeroed links (s .at .top) (omega (arith, length-append links (p .arguments ++ locals))) ∙ many
 
-        final-holds : Matched Fits (take (s .at .top + frameSize (g .types) (g .fields) (g .variables) (g .procedures) q) (overwrite zeroed (s .at .top) links))
+        final-holds : Matched Fits
+            (take (s .at .top + frameSize (g .types) (g .fields) (g .variables) (g .procedures) q)
+            (overwrite zeroed (s .at .top) links))
             (wants g (frame ∷ sound .newest ∷ sound .others))
         unfolding wants
         final-holds =
             let many = zeroed-length in
             let stored = sound .stored in
-            rw (frame-cells zeroed links (p .arguments ++ locals) (s .at .top) (frameSize (g .types) (g .fields) (g .variables) (g .procedures) q) (omega arith) frame-length zeroed-part, zeroed-below)
-            (matched-both (sound .holding) frame-fits)
+            rw (
+              frame-cells zeroed links (p .arguments ++ locals) (s .at .top)
+                  (frameSize (g .types) (g .fields) (g .variables) (g .procedures) q)
+                  (omega arith) frame-length zeroed-part,
+              zeroed-below,
+            )
+            (matched-append (sound .holding) frame-fits)
 
         entered-sound : Sound g (record {
           at = record {
@@ -673,7 +467,8 @@ module _ (g : Program) (ok : AcceptedTables (g .types) (g .fields) (g .variables
       -- ---- the call
 
       call-row : CallRow (g .nodes) (g .procedures) (rowAt (g .statements) (s .at .row))
-      call-row = call-is (g .nodes) (g .procedures) (g .statements) (ok .questions .statements) (s .at .row) row-there call
+      call-row =
+          call-is (g .nodes) (g .procedures) (g .statements) (ok .questions .statements) (s .at .row) row-there call
 
       argument-there : (j : ℕ) → j < count → isArgument (g .nodes) (rowAt (g .statements) (s .at .row) .b + j) ≡ true
       argument-there j less =
@@ -687,7 +482,8 @@ module _ (g : Program) (ok : AcceptedTables (g .types) (g .fields) (g .variables
       argument-ruled j less =
           let counted : rowAt (g .procedures) (rowAt (g .statements) (s .at .row) .a) .b ≡ count =
           ap (λ x. rowAt (g .procedures) x .b) named in
-          let ruled = call-ruled (g .types) (g .fields) (g .variables) (g .procedures) (g .nodes) (g .statements) (ok .questions .rules)
+          let ruled = call-ruled (g .types) (g .fields) (g .variables) (g .procedures) (g .nodes) (g .statements)
+          (ok .questions .rules)
           (s .at .row) row-there call in
           rw (caller, named) at (ruled .argument j (omega arith))
 
@@ -703,15 +499,16 @@ module _ (g : Program) (ok : AcceptedTables (g .types) (g .fields) (g .variables
           (ok .procedures .row q exists .parameters .each (first + j) (omega arith) (omega arith))
           (argument-there j (omega arith)) (argument-ruled j (omega arith)) cells (p .above) _
           λ new ws slot matched.
-          passed-ok n (j + 1) (rowAt (g .statements) (s .at .row) .b + j + 1) (first + j + 1) (omega arith) (omega arith) (omega arith) _
+          passed-ok n (j + 1) (rowAt (g .statements) (s .at .row) .b + j + 1) (first + j + 1) (omega arith)
+          (omega arith) (omega arith) _
           (passing-next j (omega arith) cells p new ws slot matched))
 
   -- the procedure of a call
-  callee-there : rowAt (g .statements) (s .at .row) .kind ≡ 1 → rowAt (g .statements) (s .at .row) .a < rowsOf (g .procedures)
+  callee-there : rowAt (g .statements) (s .at .row) .kind ≡ 1
+      → rowAt (g .statements) (s .at .row) .a < rowsOf (g .procedures)
   callee-there call =
-      let within = end-within (g .variables) (g .procedures) (g .statements) (ok .procedures) (sound .newest .procedure) (sound .inside .procedure) in
-      let end = sound .inside .end in
-      call-is (g .nodes) (g .procedures) (g .statements) (ok .questions .statements) (s .at .row) (omega arith) call .procedure
+      call-is (g .nodes) (g .procedures) (g .statements) (ok .questions .statements) (s .at .row)
+      (row-within g ok bytes s sound) call .procedure
 
   -- a call goes on to a sound state or ends in a trap
   pub called-ok : rowAt (g .statements) (s .at .row) .kind ≡ 1
@@ -720,7 +517,9 @@ module _ (g : Program) (ok : AcceptedTables (g .types) (g .fields) (g .variables
   called-ok call =
       let q : ℕ = rowAt (g .statements) (s .at .row) .a in
       let there = callee-there call in
-      either-ok g s _ (λ e. ok-trapped (above-unchanged (s .cells) (record { as-many = refl; same-below = refl }))) λ e.
-      let fitting : s .at .top + frameSize (g .types) (g .fields) (g .variables) (g .procedures) q ≤ length (s .cells) = ltb-false _ _ e in
+      ok-choose g s _ (λ e. ok-trapped (unchanged g s)) λ e.
+      let fitting : s .at .top + frameSize (g .types) (g .fields) (g .variables) (g .procedures) q
+      ≤ length (s .cells) = ltb-false _ _ e in
       passed-ok q there fitting call refl (rowAt (g .procedures) q .b) 0 (rowAt (g .statements) (s .at .row) .b)
-      (firstVariable (g .variables) (g .procedures) q) (omega arith) (omega arith) (omega arith) (s .cells) (passing-none q there fitting)
+      (firstVariable (g .variables) (g .procedures) q) (omega arith) (omega arith) (omega arith) (s .cells)
+      (passing-none q there fitting)

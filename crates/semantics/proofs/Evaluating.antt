@@ -1,39 +1,35 @@
--- Finding and evaluating from a sound state: an object of the node's type, a value of its kind, or a trap.
-use mathlib.Core.Path.{_≡_, refl, sym, _∙_, ap, subst}
+-- Finding and evaluating from a sound state: an object of the node's type, a value of its kind, or a trap; and what
+-- cells below top read as.
+use mathlib.Core.Path.{_≡_, refl, sym, _∙_, subst}
 use mathlib.Core.Bool.{Bool, true, false, _&&_}
-use mathlib.Core.List.{List, [], _∷_, _++_, map, append-nil}
+use mathlib.Core.List.{[], List, _∷_}
 use mathlib.Core.Logic.{_⊎_, inl, inr, ⊎-elim}
-use Prim.Native.Nat.{ℕ, suc, _+_, _-_, _*_, _≤_, _<_}
+use Prim.Native.Nat.{ℕ, _+_, _≤_, _<_}
 use native.Mathlib.Omega.{arith}
-use native.Mathlib.Decide.{decLe, decLt}
-use borrow.Author.Tests.{lt-ltb, le-ltb, le-leb, lt-leb, eq-eqb, ne-eqb, eqb-true, leb-true, ltb-true}
+use native.Mathlib.Decide.{decLe}
+use borrow.Author.Tests.{lt-ltb, le-leb, lt-leb, eq-eqb, ne-eqb, eqb-true, leb-true, ltb-true}
 use lib.Dec.{ltb, leb, eqb}
 use lib.IntN.{ℤ, pos, negsuc}
-use lib.ListN.{length, getD, take, drop, length-drop, length-append}
-use Rattle.prelude.specs.Choice.{choose, _also_}
+use lib.ListN.{take, length, length-append}
+use Rattle.prelude.specs.Choice.{choose}
 use Rattle.prelude.specs.Parts.{Part}
-use Rattle.prelude.proofs.Choice.{choose-yes, choose-no, choose-cases, also-true, also-yes, clash}
-use Rattle.prelude.proofs.Parts.{part-part}
+use Rattle.prelude.proofs.Choice.{choose-yes, choose-no, choose-cases, also-yes, clash}
 use Rattle.prelude.proofs.Rec.{rec-ind}
 use Rattle.image.specs.declared.Row.{Row}
 use Rattle.image.specs.Rows.{rowAt, rowsOf}
-use Rattle.image.specs.Faults.{KeptIn}
-use Rattle.image.proofs.Bytes.{Bytes, Small, row-small}
-use Rattle.shapes.specs.Sizes.{sizeOf, layoutOf}
+use Rattle.image.proofs.Bytes.{Bytes, row-small}
 use Rattle.shapes.proofs.Layouts.{decide}
-use Rattle.relations.specs.declared.FieldAnswer.{FieldAnswer}
-use Rattle.relations.specs.declared.FieldAnswer.the-variants.{Missing, Field}
+use Rattle.relations.specs.declared.FieldAnswer.the-variants.{Field}
 use Rattle.relations.specs.Extends.{extends}
 use Rattle.relations.specs.Fields.{fieldOf}
-use Rattle.relations.proofs.Extension.{extends-refl}
-use Rattle.values.specs.Values.{BOOLEAN, INTEGER, SET, kindOf, InRange, Gives, Gives.value, Gives.trapped, bind, cellOf, constantOf}
+use Rattle.relations.proofs.Extension.{extends-refl, extends-trans}
+use Rattle.values.specs.Values.{BOOLEAN, INTEGER, kindOf, InRange, Gives, Gives.value, Gives.trapped, bind, cellOf}
 use Rattle.values.specs.declared.Value.{Value}
 use Rattle.values.specs.declared.Value.the-variants as Vs
 use Rattle.values.specs.declared.Trap.{Trap}
-use Rattle.values.specs.declared.Trap.the-variants as Ts
 use Rattle.values.specs.declared.Answer.{Answer}
 use Rattle.values.specs.declared.Answer.the-variants as As
-use Rattle.values.proofs.Cells.{Held, cell-held}
+use Rattle.values.proofs.Cells.{cell-held}
 use Rattle.values.proofs.Giving.{gives-boolean}
 use Rattle.values.proofs.Ranges.{constant-typed}
 use Rattle.kinds.specs.declared.KindAnswer.{KindAnswer}
@@ -42,40 +38,39 @@ use Rattle.kinds.specs.Kinds.{dyadicKind, monadicKind}
 use Rattle.operators.specs.Operators.{monadicOf, appliedTo}
 use Rattle.operators.proofs.Typed.{monadic-typed as operator-typed}
 use Rattle.operators.proofs.Skipping.{applied-typed}
-use Rattle.frames.specs.Variables.{isGlobal, isLocal, isParameter, kindWithin}
-use Rattle.frames.specs.Procedures.{firstVariable, claimedBy}
-use Rattle.frames.proofs.Accepted.{VariableRow, ProcedureRow, ProceduresKept}
+use Rattle.frames.specs.Variables.{isGlobal}
 use Rattle.nodes.specs.Nodes.{isDesignator}
-use Rattle.nodes.proofs.Accepted.{NodeRow, NodeRow.is-constant, NodeRow.is-variable, NodeRow.is-field, NodeRow.is-element}
-use Rattle.nodes.proofs.Accepted.{NodeRow.is-guard, NodeRow.is-dyadic, NodeRow.is-monadic, NodeRow.is-test, NodeRow.is-argument}
-use Rattle.nodes.proofs.Accepted.{Designator, designator-is, Child, Whole, ConstantNode, VariableNode, FieldNode, ElementNode, GuardNode}
-use Rattle.nodes.proofs.Accepted.{DyadicNode, MonadicNode, ArgumentNode}
-use Rattle.places.specs.Places.{placeIn}
-use Rattle.places.proofs.Counting.{first-next}
+use Rattle.nodes.proofs.Accepted.{NodeRow, NodeRow.is-constant, NodeRow.is-variable, NodeRow.is-field}
+use Rattle.nodes.proofs.Accepted.{NodeRow.is-element, NodeRow.is-guard, NodeRow.is-dyadic, NodeRow.is-monadic}
+use Rattle.nodes.proofs.Accepted.{NodeRow.is-test, NodeRow.is-argument, Designator, designator-is, Whole}
+use Rattle.nodes.proofs.Accepted.{ConstantNode, VariableNode, FieldNode, ElementNode, GuardNode, DyadicNode}
+use Rattle.nodes.proofs.Accepted.{MonadicNode, ArgumentNode}
 use Rattle.typing.specs.Typing.{typeOf}
-use Rattle.typing.proofs.Accepted.{constant-typed as constant-type, variable-typed, field-typed, element-typed, guard-typed}
-use Rattle.typing.proofs.Accepted.{dyadic-typed, monadic-typed, test-typed, argument-typed}
-use Rattle.typing.proofs.Accepted.{FieldTyped, ElementTyped, GuardTyped, DyadicTyped, MonadicTyped, TestTyped, Narrowing}
+use Rattle.typing.proofs.Accepted.{constant-typed as constant-type, variable-typed, field-typed, element-typed}
+use Rattle.typing.proofs.Accepted.{guard-typed, dyadic-typed, monadic-typed, test-typed, argument-typed}
 use Rattle.owners.specs.Owners.{ownVariable, ownBelow}
-use Rattle.owners.proofs.Accepted.{own-variable, variable-own, field-own, element-own, guard-own, dyadic-own, monadic-own, test-own, argument-own}
-use Rattle.checker.specs.Prepared.{CountsFit}
-use Rattle.checker.proofs.Accepted.{AcceptedTables, AllYes}
+use Rattle.owners.proofs.Accepted.{own-variable, variable-own, field-own, element-own, guard-own, dyadic-own}
+use Rattle.owners.proofs.Accepted.{monadic-own, test-own, argument-own}
+use Rattle.checker.proofs.Accepted.{AcceptedTables}
 use Rattle.semantics.specs.declared.Place.{Place}
 use Rattle.semantics.specs.declared.Found.{Found}
 use Rattle.semantics.specs.declared.Found.the-variants as Fs
-use Rattle.semantics.specs.declared.Mark.{Mark}
-use Rattle.semantics.specs.declared.Mark.the-variants.{Number, Nothing}
-use Rattle.semantics.specs.Memory.{ADDRESS, TYPE, Cell, Memory, tagged, markOf, cellAt, valueAt, markAt}
+use Rattle.semantics.specs.declared.Mark.the-variants.{Number}
+use Rattle.semantics.specs.Memory.{ADDRESS, TYPE, Cell, tagged, markOf, cellAt, valueAt, markAt}
 use Rattle.semantics.specs.Layout.{Program, placeOf}
-use Rattle.semantics.specs.Finding.{reach, content, index, withMark, object, parameterPlace, variablePlace, fieldPlace, elementPlace, arrayPlace}
-use Rattle.semantics.specs.Finding.{guardPlace, testOf, Meaning, noMeaning, designator, meaningBy, meaningOf, findOf, evalOf}
+use Rattle.semantics.specs.Finding.{reach, content, index, withMark, object, parameterPlace, variablePlace}
+use Rattle.semantics.specs.Finding.{fieldPlace, elementPlace, arrayPlace, guardPlace, testOf, Meaning}
+use Rattle.semantics.specs.Finding.{noMeaning, designator, meaningBy, meaningOf, findOf, evalOf}
 use Rattle.semantics.specs.Stepping.{State}
-use Rattle.semantics.specs.Sound.{Want, Want.any-value, Want.exactly, Fits, Fits.fits-value, Fits.fits-exactly, Matched, Frame}
-use Rattle.semantics.specs.Sound.{valuesOf, frameWants, wants, room, Own, Object, Object.of-global, Object.of-frame, Object.of-older}
-use Rattle.semantics.specs.Sound.{Object.of-field, Object.of-element, Slot, Slot.by-value, Slot.by-reference, Stack, Stack.a-frame, Sound}
-use Rattle.semantics.proofs.Holding.{matched-at, cell-below}
-use Rattle.semantics.proofs.Objects.{object-typed, object-part, slot-at, place-own, place-global}
-use Rattle.semantics.proofs.Kinship.{extends-other, extension-field, scalar-layout, scalar-other, global-low}
+use Rattle.semantics.specs.Sound.{Want, Want.any-value, Want.exactly, Fits, Fits.fits-value, Fits.fits-exactly}
+use Rattle.semantics.specs.Sound.{Matched, Frame, valuesOf, frameWants, wants, room, Own, Object}
+use Rattle.semantics.specs.Sound.{Object.of-global, Object.of-frame, Object.of-older, Object.of-field}
+use Rattle.semantics.specs.Sound.{Object.of-element, Slot, Slot.by-value, Slot.by-reference, Stack}
+use Rattle.semantics.specs.Sound.{Stack.a-frame, Sound}
+use Rattle.semantics.proofs.Holding.{part-next, part-end, matched-at, cell-below}
+use Rattle.semantics.proofs.Objects.{global-is, own-kind, object-typed, object-part, object-front, slot-at}
+use Rattle.semantics.proofs.Objects.{place-own, place-global}
+use Rattle.semantics.proofs.Kinship.{extends-other, extension-field, scalar-layout, global-low}
 
 -- an object of type x was found, or a trap ends the step
 pub data FoundOk (g : Program) (fs : List Frame) (x : ℕ) : Found → Type 0 where
@@ -113,19 +108,27 @@ module _ {g : Program} {fs : List Frame} where
   content-ok k (found-ok {place = place} a b c) next = next place a b c
   content-ok k found-trap next = trapped
 
-  index-ok : {y : ℕ} {m : Answer} (k : ℤ → Found) → Gives INTEGER m → ((z : ℤ) → FoundOk g fs y (k z)) → FoundOk g fs y (index m k)
+  index-ok : {y : ℕ} {m : Answer} (k : ℤ → Found) → Gives INTEGER m → ((z : ℤ) → FoundOk g fs y (k z))
+      → FoundOk g fs y (index m k)
   unfolding index
   index-ok k (value {v = Vs.Int z} e range) next = next z
   index-ok k (value {v = Vs.Bool b} e range) next = absurd (bool-other b e)
   index-ok k (value {v = Vs.Set b} e range) next = absurd (set-other b e)
   index-ok k trapped next = found-trap
 
-  choose-ok : {x : ℕ} (b : Bool) {m n : Found} → (b ≡ true → FoundOk g fs x m) → (b ≡ false → FoundOk g fs x n) → FoundOk g fs x (choose b m n)
+  -- "every other object's is its declared type"
+  object-ok : {at r : ℕ} → Object g fs at r → FoundOk g fs r (object at r)
+  object-ok {at} {r} o =
+      found-ok {place = record { address = at; declared = r; dynamic = r }} refl (extends-refl (g .types) r) o
+
+  choose-ok : {x : ℕ} (b : Bool) {m n : Found} → (b ≡ true → FoundOk g fs x m) → (b ≡ false → FoundOk g fs x n)
+      → FoundOk g fs x (choose b m n)
   unfolding choose
   choose-ok true yes-case no-case = yes-case refl
   choose-ok false yes-case no-case = no-case refl
 
-bind-ok : {x y : ℕ} {m : Answer} (k : Value → Answer) → Gives x m → ((v : Value) → kindOf v ≡ x → InRange v → Gives y (k v)) → Gives y (bind m k)
+bind-ok : {x y : ℕ} {m : Answer} (k : Value → Answer) → Gives x m
+    → ((v : Value) → kindOf v ≡ x → InRange v → Gives y (k v)) → Gives y (bind m k)
 unfolding bind
 bind-ok k (value {v = v} e range) next = next v e range
 bind-ok k trapped next = trapped
@@ -142,13 +145,15 @@ dyadic-operands : (op left right x : ℕ) → dyadicKind op left right ≡ Kind 
 unfolding dyadicKind
 dyadic-operands op left right x e =
     ⊎-elim
-    (λ k. let l = eqb-true left 0 (k .0) in let r = eqb-true right 0 (test-yes _ (k .1) .0) in (omega arith, omega arith))
+    (λ k. let l = eqb-true left 0 (k .0) in let r = eqb-true right 0 (test-yes _ (k .1) .0) in
+    (omega arith, omega arith))
     (λ k. ⊎-elim
     (λ m. let l = eqb-true left 1 (m .0) in
     ⊎-elim (λ a. let r = eqb-true right 1 (a .0) in (omega arith, omega arith))
     (λ a. let r = eqb-true right 2 (test-yes _ (a .1) .0) in (omega arith, omega arith))
     (choose-cases (eqb right 1) (m .1)))
-    (λ m. let (a, b) = test-yes _ (m .1) in let l = eqb-true left 2 a in let r = eqb-true right 2 (test-yes _ b .0) in (omega arith, omega arith))
+    (λ m. let (a, b) = test-yes _ (m .1) in let l = eqb-true left 2 a in let r = eqb-true right 2
+    (test-yes _ b .0) in (omega arith, omega arith))
     (choose-cases (eqb left 1) (k .1)))
     (choose-cases (eqb left 0) e)
 
@@ -166,20 +171,70 @@ monadic-operand op operand x e =
 
 -- ---- wants and cells
 
-module _ {w : List Want} {at : ℕ} {b : Want} {ws : List Want} (p : Part w at (b ∷ ws)) where
-  part-inside : at < length w
-  part-inside = let l = length-drop at w in let e = ap length (p .seen) in let h = p .within in omega arith
+-- a cell below top
+cell-there : (top : ℕ) (cells : List Cell) {w ws : List Want} {b : Want} {a : ℕ} → Matched Fits (take top cells) w
+    → Part w a (b ∷ ws) → a < top → Fits (cellAt tagged cells a) b
+unfolding cellAt
+cell-there top cells {a = a} h p low =
+    let d : Cell = tagged .loose (pos 0) in
+    rw (← cell-below cells d a top low) (matched-at d h p)
 
-  part-next : Part w (at + 1) ws
-  part-next = part-part p (record { rest = []; seen = sym (append-nil ws); within = omega arith })
+-- a link, an address or a type reads as its number
+marked-number : (c : Cell) (k n : ℕ) → n ≤ 65536 → (k ≡ TYPE → n < 65536) → Fits c (exactly k n)
+    → tagged .marked k c ≡ Number n
+unfolding tagged markOf
+marked-number c k n small type (fits-exactly kind e) =
+    choose-yes _ _ _ (eq-eqb k (c .kind) (sym kind)) ∙ rw e (choose-yes _ _ _ (lt-ltb n _ (bound (decide k TYPE))))
+  where
+    bound : (k ≡ TYPE) ⊎ (k ≡ TYPE → ⊥) → n < choose (eqb k TYPE) 65536 4294967296
+    bound (inl same) = rw (choose-yes {X = ℕ} _ 65536 4294967296 (eq-eqb k TYPE same)) (type same)
+    bound (inr other) = rw (choose-no {X = ℕ} _ 65536 4294967296 (ne-eqb k TYPE other)) (omega arith)
+
+-- such a cell below top
+pub mark-there : (top : ℕ) (cells : List Cell) {w ws : List Want} {k n a : ℕ} → Matched Fits (take top cells) w
+    → Part w a (exactly k n ∷ ws) → a < top → n ≤ 65536 → (k ≡ TYPE → n < 65536)
+    → markAt tagged top cells k a ≡ Number n
+unfolding markAt
+mark-there top cells {k = k} {n} {a} h p low small type =
+    choose-yes _ _ _ (lt-ltb a top low)
+    ∙ marked-number (cellAt tagged cells a) k n small type (cell-there top cells h p low)
+
+-- ---- scalar objects
+
+module _ (g : Program)
+    (ok : AcceptedTables (g .types) (g .fields) (g .variables) (g .procedures) (g .nodes) (g .statements)) where
+  pub scalar-values : (x : ℕ) → x ≤ 2 → valuesOf g x ≡ any-value x ∷ []
+  unfolding valuesOf
+  scalar-values x h = let most = ok .scalars in rw (scalar-layout (g .types) (g .fields) (ok .types) x h (omega arith))
+
+  module _ {fs : List Frame} (stack : Stack g fs) (place : Place)
+      (extended : extends (g .types) (place .dynamic) (place .declared) ≡ true)
+      (object : Object g fs (place .address) (place .dynamic)) where
+    -- the cells of an object that was found, as those of a type that its declared one extends
+    pub found-front : (u : ℕ) → extends (g .types) (place .declared) u ≡ true
+        → Part (wants g fs) (place .address) (valuesOf g u)
+    found-front u e =
+        object-front g ok u stack object (extends-trans (g .types) (place .dynamic) (place .declared) u extended e)
+
+    -- a scalar one's single cell
+    pub found-scalar : place .declared ≤ 2 → Part (wants g fs) (place .address) (any-value (place .declared) ∷ [])
+    found-scalar h =
+        rw (← scalar-values (place .declared) h)
+        (found-front (place .declared) (extends-refl (g .types) (place .declared)))
 
 -- ---- nodes
+
+pub designator-yes : {n : List ℕ} {k : ℕ} → Designator n k → isDesignator n k ≡ true
+unfolding isDesignator
+designator-yes {n} {k} d =
+    also-yes (le-leb 1 (rowAt n k .kind) (d .least)) (le-leb (rowAt n k .kind) 4 (d .most))
 
 record MeaningOk (g : Program) (fs : List Frame) (r x : ℕ) (m : Meaning) : Type 0 where
   place : Designates g r → FoundOk g fs x (m .place)
   value : x ≤ 2 → Gives x (m .value)
 
-module _ (g : Program) (ok : AcceptedTables (g .types) (g .fields) (g .variables) (g .procedures) (g .nodes) (g .statements))
+module _ (g : Program)
+    (ok : AcceptedTables (g .types) (g .fields) (g .variables) (g .procedures) (g .nodes) (g .statements))
     (bytes : Bytes (g .nodes)) (s : State Cell) (sound : Sound g s) where
   abbrev frames : List Frame
   frames = sound .newest ∷ sound .others
@@ -201,108 +256,72 @@ module _ (g : Program) (ok : AcceptedTables (g .types) (g .fields) (g .variables
 
   -- ---- cells below top
 
-  cell-fits : {at : ℕ} {b : Want} {ws : List Want} → Part (wants g frames) at (b ∷ ws) → (at < top) × Fits (cellAt tagged cells at) b
-  unfolding cellAt
-  cell-fits {at} p =
-      let inside : at < top = let e = sound .ends in let h = part-inside p in omega arith in
-      (inside, rw (← cell-below cells (tagged .loose (pos 0)) at top inside) (matched-at (tagged .loose (pos 0)) (sound .holding) p))
+  pub part-top : {a : ℕ} {ws : List Want} → Part (wants g frames) a ws → a + length ws ≤ s .at .top
+  part-top p = omega (arith, part-end p, sound .ends)
+
+  part-inside : {a : ℕ} {b : Want} {ws : List Want} → Part (wants g frames) a (b ∷ ws) → a < top
+  part-inside p = let h = part-top p in omega arith
 
   held-value : (x : ℕ) (c : Cell) → Fits c (any-value x) → Gives x (tagged .held x c)
   unfolding tagged
   held-value x c (fits-value {v = v} kind e) =
       let held = cell-held x (c .number) e in
-      rw (choose-yes _ (cellOf x (c .number)) As.Stuck (eq-eqb x (c .kind) (sym kind)), e) (value (held .kind) (held .range))
-
-  marked-number : (k n : ℕ) (c : Cell) → n < 65536 + 1 → (k ≡ TYPE → n < 65536) → Fits c (exactly k n) → tagged .marked k c ≡ Number n
-  unfolding tagged markOf
-  marked-number k n c small type (fits-exactly kind e) =
-      choose-yes _ _ _ (eq-eqb k (c .kind) (sym kind)) ∙ rw e (choose-yes _ _ _ (lt-ltb n _ (bound (decide k TYPE))))
-    where
-      bound : (k ≡ TYPE) ⊎ (k ≡ TYPE → ⊥) → n < choose (eqb k TYPE) 65536 4294967296
-      bound (inl same) = rw (choose-yes {X = ℕ} _ 65536 4294967296 (eq-eqb k TYPE same)) (type same)
-      bound (inr other) = rw (choose-no {X = ℕ} _ 65536 4294967296 (ne-eqb k TYPE other)) (omega arith)
-
-  mark-is : (k n : ℕ) {at : ℕ} {ws : List Want} → Part (wants g frames) at (exactly k n ∷ ws) → n < 65536 + 1 → (k ≡ TYPE → n < 65536)
-      → markAt tagged top cells k at ≡ Number n
-  unfolding markAt
-  mark-is k n {at} p small type =
-      let (inside, fits) = cell-fits p in
-      choose-yes _ _ _ (lt-ltb at top inside) ∙ marked-number k n (cellAt tagged cells at) small type fits
+      rw (choose-yes _ (cellOf x (c .number)) As.Stuck (eq-eqb x (c .kind) (sym kind)), e)
+      (value (held .kind) (held .range))
 
   -- ---- an object's value
 
-  scalar-value : (x : ℕ) → x ≤ 2 → (place : Place) → place .declared ≡ x → extends (g .types) (place .dynamic) (place .declared) ≡ true
-      → Object g frames (place .address) (place .dynamic) → Gives x (valueAt tagged top cells (place .declared) (place .address))
-  unfolding valueAt valuesOf
+  scalar-value : (x : ℕ) → x ≤ 2 → (place : Place) → place .declared ≡ x
+      → extends (g .types) (place .dynamic) (place .declared) ≡ true
+      → Object g frames (place .address) (place .dynamic)
+      → Gives x (valueAt tagged top cells (place .declared) (place .address))
+  unfolding valueAt
   scalar-value x h place declared extended object =
-      let scalars = ok .scalars in
-      let low = object-typed g ok object in
-      let other : rowAt (g .types) (place .declared) .kind ≡ 4 → ⊥ = rw declared (scalar-other (g .types) (g .fields) (ok .types) x (omega arith) (omega arith)) in
-      let dynamic : place .dynamic ≡ x = extends-other (g .types) (g .fields) (ok .types) (place .dynamic) (place .declared) extended low other ∙ declared in
-      let part = rw dynamic at (object-part g ok (sound .stack) object) in
-      let one = rw (scalar-layout (g .types) (g .fields) (ok .types) x (omega arith) (omega arith)) at part in
-      let (inside, fits) = cell-fits one in
-      rw (declared, choose-yes _ (tagged .held x (cellAt tagged cells (place .address))) As.Stuck (lt-ltb (place .address) top inside))
-      (held-value x (cellAt tagged cells (place .address)) fits)
+      let one = found-scalar g ok (sound .stack) place extended object (omega arith) in
+      let inside = part-inside one in
+      let c : Cell = cellAt tagged cells (place .address) in
+      let gives = held-value (place .declared) c (cell-there top cells (sound .holding) one inside) in
+      rw (choose-yes _ (tagged .held (place .declared) c) As.Stuck (lt-ltb (place .address) top inside))
+      (rw declared (rw declared at gives))
 
-  designator-ok : (r x : ℕ) (found : Found) → FoundOk g frames x found → MeaningOk g frames r x (designator tagged top cells found)
+  designator-ok : (r x : ℕ) (found : Found) → FoundOk g frames x found
+      → MeaningOk g frames r x (designator tagged top cells found)
   unfolding designator
   designator-ok r x found is = record {
     place = λ d. is;
-    value = λ h. content-ok (λ place. valueAt tagged top cells (place .declared) (place .address)) is (scalar-value x h);
+    value =
+        λ h. content-ok (λ place. valueAt tagged top cells (place .declared) (place .address)) is (scalar-value x h);
   }
 
   -- ---- variables
 
-  own-kind : (a : ℕ) → Own g procedure a → (1 ≤ rowAt (g .variables) a .kind) × (rowAt (g .variables) a .kind ≤ 3)
-  unfolding claimedBy kindWithin
-  own-kind a own =
-      let q = procedure in
-      let first = firstVariable (g .variables) (g .procedures) q in
-      let row = ok .procedures .row q there in
-      let next = first-next (g .variables) (g .procedures) q in
-      let one : q + 1 ≡ suc q = omega arith in
-      let high = rw one at (own .high) in
-      let low = own .low in
-      go (decLt a (first + rowAt (g .procedures) q .b))
-      (λ l. also-true _ _ (row .parameters .each a low l))
-      (λ l. also-true _ _ (row .locals .each a l (omega arith)))
-    where
-      go : Dec (a < firstVariable (g .variables) (g .procedures) procedure + rowAt (g .procedures) procedure .b)
-          → (a < firstVariable (g .variables) (g .procedures) procedure + rowAt (g .procedures) procedure .b
-          → (leb 2 (rowAt (g .variables) a .kind) ≡ true) × (leb (rowAt (g .variables) a .kind) 3 ≡ true))
-          → (firstVariable (g .variables) (g .procedures) procedure + rowAt (g .procedures) procedure .b ≤ a
-          → (leb 1 (rowAt (g .variables) a .kind) ≡ true) × (leb (rowAt (g .variables) a .kind) 1 ≡ true))
-          → (1 ≤ rowAt (g .variables) a .kind) × (rowAt (g .variables) a .kind ≤ 3)
-      go (yes l) parameters locals = let (x, y) = parameters l in let b : 2 ≤ rowAt (g .variables) a .kind = leb-true 2 _ x in (omega arith, leb-true _ 3 y)
-      go (no l) parameters locals = let (x, y) = locals (omega arith) in let b : rowAt (g .variables) a .kind ≤ 1 = leb-true _ 1 y in (leb-true 1 _ x, omega arith)
-
-  global-kind : (a : ℕ) → isGlobal (g .variables) a ≡ true → rowAt (g .variables) a .kind ≡ 0
-  unfolding isGlobal
-  global-kind a e = eqb-true (rowAt (g .variables) a .kind) 0 e
-
   abbrev variableAt : ℕ → Found
   variableAt a = variablePlace tagged g base top cells a (rowAt (g .variables) a)
 
-  variable-global : (a : ℕ) → a < rowsOf (g .variables) → isGlobal (g .variables) a ≡ true → FoundOk g frames (rowAt (g .variables) a .a) (variableAt a)
+  variable-global : (a : ℕ) → a < rowsOf (g .variables) → isGlobal (g .variables) a ≡ true
+      → FoundOk g frames (rowAt (g .variables) a .a) (variableAt a)
   unfolding variablePlace
   variable-global a low e =
-      let kind = global-kind a e in
-      rw (choose-yes _ (object (placeOf g a) (rowAt (g .variables) a .a)) _ (eq-eqb (rowAt (g .variables) a .kind) 0 kind))
-      (found-ok {place = record { address = placeOf g a; declared = rowAt (g .variables) a .a; dynamic = rowAt (g .variables) a .a }} refl (extends-refl (g .types) (rowAt (g .variables) a .a))
-      (rw (place-global g ok a e) (of-global (global-low (g .types) (g .variables) a (ok .variable a low) low e kind))))
+      let kind = global-is (g .variables) a e in
+      rw (choose-yes _ (object (placeOf g a) (rowAt (g .variables) a .a)) _
+      (eq-eqb (rowAt (g .variables) a .kind) 0 kind))
+      (object-ok (rw (place-global g ok a e)
+      (of-global (global-low (g .types) (g .variables) a (ok .variable a low) low e kind))))
 
   -- a local or value parameter stands in the newest frame
   variable-plain : (a : ℕ) → Own g procedure a → 1 ≤ rowAt (g .variables) a .kind → rowAt (g .variables) a .kind ≤ 2
       → FoundOk g frames (rowAt (g .variables) a .a) (variableAt a)
   unfolding variablePlace
   variable-plain a own least most =
-      rw (choose-no _ _ _ (ne-eqb (rowAt (g .variables) a .kind) 0 (λ e. absurd (omega arith))), choose-yes _ _ _ (le-leb (rowAt (g .variables) a .kind) 2 most))
-      (found-ok {place = record { address = base + placeOf g a; declared = rowAt (g .variables) a .a; dynamic = rowAt (g .variables) a .a }} refl (extends-refl (g .types) (rowAt (g .variables) a .a))
-      (rw (sound .begins, place-own g ok procedure a there own) (of-frame own most)))
+      rw (
+        choose-no _ _ _ (ne-eqb (rowAt (g .variables) a .kind) 0 (λ e. absurd (omega arith))),
+        choose-yes _ _ _ (le-leb (rowAt (g .variables) a .kind) 2 most),
+      )
+      (object-ok (rw (sound .begins, place-own g ok procedure a there own) (of-frame own most)))
 
   -- the address of an object, and its type, as numbers of cells
-  object-small : {fs : List Frame} {at r : ℕ} → Stack g fs → Object g fs at r → room g fs ≤ 65536 → (at < 65536 + 1) × (r < 65536)
+  object-small : {fs : List Frame} {at r : ℕ} → Stack g fs → Object g fs at r → room g fs ≤ 65536
+      → (at ≤ 65536) × (r < 65536)
   object-small st object small =
       let within = object-part g ok st object .within in
       let typed = object-typed g ok object in
@@ -325,16 +344,24 @@ module _ (g : Program) (ok : AcceptedTables (g .types) (g .fields) (g .variables
       omega arith
 
   parameter-slot : (a : ℕ) {ws : List Want} → Slot g (sound .others) a ws → rowAt (g .variables) a .kind ≡ 3 → (at : ℕ)
-      → Part (wants g frames) at ws → FoundOk g frames (rowAt (g .variables) a .a) (parameterPlace tagged top cells at (rowAt (g .variables) a .a))
+      → Part (wants g frames) at ws
+      → FoundOk g frames (rowAt (g .variables) a .a) (parameterPlace tagged top cells at (rowAt (g .variables) a .a))
   unfolding parameterPlace withMark
   parameter-slot a (by-value most) kind at part = absurd (omega arith)
   parameter-slot a (by-reference {at = address} {r = r} is object extended) kind at part =
       let small = older-small in
       let (low, type) = object-small older object small in
-      rw (mark-is ADDRESS address part low (λ e. absurd (omega arith)), mark-is TYPE r (part-next part) (omega arith) (λ e. type))
-      (found-ok {place = record { address = address; declared = rowAt (g .variables) a .a; dynamic = r }} refl extended (of-older object))
+      let next = part-next part in
+      rw (
+        mark-there top cells {k = ADDRESS} {n = address} (sound .holding) part (part-inside part) low
+            (λ e. absurd (omega arith)),
+        mark-there top cells {k = TYPE} {n = r} (sound .holding) next (part-inside next) (omega arith) (λ e. type),
+      )
+      (found-ok {place = record { address = address; declared = rowAt (g .variables) a .a; dynamic = r }}
+      refl extended (of-older object))
 
-  variable-parameter : (a : ℕ) → Own g procedure a → rowAt (g .variables) a .kind ≡ 3 → FoundOk g frames (rowAt (g .variables) a .a) (variableAt a)
+  variable-parameter : (a : ℕ) → Own g procedure a → rowAt (g .variables) a .kind ≡ 3
+      → FoundOk g frames (rowAt (g .variables) a .a) (variableAt a)
   unfolding variablePlace
   variable-parameter a own kind =
       let (ws, slot, part) = slot-at g ok (sound .stack) a own in
@@ -348,14 +375,15 @@ module _ (g : Program) (ok : AcceptedTables (g .types) (g .fields) (g .variables
   variable-ok : (a : ℕ) → a < rowsOf (g .variables) → ownVariable (g .variables) (g .procedures) procedure a ≡ true
       → FoundOk g frames (rowAt (g .variables) a .a) (variableAt a)
   variable-ok a low e =
-      ⊎-elim (variable-global a low) (λ h. mine (record { low = h .0; high = h .1 })) (own-variable (g .variables) (g .procedures) procedure a e)
+      ⊎-elim (variable-global a low) (λ h. mine (record { low = h .0; high = h .1 }))
+      (own-variable (g .variables) (g .procedures) procedure a e)
     where
       mine : Own g procedure a → FoundOk g frames (rowAt (g .variables) a .a) (variableAt a)
       mine own = go (decLe (rowAt (g .variables) a .kind) 2)
         where
           go : Dec (rowAt (g .variables) a .kind ≤ 2) → FoundOk g frames (rowAt (g .variables) a .a) (variableAt a)
-          go (yes h) = variable-plain a own (own-kind a own .0) h
-          go (no h) = let most = own-kind a own .1 in variable-parameter a own (omega arith)
+          go (yes h) = variable-plain a own (own-kind g ok procedure a there own .0) h
+          go (no h) = let most = own-kind g ok procedure a there own .1 in variable-parameter a own (omega arith)
 
   -- ---- guards, fields, elements
 
@@ -363,51 +391,59 @@ module _ (g : Program) (ok : AcceptedTables (g .types) (g .fields) (g .variables
   unfolding guardPlace
   guard-ok b x is =
       reach-ok (guardPlace g b) is (λ place declared extended object.
-      choose-ok (extends (g .types) (place .dynamic) b) (λ e. found-ok {place = record { address = place .address; declared = b; dynamic = place .dynamic }} refl e object)
+      choose-ok (extends (g .types) (place .dynamic) b)
+      (λ e. found-ok {place = record { address = place .address; declared = b; dynamic = place .dynamic }}
+      refl e object)
       (λ e. found-trap))
 
   field-ok : (w j at x : ℕ) {m : Found} → fieldOf (g .types) (g .fields) w j ≡ Field at x → FoundOk g frames w m
       → FoundOk g frames x (reach m (λ whole. fieldPlace whole (fieldOf (g .types) (g .fields) (whole .declared) j)))
   unfolding fieldPlace
   field-ok w j at x field is =
-      reach-ok (λ whole. fieldPlace whole (fieldOf (g .types) (g .fields) (whole .declared) j)) is (λ place declared extended object.
+      reach-ok (λ whole. fieldPlace whole (fieldOf (g .types) (g .fields) (whole .declared) j)) is
+      (λ place declared extended object.
       let here : fieldOf (g .types) (g .fields) (place .declared) j ≡ Field at x = rw declared field in
       rw here
-      (found-ok {place = record { address = place .address + at; declared = x; dynamic = x }} refl (extends-refl (g .types) x)
-      (of-field j object (extension-field (g .types) (g .fields) (ok .types) (place .dynamic) (place .declared) j extended (object-typed g ok object) here))))
+      (object-ok (of-field j object (extension-field (g .types) (g .fields) (ok .types) (place .dynamic)
+      (place .declared) j extended (object-typed g ok object) here))))
 
-  element-there : (place : Place) → rowAt (g .types) (place .declared) .kind ≡ 3 → extends (g .types) (place .dynamic) (place .declared) ≡ true
+  element-there : (place : Place) → rowAt (g .types) (place .declared) .kind ≡ 3
+      → extends (g .types) (place .dynamic) (place .declared) ≡ true
       → Object g frames (place .address) (place .dynamic) → (z : ℤ)
-      → FoundOk g frames (rowAt (g .types) (place .declared) .a) (elementPlace g place (rowAt (g .types) (place .declared)) z)
+      → FoundOk g frames (rowAt (g .types) (place .declared) .a)
+      (elementPlace g place (rowAt (g .types) (place .declared)) z)
   unfolding elementPlace
   element-there place array extended thing (pos i) =
       let other : rowAt (g .types) (place .declared) .kind ≡ 4 → ⊥ = λ e. absurd (omega arith) in
-      let same = extends-other (g .types) (g .fields) (ok .types) (place .dynamic) (place .declared) extended (object-typed g ok thing) other in
-      let element = rowAt (g .types) (place .declared) .a in
+      let same = extends-other (g .types) (g .fields) (ok .types) (place .dynamic) (place .declared) extended
+      (object-typed g ok thing) other in
       choose-ok (ltb i (rowAt (g .types) (place .declared) .b))
-      (λ e. found-ok {place = record { address = place .address + i * sizeOf (g .types) (g .fields) element; declared = element; dynamic = element }} refl
-      (extends-refl (g .types) element) (of-element (rw same at thing) array (ltb-true i _ e)))
+      (λ e. object-ok (of-element (rw same at thing) array (ltb-true i _ e)))
       (λ e. found-trap)
   element-there place array extended thing (negsuc i) = found-trap
 
-  element-ok : (w : ℕ) {m : Found} {index-answer : Answer} → rowAt (g .types) w .kind ≡ 3 → FoundOk g frames w m → Gives INTEGER index-answer
+  element-ok : (w : ℕ) {m : Found} {index-answer : Answer} → rowAt (g .types) w .kind ≡ 3 → FoundOk g frames w m
+      → Gives INTEGER index-answer
       → FoundOk g frames (rowAt (g .types) w .a) (reach m (λ whole. arrayPlace g whole index-answer))
   unfolding arrayPlace
   element-ok w {index-answer = answer} array is gives =
       reach-ok (λ whole. arrayPlace g whole answer) is (λ place declared extended thing.
       let here : rowAt (g .types) (place .declared) .kind ≡ 3 = rw declared array in
-      rw (choose-yes _ (index answer (elementPlace g place (rowAt (g .types) (place .declared)))) Fs.Stuck (eq-eqb _ 3 here), ← declared)
-      (index-ok (elementPlace g place (rowAt (g .types) (place .declared))) gives (element-there place here extended thing)))
+      rw (
+        choose-yes _ (index answer (elementPlace g place (rowAt (g .types) (place .declared)))) Fs.Stuck
+            (eq-eqb _ 3 here),
+        ← declared,
+      )
+      (index-ok (elementPlace g place (rowAt (g .types) (place .declared))) gives
+      (element-there place here extended thing)))
 
   test-ok : (b x : ℕ) {m : Found} → FoundOk g frames x m → Gives BOOLEAN (content m (testOf g b))
   unfolding testOf
-  test-ok b x is = content-ok (testOf g b) is (λ place declared extended thing. gives-boolean (extends (g .types) (place .dynamic) b))
+  test-ok b x is =
+      content-ok (testOf g b) is (λ place declared extended thing. gives-boolean
+      (extends (g .types) (place .dynamic) b))
 
   -- ---- every node, from the low rows up
-
-  designator-yes : {k : ℕ} → Designator (g .nodes) k → isDesignator (g .nodes) k ≡ true
-  unfolding isDesignator
-  designator-yes {k} d = also-yes (le-leb 1 (rowAt (g .nodes) k .kind) (d .least)) (le-leb (rowAt (g .nodes) k .kind) 4 (d .most))
 
   abbrev Right : ℕ → Meaning → Type 0
   Right r m = r < rowsOf (g .nodes) → (x : ℕ) → typeOf (g .types) (g .fields) (g .variables) (g .nodes) r ≡ Kind x
@@ -416,7 +452,8 @@ module _ (g : Program) (ok : AcceptedTables (g .types) (g .fields) (g .variables
   abbrev by : (ℕ → Meaning) → ℕ → Row → Meaning
   by child kind row = meaningBy tagged g base top cells child kind row
 
-  expression-ok : (r x : ℕ) {answer : Answer} → (isDesignator (g .nodes) r ≡ true → ⊥) → (rowAt (g .nodes) r .kind ≡ 8 → ⊥) → Gives x answer
+  expression-ok : (r x : ℕ) {answer : Answer} → (isDesignator (g .nodes) r ≡ true → ⊥)
+      → (rowAt (g .nodes) r .kind ≡ 8 → ⊥) → Gives x answer
       → MeaningOk g frames r x (record { place = Fs.Stuck; value = answer })
   expression-ok r x plain other gives = record { place = λ d. no d; value = λ h. gives }
     where
@@ -430,7 +467,8 @@ module _ (g : Program) (ok : AcceptedTables (g .types) (g .fields) (g .variables
   not-constant : (r : ℕ) → rowAt (g .nodes) r .kind ≡ 0 → isDesignator (g .nodes) r ≡ true → ⊥
   not-constant r h e = let d = designator-is (g .nodes) r e in let least = d .least in absurd (omega arith)
 
-  module _ (r : ℕ) (child : ℕ → Meaning) (ih : (k : ℕ) → k < r → Right k (child k)) (low : r < rowsOf (g .nodes)) (x : ℕ)
+  module _ (r : ℕ) (child : ℕ → Meaning) (ih : (k : ℕ) → k < r → Right k (child k)) (low : r < rowsOf (g .nodes))
+      (x : ℕ)
       (typed : typeOf (g .types) (g .fields) (g .variables) (g .nodes) r ≡ Kind x)
       (own : ownBelow (g .variables) (g .procedures) (g .nodes) procedure r ≡ true) where
     abbrev row : Row
@@ -442,85 +480,107 @@ module _ (g : Program) (ok : AcceptedTables (g .types) (g .fields) (g .variables
     abbrev owned : ℕ → Type 0
     owned k = ownBelow (g .variables) (g .procedures) (g .nodes) procedure k ≡ true
 
-    whole-place : (k w : ℕ) → Whole (g .nodes) r k → types-of k ≡ Kind w → owned k → FoundOk g frames w (child k .place)
+    whole-place : (k w : ℕ) → Whole (g .nodes) r k → types-of k ≡ Kind w → owned k
+        → FoundOk g frames w (child k .place)
     whole-place k w is type own-child =
         let there-row = is .node .within in
         ih k (is .low) there-row w type own-child .place (itself (designator-yes (is .node)))
 
-    child-value : (k w : ℕ) → k < r → k < rowsOf (g .nodes) → types-of k ≡ Kind w → owned k → w ≤ 2 → Gives w (child k .value)
+    child-value : (k w : ℕ) → k < r → k < rowsOf (g .nodes) → types-of k ≡ Kind w → owned k → w ≤ 2
+        → Gives w (child k .value)
     child-value k w less there-row type own-child h = ih k less there-row w type own-child .value h
 
-    node-by : (kind : ℕ) → row .kind ≡ kind → MeaningOk g frames r x (by child kind row) → MeaningOk g frames r x (by child (row .kind) row)
+    node-by : (kind : ℕ) → row .kind ≡ kind → MeaningOk g frames r x (by child kind row)
+        → MeaningOk g frames r x (by child (row .kind) row)
     node-by kind e m = subst (λ (j : ℕ). MeaningOk g frames r x (by child j row)) (sym e) m
 
     constant-node : row .kind ≡ 0 → ConstantNode row → MeaningOk g frames r x (by child 0 row)
     unfolding meaningBy choose
     constant-node k c =
         let small = row-small (g .nodes) bytes r in
-        let type = constant-type (g .types) (g .fields) (g .variables) (g .nodes) (ok .questions .nodes) r low typed k in
+        let type = constant-type (g .types) (g .fields) (g .variables) (g .nodes)
+        (ok .questions .nodes) r low typed k in
         let most = c .typed in
         rw type (expression-ok r (row .a) (not-constant r k) (λ e. absurd (omega arith))
-        (constant-typed (row .a) (row .b) (row .c) (omega arith) (λ e. let (b, d) = c .boolean e in omega arith) (small .b) (small .c)))
+        (constant-typed (row .a) (row .b) (row .c) (omega arith) (λ e. let (b, d) = c .boolean e in omega arith)
+        (small .b) (small .c)))
 
     variable-node : row .kind ≡ 1 → VariableNode (g .variables) row → MeaningOk g frames r x (by child 1 row)
     unfolding meaningBy choose
     variable-node k c =
-        let type = variable-typed (g .types) (g .fields) (g .variables) (g .nodes) (ok .questions .nodes) r low typed k in
-        let mine = variable-own (g .types) (g .variables) (g .procedures) (g .nodes) (ok .questions .nodes) procedure r low own k in
-        rw type (designator-ok r (rowAt (g .variables) (row .a) .a) (variableAt (row .a)) (variable-ok (row .a) (c .variable) mine))
+        let type = variable-typed (g .types) (g .fields) (g .variables) (g .nodes)
+        (ok .questions .nodes) r low typed k in
+        let mine = variable-own (g .types) (g .variables) (g .procedures) (g .nodes)
+        (ok .questions .nodes) procedure r low own k in
+        rw type (designator-ok r (rowAt (g .variables) (row .a) .a) (variableAt (row .a))
+        (variable-ok (row .a) (c .variable) mine))
 
     field-node : row .kind ≡ 2 → FieldNode (g .nodes) r row → MeaningOk g frames r x (by child 2 row)
     unfolding meaningBy choose
     field-node k c =
         let type = field-typed (g .types) (g .fields) (g .variables) (g .nodes) (ok .questions .nodes) r low typed k in
-        let mine = field-own (g .types) (g .variables) (g .procedures) (g .nodes) (ok .questions .nodes) procedure r low own k in
-        designator-ok r x _ (field-ok (type .whole) (row .b) (type .at) x (type .field) (whole-place (row .a) (type .whole) (c .whole) (type .whole-type) mine))
+        let mine = field-own (g .types) (g .variables) (g .procedures) (g .nodes)
+        (ok .questions .nodes) procedure r low own k in
+        designator-ok r x _ (field-ok (type .whole) (row .b) (type .at) x (type .field)
+        (whole-place (row .a) (type .whole) (c .whole) (type .whole-type) mine))
 
     element-node : row .kind ≡ 3 → ElementNode (g .nodes) r row → MeaningOk g frames r x (by child 3 row)
     unfolding meaningBy choose
     element-node k c =
-        let type = element-typed (g .types) (g .fields) (g .variables) (g .nodes) (ok .questions .nodes) r low typed k in
-        let (mine, index-own) = element-own (g .types) (g .variables) (g .procedures) (g .nodes) (ok .questions .nodes) procedure r low own k in
+        let type = element-typed (g .types) (g .fields) (g .variables) (g .nodes)
+        (ok .questions .nodes) r low typed k in
+        let (mine, index-own) = element-own (g .types) (g .variables) (g .procedures) (g .nodes)
+        (ok .questions .nodes) procedure r low own k in
         rw (type .element)
         (designator-ok r (rowAt (g .types) (type .whole) .a) _
         (element-ok (type .whole) (type .array) (whole-place (row .a) (type .whole) (c .whole) (type .whole-type) mine)
-        (child-value (row .b) INTEGER (c .index .low) (c .index .node .within) (type .index-type) index-own (omega arith))))
+        (child-value (row .b) INTEGER (c .index .low) (c .index .node .within) (type .index-type) index-own
+        (omega arith))))
 
     guard-node : row .kind ≡ 4 → GuardNode (g .types) (g .variables) row → MeaningOk g frames r x (by child 4 row)
     unfolding meaningBy choose
     guard-node k c =
         let type = guard-typed (g .types) (g .fields) (g .variables) (g .nodes) (ok .questions .nodes) r low typed k in
-        let mine = guard-own (g .types) (g .variables) (g .procedures) (g .nodes) (ok .questions .nodes) procedure r low own k in
-        rw (type .guarded) (designator-ok r (row .b) _ (guard-ok (row .b) (rowAt (g .variables) (row .a) .a) (variable-ok (row .a) (c .variable) mine)))
+        let mine = guard-own (g .types) (g .variables) (g .procedures) (g .nodes)
+        (ok .questions .nodes) procedure r low own k in
+        rw (type .guarded) (designator-ok r (row .b) _
+        (guard-ok (row .b) (rowAt (g .variables) (row .a) .a) (variable-ok (row .a) (c .variable) mine)))
 
     dyadic-node : row .kind ≡ 5 → DyadicNode (g .nodes) r row → MeaningOk g frames r x (by child 5 row)
     unfolding meaningBy choose
     dyadic-node k c =
-        let type = dyadic-typed (g .types) (g .fields) (g .variables) (g .nodes) (ok .questions .nodes) r low typed k in
-        let (left-own, right-own) = dyadic-own (g .types) (g .variables) (g .procedures) (g .nodes) (ok .questions .nodes) procedure r low own k in
+        let type = dyadic-typed (g .types) (g .fields) (g .variables) (g .nodes)
+        (ok .questions .nodes) r low typed k in
+        let (left-own, right-own) = dyadic-own (g .types) (g .variables) (g .procedures) (g .nodes)
+        (ok .questions .nodes) procedure r low own k in
         let (left-low, right-low) = dyadic-operands (row .c) (type .left) (type .right) x (type .result) in
         expression-ok r x (not-designator r (omega arith)) (λ e. absurd (omega arith))
         (bind-ok (λ left. appliedTo (row .c) left (child (row .b) .value))
         (child-value (row .a) (type .left) (c .left .low) (c .left .node .within) (type .left-type) left-own left-low)
         (λ v e range. applied-typed (row .c) (rw e (type .result)) range
-        (child-value (row .b) (type .right) (c .right .low) (c .right .node .within) (type .right-type) right-own right-low)))
+        (child-value (row .b) (type .right) (c .right .low) (c .right .node .within)
+        (type .right-type) right-own right-low)))
 
     monadic-node : row .kind ≡ 6 → MonadicNode (g .nodes) r row → MeaningOk g frames r x (by child 6 row)
     unfolding meaningBy choose
     monadic-node k c =
-        let type = monadic-typed (g .types) (g .fields) (g .variables) (g .nodes) (ok .questions .nodes) r low typed k in
-        let mine = monadic-own (g .types) (g .variables) (g .procedures) (g .nodes) (ok .questions .nodes) procedure r low own k in
+        let type = monadic-typed (g .types) (g .fields) (g .variables) (g .nodes)
+        (ok .questions .nodes) r low typed k in
+        let mine = monadic-own (g .types) (g .variables) (g .procedures) (g .nodes)
+        (ok .questions .nodes) procedure r low own k in
         let scalar = monadic-operand (row .c) (type .operand) x (type .result) in
         expression-ok r x (not-designator r (omega arith)) (λ e. absurd (omega arith))
         (bind-ok (λ operand. monadicOf (row .c) operand)
-        (child-value (row .a) (type .operand) (c .operand .low) (c .operand .node .within) (type .operand-type) mine scalar)
+        (child-value (row .a) (type .operand) (c .operand .low) (c .operand .node .within)
+        (type .operand-type) mine scalar)
         (λ v e range. operator-typed (row .c) (rw e (type .result)) range))
 
     test-node : row .kind ≡ 7 → GuardNode (g .types) (g .variables) row → MeaningOk g frames r x (by child 7 row)
     unfolding meaningBy choose
     test-node k c =
         let type = test-typed (g .types) (g .fields) (g .variables) (g .nodes) (ok .questions .nodes) r low typed k in
-        let mine = test-own (g .types) (g .variables) (g .procedures) (g .nodes) (ok .questions .nodes) procedure r low own k in
+        let mine = test-own (g .types) (g .variables) (g .procedures) (g .nodes)
+        (ok .questions .nodes) procedure r low own k in
         rw (type .boolean)
         (expression-ok r BOOLEAN (not-designator r (omega arith)) (λ e. absurd (omega arith))
         (test-ok (row .b) (rowAt (g .variables) (row .a) .a) (variable-ok (row .a) (c .variable) mine)))
@@ -528,12 +588,15 @@ module _ (g : Program) (ok : AcceptedTables (g .types) (g .fields) (g .variables
     argument-node : row .kind ≡ 8 → ArgumentNode (g .nodes) r row → MeaningOk g frames r x (by child 8 row)
     unfolding meaningBy choose
     argument-node k c =
-        let type = argument-typed (g .types) (g .fields) (g .variables) (g .nodes) (ok .questions .nodes) r low typed k in
-        let mine = argument-own (g .types) (g .variables) (g .procedures) (g .nodes) (ok .questions .nodes) procedure r low own k in
+        let type = argument-typed (g .types) (g .fields) (g .variables) (g .nodes)
+        (ok .questions .nodes) r low typed k in
+        let mine = argument-own (g .types) (g .variables) (g .procedures) (g .nodes)
+        (ok .questions .nodes) procedure r low own k in
         let inner = ih (row .a) (c .holds .low) (c .holds .node .within) x type mine in
         record { place = λ d. go inner d; value = inner .value }
       where
-        go : MeaningOk g frames (row .a) x (child (row .a)) → Designates g r → FoundOk g frames x (child (row .a) .place)
+        go : MeaningOk g frames (row .a) x (child (row .a)) → Designates g r
+            → FoundOk g frames x (child (row .a) .place)
         go inner (itself e) = absurd (not-designator r (omega arith) e)
         go inner (as-argument kind e) = inner .place (itself e)
 
@@ -554,12 +617,14 @@ module _ (g : Program) (ok : AcceptedTables (g .types) (g .fields) (g .variables
   meaning-ok : (r : ℕ) → Right r (meaningOf tagged g base top cells r)
   unfolding meaningOf
   meaning-ok r =
-      rec-ind noMeaning (λ child k. meaningBy tagged g base top cells child (rowAt (g .nodes) k .kind) (rowAt (g .nodes) k)) Right
+      rec-ind noMeaning (λ child k. meaningBy tagged g base top cells child (rowAt (g .nodes) k .kind)
+      (rowAt (g .nodes) k)) Right
       (λ k child ih high low x typed own. node-ok k child ih low x typed own) r
 
   -- ---- what the statements cite
 
-  module _ (r x : ℕ) (low : r < rowsOf (g .nodes)) (typed : typeOf (g .types) (g .fields) (g .variables) (g .nodes) r ≡ Kind x)
+  module _ (r x : ℕ) (low : r < rowsOf (g .nodes))
+      (typed : typeOf (g .types) (g .fields) (g .variables) (g .nodes) r ≡ Kind x)
       (own : ownBelow (g .variables) (g .procedures) (g .nodes) procedure r ≡ true) where
     pub find-ok : Designates g r → FoundOk g frames x (findOf tagged g (s .at .base) (s .at .top) (s .cells) r)
     unfolding findOf

@@ -1,6 +1,6 @@
--- Laws of lists that are related place by place, and of cells read and overwritten.
+-- Laws of parts of lists, of lists that are related place by place, and of cells read and overwritten.
 use mathlib.Core.Path.{_≡_, refl, sym, _∙_, ap}
-use mathlib.Core.List.{List, [], _∷_, _++_, append-assoc}
+use mathlib.Core.List.{List, [], _∷_, _++_, append-assoc, append-nil}
 use Prim.Native.Nat.{ℕ, zero, suc, _+_, _-_, _≤_, _<_}
 use native.Mathlib.Nat.{zero-add, suc-add}
 use native.Mathlib.Omega.{arith}
@@ -8,9 +8,24 @@ use lib.ListN.{length, getD, take, drop, length-append, length-drop, take-append
 use lib.Seq.{length-take-le, take-nil, take-append-seam, take-append-le, take-append-add, take-take}
 use lib.Seq.{drop-drop, drop-append-seam, getD-take}
 use Rattle.prelude.specs.Parts.{Nth, Nth.here, Nth.there, Part}
-use Rattle.prelude.proofs.Parts.{part-nth}
+use Rattle.prelude.proofs.Parts.{part-nth, part-part}
 use Rattle.semantics.specs.Memory.{partAt, overwrite}
 use Rattle.semantics.specs.Sound.{Matched, Matched.no-more, Matched.one-more}
+
+-- ---- parts of lists
+
+module _ {A : Type 0} where
+  pub part-start : (l m : List A) → Part (l ++ m) 0 l
+  part-start l m = record { rest = m; seen = refl; within = omega arith }
+
+  pub part-next : {l xs : List A} {at : ℕ} {x : A} → Part l at (x ∷ xs) → Part l (at + 1) xs
+  part-next {xs = xs} p = part-part p (record { rest = []; seen = sym (append-nil xs); within = omega arith })
+
+  -- a part ends within its list
+  pub part-end : {l xs : List A} {at : ℕ} → Part l at xs → at + length xs ≤ length l
+  part-end {l} {xs} {at} p =
+      let w = p .within in
+      omega (arith, length-append xs (p .rest), length-drop at l, ap length (p .seen))
 
 -- ---- lists related place by place
 

@@ -1,7 +1,5 @@
 -- What a step comes to from a sound state.
 use mathlib.Core.Path.{_≡_}
-use mathlib.Core.List.{List}
-use Prim.Native.Nat.{ℕ}
 use lib.IntN.{ℤ}
 use lib.ListN.{length, take}
 use Rattle.values.specs.declared.Trap.{Trap}
@@ -19,6 +17,7 @@ pub record Unchanged (s s′ : State Cell) : Type 0 where
 
 -- a step goes on to a sound state, finishes, or ends in one of the named traps; it is never stuck
 pub data NextOk (g : Program) (s : State Cell) : Next Cell → Type 0 where
-  ok-goes : {s′ : State Cell} → Sound g s′ → length (s′ .cells) ≡ length (s .cells) → length (s′ .output) ≡ length (s .output) → NextOk g s (goes s′)
+  ok-goes : {s′ : State Cell} → Sound g s′ → length (s′ .cells) ≡ length (s .cells)
+      → length (s′ .output) ≡ length (s .output) → NextOk g s (goes s′)
   ok-finished : NextOk g s finished
   ok-trapped : {t : Trap} {z : ℤ} {s′ : State Cell} → Unchanged s s′ → NextOk g s (trapped t z s′)

@@ -1,25 +1,25 @@
--- Laws of types and variables that soundness needs.
-use mathlib.Core.Path.{_≡_, refl, sym, _∙_, ap}
+-- Laws of extension, of scalar types, and of the globals that come first.
+use mathlib.Core.Path.{_≡_, refl, _∙_}
 use mathlib.Core.Bool.{Bool, true, false}
 use mathlib.Core.List.{List, [], _∷_, _++_, map}
 use mathlib.Core.Logic.{_⊎_, inl, inr}
-use Prim.Native.Nat.{ℕ, zero, suc, _+_, _-_, _≤_, _<_}
+use Prim.Native.Nat.{ℕ, zero, suc, _+_, _≤_, _<_}
 use native.Mathlib.Omega.{arith}
 use native.Mathlib.Decide.{decLt}
-use borrow.Author.Tests.{lt-ltb, ltb-true, eqb-true}
-use lib.Dec.{ltb, eqb}
+use borrow.Author.Tests.{lt-ltb, ltb-true}
+use lib.Dec.{ltb}
 use lib.ListN.{length, getD, take, drop, length-append, List·getD-append}
 use lib.Seq.{take-append-le}
 use Rattle.prelude.specs.Choice.{choose}
-use Rattle.prelude.specs.Parts.{sum, Part}
+use Rattle.prelude.specs.Parts.{sum}
 use Rattle.prelude.proofs.Choice.{choose-yes, choose-cases}
 use Rattle.image.specs.Rows.{rowAt, rowsOf}
 use Rattle.image.specs.Faults.{KeptIn}
 use Rattle.image.proofs.Faults.{kept-next}
-use Rattle.shapes.specs.Forms.{Form, Form.scalar, Form.array, Form.recordOf, Form.noForm, form, formOf, baseOf}
+use Rattle.shapes.specs.Forms.{Form, form, baseOf}
 use Rattle.shapes.specs.Sizes.{layoutBy, layoutOf, fieldsOf, offsetOf, sizeOf}
 use Rattle.shapes.proofs.Rows.{form-record}
-use Rattle.shapes.proofs.Accepted.{TypesKept, RowKept, Shape, Shape.is-scalar, Shape.is-array, Shape.is-record, record-is, IsRecord}
+use Rattle.shapes.proofs.Accepted.{TypesKept, Shape, Shape.is-scalar, Shape.is-array, Shape.is-record, record-is}
 use Rattle.shapes.proofs.Accepted.{Based, Based.no-base, Based.on-base, layout-is}
 use Rattle.relations.specs.declared.FieldAnswer.{FieldAnswer}
 use Rattle.relations.specs.declared.FieldAnswer.the-variants.{Missing, Field}
@@ -84,7 +84,8 @@ module _ (t f : List ℕ) (kept : TypesKept t f) where
       layout-is t f r shape ∙ shape-scalar (layoutOf t f) h shape
 
   -- a record's fields are an extension's too, at the same places
-  pub extension-field : (r u n : ℕ) {offset x : ℕ} → extends t r u ≡ true → r < rowsOf t → fieldOf t f u n ≡ Field offset x
+  pub extension-field : (r u n : ℕ) {offset x : ℕ} → extends t r u ≡ true → r < rowsOf t
+      → fieldOf t f u n ≡ Field offset x
       → fieldOf t f r n ≡ Field offset x
   unfolding fieldOf offsetOf
   extension-field r u n {offset} {x} e h found =
@@ -93,14 +94,17 @@ module _ (t f : List ℕ) (kept : TypesKept t f) where
     where
       front : (l m whole : List ℕ) → drop 0 whole ≡ l ++ m
           → choose (ltb n (length l)) (Field (sum (map (sizeOf t f) (take n l))) (getD l n 0)) Missing ≡ Field offset x
-          → choose (ltb n (length whole)) (Field (sum (map (sizeOf t f) (take n whole))) (getD whole n 0)) Missing ≡ Field offset x
+          → choose (ltb n (length whole)) (Field (sum (map (sizeOf t f) (take n whole))) (getD whole n 0)) Missing
+          ≡ Field offset x
       front l m whole joins found = go (choose-cases (ltb n (length l)) found)
         where
           here : FieldAnswer
           here = Field (sum (map (sizeOf t f) (take n l))) (getD l n 0)
 
-          go : ((ltb n (length l) ≡ true) × (here ≡ Field offset x)) ⊎ ((ltb n (length l) ≡ false) × (Missing ≡ Field offset x))
-              → choose (ltb n (length whole)) (Field (sum (map (sizeOf t f) (take n whole))) (getD whole n 0)) Missing ≡ Field offset x
+          go : ((ltb n (length l) ≡ true) × (here ≡ Field offset x)) ⊎
+              ((ltb n (length l) ≡ false) × (Missing ≡ Field offset x))
+              → choose (ltb n (length whole))
+              (Field (sum (map (sizeOf t f) (take n whole))) (getD whole n 0)) Missing ≡ Field offset x
           go (inl (k, e)) =
               let less = ltb-true n (length l) k in
               let all : n < length (l ++ m) = omega (arith, length-append l m) in
@@ -126,14 +130,16 @@ unfolding globalsFrom
 first-all v zero k a low high all = absurd (omega arith)
 first-all v (suc n) k a low high all =
     rw (choose-yes _ (globalsFrom v (k + 1) n) k (all .each k (omega arith) (omega arith)))
-    (go (decLt k a) (λ l. first-all v n (k + 1) a (omega arith) (omega arith) (record { each = λ j x y. all .each j (omega arith) y })))
+    (go (decLt k a) (λ l. first-all v n (k + 1) a (omega arith) (omega arith)
+    (record { each = λ j x y. all .each j (omega arith) y })))
   where
     go : Dec (k < a) → (k < a → a < globalsFrom v (k + 1) n) → a < globalsFrom v (k + 1) n
     go (yes l) rest = rest l
     go (no l) rest = let some = first-some v n (k + 1) in omega arith
 
 -- a global of accepted variables stands among the globals
-pub global-low : (t v : List ℕ) (a : ℕ) → VariableRow t v a → a < rowsOf v → isGlobal v a ≡ true → rowAt v a .kind ≡ 0 → a < globalsOf v
+pub global-low : (t v : List ℕ) (a : ℕ) → VariableRow t v a → a < rowsOf v → isGlobal v a ≡ true
+    → rowAt v a .kind ≡ 0 → a < globalsOf v
 unfolding globalsOf
 global-low t v a row low here kind =
     let zero-add : 0 + a ≡ a = omega arith in

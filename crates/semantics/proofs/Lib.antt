@@ -6,6 +6,7 @@ pub mod Objects
 pub mod Kinship
 pub mod Evaluating
 pub mod Kept
+pub mod Blanks
 pub mod Performing
 pub mod Calling
 pub mod AnyStep

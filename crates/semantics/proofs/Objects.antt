@@ -1,7 +1,7 @@
 -- Where objects, variables and frames stand, and what their cells are to hold.
 use mathlib.Core.Path.{_≡_, refl, sym, _∙_}
 use mathlib.Core.Bool.{Bool, true, false}
-use mathlib.Core.List.{List, [], _∷_, _++_, append-nil}
+use mathlib.Core.List.{List, [], _∷_, append-nil}
 use mathlib.Core.Logic.{_⊎_, inl, inr}
 use Prim.Native.Nat.{ℕ, zero, suc, _+_, _-_, _≤_, _<_}
 use native.Mathlib.Omega.{arith}
@@ -18,7 +18,6 @@ use Rattle.image.proofs.Bytes.{row-missing}
 use Rattle.shapes.specs.Forms.{form}
 use Rattle.shapes.specs.Sizes.{sizeOf, layoutOf}
 use Rattle.shapes.proofs.Rows.{form-array}
-use Rattle.shapes.proofs.Accepted.{array-is}
 use Rattle.shapes.proofs.Layouts.{layout-length, field-layout, element-layout, decide}
 use Rattle.relations.specs.Extends.{extends}
 use Rattle.relations.proofs.Extension.{extends-yes, extension-layout}
@@ -28,20 +27,18 @@ use Rattle.frames.proofs.Claiming.{globals-within}
 use Rattle.places.specs.Places.{widthBy, widthOf, roomBy, roomFrom, globalCells, frameSize, placeIn}
 use Rattle.places.proofs.Rooms.{width-var, width-other}
 use Rattle.places.proofs.Counting.{first-none, first-next, first-grows}
+use Rattle.typing.proofs.Lower.{field-row, element-row}
 use Rattle.checker.proofs.Accepted.{AcceptedTables}
 use Rattle.semantics.specs.Memory.{ADDRESS, TYPE}
 use Rattle.semantics.specs.Layout.{Program, ownerFrom, ownerOf, placeOf, kindsOf, kindsFrom}
-use Rattle.semantics.specs.Sound.{Want, Want.any-value, Matched, Matched.no-more, Matched.one-more}
-use Rattle.semantics.specs.Sound.{Frame, rowsFrom, valuesOf, frameWants, wants, room, Own}
-use Rattle.semantics.specs.Sound.{Object, Object.of-global, Object.of-frame, Object.of-older, Object.of-field}
-use Rattle.semantics.specs.Sound.{Object.of-element}
-use Rattle.semantics.specs.Sound.{Slot, Slot.by-value, Slot.by-reference, Stack, Stack.a-frame}
-use Rattle.semantics.proofs.FieldRows.{field-nth, field-row}
+use Rattle.semantics.specs.Sound.{Want, Want.any-value, Matched, Matched.no-more, Matched.one-more, Frame}
+use Rattle.semantics.specs.Sound.{rowsFrom, valuesOf, frameWants, wants, room, Own, Object, Object.of-global}
+use Rattle.semantics.specs.Sound.{Object.of-frame, Object.of-older, Object.of-field, Object.of-element, Slot}
+use Rattle.semantics.specs.Sound.{Slot.by-value, Slot.by-reference, Stack, Stack.a-frame}
+use Rattle.semantics.proofs.Holding.{part-start}
+use Rattle.semantics.proofs.FieldRows.{field-nth}
 
 -- ---- the variables of one run of rows
-
-part-start : {X : Type 0} (l m : List X) → Part (l ++ m) 0 l
-part-start l m = record { rest = m; seen = refl; within = omega arith }
 
 -- the first of some variables comes before the others
 room-first : (size : ℕ → ℕ) (v : List ℕ) (k n : ℕ)
@@ -66,9 +63,13 @@ globals-are v (suc n) k j low high = go (isGlobal v k) refl high (decide k j) (g
     go true e less (inr other) ih = ih (omega arith) less
     go false e less same ih = absurd (omega arith)
 
-global-kind : (v : List ℕ) (k : ℕ) → k < globalsOf v → rowAt v k .kind ≡ 0
-unfolding globalsOf isGlobal
-global-kind v k h = eqb-true _ _ (globals-are v (rowsOf v) 0 k (omega arith) h)
+pub global-is : (v : List ℕ) (k : ℕ) → isGlobal v k ≡ true → rowAt v k .kind ≡ 0
+unfolding isGlobal
+global-is v k e = eqb-true (rowAt v k .kind) 0 e
+
+pub global-kind : (v : List ℕ) (k : ℕ) → k < globalsOf v → rowAt v k .kind ≡ 0
+unfolding globalsOf
+global-kind v k h = global-is v k (globals-are v (rowsOf v) 0 k (omega arith) h)
 
 module _ (g : Program) where
   kinds-width : (k : ℕ) → length (kindsOf g k) ≡ widthOf (g .types) (g .fields) (g .variables) k
@@ -104,10 +105,11 @@ module _ (g : Program) where
       let part = part-part (part-back (kindsOf g k) (kindsFrom g (k + 1) n)) (kinds-part n (k + 1) j (omega arith)) in
       rw (place, ← kinds-width k, ← row) part
 
-  kinds-value : (k : ℕ) → (rowAt (g .variables) k .kind ≡ 3 → ⊥)
+  -- a variable that is no VAR parameter has its type's layout
+  pub kinds-value : (k : ℕ) → rowAt (g .variables) k .kind ≤ 2
       → kindsOf g k ≡ layoutOf (g .types) (g .fields) (rowAt (g .variables) k .a)
   unfolding kindsOf
-  kinds-value k other = choose-no _ _ _ (ne-eqb (rowAt (g .variables) k .kind) 3 other)
+  kinds-value k h = choose-no _ _ _ (ne-eqb (rowAt (g .variables) k .kind) 3 (λ e. absurd (omega arith)))
 
   -- a global's cells stand below every frame
   global-part : (fs : List Frame) (k : ℕ) → k < globalsOf (g .variables)
@@ -117,17 +119,20 @@ module _ (g : Program) where
       let kind = global-kind (g .variables) k h in
       let row : 0 + k ≡ k = omega arith in
       let part = rw row at (kinds-part (globalsOf (g .variables)) 0 k h) in
-      part-map any-value (rw (kinds-value k (λ e. absurd (omega arith))) at part)
+      part-map any-value (rw (kinds-value k (omega arith)) at part)
   global-part (f ∷ fs) k h = part-more (frameWants g f) (global-part fs k h)
 
   -- ---- the variables of a frame
 
-  slot-width : {fs : List Frame} {k : ℕ} {ws : List Want} → Slot g fs k ws
-      → length ws ≡ widthOf (g .types) (g .fields) (g .variables) k
+  pub values-length : (r : ℕ) → length (valuesOf g r) ≡ sizeOf (g .types) (g .fields) r
   unfolding valuesOf
+  values-length r = length-map (layoutOf (g .types) (g .fields) r) any-value ∙ layout-length (g .types) (g .fields) r
+
+  -- a variable's cells are as many as its width
+  pub slot-width : {fs : List Frame} {k : ℕ} {ws : List Want} → Slot g fs k ws
+      → length ws ≡ widthOf (g .types) (g .fields) (g .variables) k
   slot-width {k = k} (by-value kind) =
-      length-map (layoutOf (g .types) (g .fields) (rowAt (g .variables) k .a)) any-value
-      ∙ layout-length (g .types) (g .fields) (rowAt (g .variables) k .a)
+      values-length (rowAt (g .variables) k .a)
       ∙ sym (width-other (sizeOf (g .types) (g .fields)) (g .variables) k (λ e. absurd (omega arith)))
   slot-width {k = k} (by-reference kind o e) = sym (width-var (sizeOf (g .types) (g .fields)) (g .variables) k kind)
 
@@ -186,10 +191,6 @@ module _ (g : Program)
     (ok : AcceptedTables (g .types) (g .fields) (g .variables) (g .procedures) (g .nodes) (g .statements)) where
   -- ---- types
 
-  pub values-length : (r : ℕ) → r < rowsOf (g .types) → length (valuesOf g r) ≡ sizeOf (g .types) (g .fields) r
-  unfolding valuesOf
-  values-length r h = length-map (layoutOf (g .types) (g .fields) r) any-value ∙ layout-length (g .types) (g .fields) r
-
   first-within : (q : ℕ) → firstVariable (g .variables) (g .procedures) q ≤ rowsOf (g .variables)
   first-within zero = rw (first-none (g .variables) (g .procedures)) (globals-within (g .variables))
   first-within (suc q) = go (decLt q (rowsOf (g .procedures))) (first-within q)
@@ -206,16 +207,13 @@ module _ (g : Program)
 
   -- an object's type is a row
   pub object-typed : {fs : List Frame} {at r : ℕ} → Object g fs at r → r < rowsOf (g .types)
-  unfolding form
   object-typed (of-global {k = k} h) = ok .variable k (omega (arith, globals-within (g .variables))) .typed
   object-typed (of-frame {k = k} own kind) = ok .variable k (own-within own) .typed
   object-typed (of-older o) = object-typed o
   object-typed (of-field {r = r} {offset = offset} {u = u} j o e) =
       field-row (g .types) (g .fields) (ok .types) r j offset u (object-typed o) e
   object-typed (of-element {r = r} o kind less) =
-      let low = object-typed o in
-      let lower = array-is (ok .types .row r low .shape) (form-array (rowAt (g .types) r) kind) .low in
-      omega arith
+      element-row (g .types) (g .fields) (ok .types) r (object-typed o) kind
 
   -- ---- frames
 
@@ -249,10 +247,6 @@ module _ (g : Program)
       → room g (f ∷ fs) ≡ room g fs + frameSize (g .types) (g .fields) (g .variables) (g .procedures) (f .procedure)
   unfolding wants
   room-next {f} {fs} st = length-append (wants g fs) (frameWants g f) ∙ rw (slots-length st)
-
-  pub kinds-length : (k n : ℕ) → k + n ≤ rowsOf (g .variables)
-      → length (kindsFrom g k n) ≡ roomFrom (g .types) (g .fields) (g .variables) k n
-  kinds-length k n h = kinds-room g n k
 
   pub room-globals : room g [] ≡ globalCells (g .types) (g .fields) (g .variables)
   unfolding wants globalCells
@@ -297,23 +291,26 @@ module _ (g : Program)
 
   -- ---- places of variables
 
-  -- a procedure's variable is no global
-  own-kind : (q k : ℕ) → q < rowsOf (g .procedures) → Own g q k → 1 ≤ rowAt (g .variables) k .kind
+  -- a procedure's variable is a local or a parameter
+  pub own-kind : (q k : ℕ) → q < rowsOf (g .procedures) → Own g q k
+      → (1 ≤ rowAt (g .variables) k .kind) × (rowAt (g .variables) k .kind ≤ 3)
   unfolding kindWithin claimedBy
   own-kind q k less own = go (decLt k (firstVariable (g .variables) (g .procedures) q + rowAt (g .procedures) q .b))
     where
       go : Dec (k < firstVariable (g .variables) (g .procedures) q + rowAt (g .procedures) q .b)
-          → 1 ≤ rowAt (g .variables) k .kind
+          → (1 ≤ rowAt (g .variables) k .kind) × (rowAt (g .variables) k .kind ≤ 3)
       go (yes parameter) =
-          let low : 2 ≤ rowAt (g .variables) k .kind =
-          leb-true _ _ (also-true _ _ (ok .procedures .row q less .parameters .each k (own .low) parameter) .0) in
-          omega arith
+          let (low, high) = also-true _ _ (ok .procedures .row q less .parameters .each k (own .low) parameter) in
+          let least : 2 ≤ rowAt (g .variables) k .kind = leb-true _ _ low in
+          (omega arith, leb-true _ _ high)
       go (no local) =
           let one : q + 1 ≡ suc q = omega arith in
-          let high = rw one at (own .high) in
+          let last = rw one at (own .high) in
           let next = first-next (g .variables) (g .procedures) q in
-          let local-row = ok .procedures .row q less .locals .each k (omega arith) (omega (arith, high, next)) in
-          leb-true _ _ (also-true _ _ local-row .0)
+          let local-row = ok .procedures .row q less .locals .each k (omega arith) (omega (arith, last, next)) in
+          let (low, high) = also-true _ _ local-row in
+          let most : rowAt (g .variables) k .kind ≤ 1 = leb-true _ _ high in
+          (leb-true _ _ low, omega arith)
 
   owner-is : (q k : ℕ) → Own g q k → (n i : ℕ) → i ≤ q → q < i + n → ownerFrom (g .variables) (g .procedures) k i n ≡ q
   unfolding ownerFrom
@@ -336,7 +333,7 @@ module _ (g : Program)
       → placeOf g k ≡ placeIn (g .types) (g .fields) (g .variables) (g .procedures) q k
   unfolding placeOf ownerOf isGlobal
   place-own q k less own =
-      let kind = own-kind q k less own in
+      let kind = own-kind q k less own .0 in
       choose-no _ _ _ (ne-eqb (rowAt (g .variables) k .kind) 0 (λ e. absurd (omega arith)))
       ∙ rw (owner-is q k own (rowsOf (g .procedures)) 0 (omega arith) (omega arith))
 

@@ -9,8 +9,8 @@ use Rattle.values.specs.Values.{integerCell, setCell, cellOf, signedOf, constan
 use Rattle.kinds.specs.Kinds.{integersKind, setsKind, booleansKind, dyadicKind, monadicKind}
 use Rattle.integers.specs.Integers.{integerOf, divOf, modOf, dividedBy, arithmeticOf}
 use Rattle.sets.specs.Sets.{memberOf, elementsOf, rangeOf, complementOf}
-use Rattle.operators.specs.Operators.{compareOf, equalZ, integersOf, setsOf, booleansOf, dyadicOf, monadicOf}
-use Rattle.operators.specs.Operators.{decides, appliedTo}
+use Rattle.operators.specs.Operators.{compareOf, equalZ, integersOf, setsOf, booleansOf, dyadicOf, monadicOf, decides}
+use Rattle.operators.specs.Operators.{appliedTo}
 use Rattle.shapes.specs.Forms.{formOf, form, baseOf, countOf, ofBase, ownTypes}
 use Rattle.shapes.specs.Sizes.{sizeBy, sizeOf, layoutBy, layoutOf, fieldsBy, fieldsOf, offsetOf}
 use Rattle.shapes.specs.Shapes.{usedBelow, scalarKept, arrayKept, fieldKept, baseKept, recordKept, laterKept}
@@ -43,14 +43,14 @@ use Rattle.places.specs.Places.{widthBy, roomBy, globalCells, frameSize, placeI
 use Rattle.semantics.specs.Memory.{markOf, tagged, cellAt, valueAt, markAt, partAt, overwrite}
 use Rattle.semantics.specs.Layout.{ownerFrom, ownerOf, placeOf, kindsOf, kindsFrom}
 use Rattle.semantics.specs.Finding.{reach, content, index, withMark, parameterPlace, variablePlace, fieldPlace}
-use Rattle.semantics.specs.Finding.{elementPlace, arrayPlace, guardPlace, testOf, designator, meaningBy, meaningOf}
-use Rattle.semantics.specs.Finding.{findOf, evalOf}
+use Rattle.semantics.specs.Finding.{elementPlace, arrayPlace, guardPlace, testOf, designator, meaningBy}
+use Rattle.semantics.specs.Finding.{meaningOf, findOf, evalOf}
 use Rattle.semantics.specs.Stepping.{onPlace, onValue, onInteger, onBoolean, onMark, goTo, following, withCells}
 use Rattle.semantics.specs.Stepping.{written, onPart, otherRecord, copied, assigned, argumentCells, passed}
-use Rattle.semantics.specs.Stepping.{entered, called, jumped, returned, inputAt, afterRead, received, sent, halted}
-use Rattle.semantics.specs.Stepping.{perform, stepOf}
-use Rattle.semantics.specs.Running.{programOf, globalRoom, firstTop, freshCells, fresh, onward, runFrom, refusal}
-use Rattle.semantics.specs.Running.{ranOf, numbersOf, refusedWith, resultOf, storeAfter, outputAfter}
+use Rattle.semantics.specs.Stepping.{entered, called, jumped, returned, inputAt, afterRead, received, sent}
+use Rattle.semantics.specs.Stepping.{halted, perform, stepOf}
+use Rattle.semantics.specs.Running.{programOf, globalRoom, firstTop, freshCells, fresh, onward, runFrom}
+use Rattle.semantics.specs.Running.{refusal, ranOf, numbersOf, refusedWith, resultOf, storeAfter, outputAfter}
 
 -- rows and rules
 unfoldable pub rows : Unit {0}

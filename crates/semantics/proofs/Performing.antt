@@ -1,33 +1,28 @@
 -- Each statement but the call, from a sound state: it goes on to a sound state, finishes, or ends in a trap.
-use mathlib.Core.Path.{_≡_, refl, sym, _∙_, ap, subst}
+use mathlib.Core.Path.{_≡_, refl, sym, _∙_, subst}
 use mathlib.Core.Bool.{Bool, true, false}
-use mathlib.Core.List.{List, [], _∷_, append-nil}
-use Prim.Native.Nat.{ℕ, suc, _+_, _≤_, _<_}
+use mathlib.Core.List.{List, [], _∷_}
+use Prim.Native.Nat.{ℕ, _+_, _≤_, _<_}
 use native.Mathlib.Omega.{arith}
-use borrow.Author.Tests.{leb-true, leb-false, eqb-false, lt-ltb, le-leb, eq-eqb}
-use lib.Dec.{eqb}
+use borrow.Author.Tests.{leb-true, leb-false, eqb-false, le-leb}
 use lib.IntN.{ℤ, pos}
-use lib.ListN.{length, take, getD, set, length-append, length-drop, length-set}
+use lib.ListN.{length, take, getD, set, length-set}
 use Rattle.prelude.specs.Choice.{choose}
 use Rattle.prelude.specs.Parts.{joined, Part}
-use Rattle.prelude.proofs.Choice.{choose-yes, also-yes}
-use Rattle.prelude.proofs.Parts.{part-part, part-back}
+use Rattle.prelude.proofs.Choice.{choose-yes}
+use Rattle.prelude.proofs.Parts.{part-back}
 use Rattle.image.specs.declared.Row.{Row}
 use Rattle.image.specs.Rows.{rowAt, rowsOf}
 use Rattle.image.proofs.Bytes.{Bytes}
-use Rattle.shapes.specs.Forms.{Form, form, baseOf}
-use Rattle.shapes.specs.Sizes.{layoutBy, layoutOf, sizeOf}
-use Rattle.shapes.proofs.Rows.{form-record}
-use Rattle.shapes.proofs.Accepted.{TypesKept, Shape, Shape.is-scalar, Shape.is-array, Shape.is-record}
-use Rattle.shapes.proofs.Accepted.{Based, Based.no-base, Based.on-base, record-is, layout-is}
+use Rattle.shapes.specs.Forms.{form}
+use Rattle.shapes.specs.Sizes.{sizeOf}
 use Rattle.relations.specs.Extends.{extends}
-use Rattle.relations.proofs.Extension.{Extends, Extends.same, Extends.up, extends-yes, extends-refl, extends-trans}
-use Rattle.values.specs.Values.{BOOLEAN, INTEGER, kindOf, isInteger, InRange, InRange.integer, Gives}
-use Rattle.values.specs.Values.{Gives.value, Gives.trapped as gives-trap}
+use Rattle.relations.proofs.Extension.{Extends.same, extends-refl}
+use Rattle.values.specs.Values.{BOOLEAN, INTEGER, kindOf, isInteger, InRange, InRange.integer, Gives, Gives.value}
+use Rattle.values.specs.Values.{Gives.trapped as gives-trap}
 use Rattle.values.specs.declared.Value.{Value}
 use Rattle.values.specs.declared.Value.the-variants as Vs
 use Rattle.values.specs.declared.Answer.{Answer}
-use Rattle.values.specs.declared.Answer.the-variants as As
 use Rattle.values.proofs.Cells.{cell-back}
 use Rattle.kinds.specs.declared.KindAnswer.the-variants.{Kind}
 use Rattle.nodes.specs.Nodes.{isDesignator}
@@ -35,39 +30,36 @@ use Rattle.nodes.proofs.Accepted.{Plain, constant-is}
 use Rattle.typing.specs.Typing.{typeOf}
 use Rattle.typing.proofs.Lower.{dyadic-low, monadic-low}
 use Rattle.typing.proofs.Accepted.{NodeTyped, NodeTyped.by-constant, NodeTyped.by-variable, NodeTyped.by-field}
-use Rattle.typing.proofs.Accepted.{NodeTyped.by-element, NodeTyped.by-guard, NodeTyped.by-dyadic, NodeTyped.by-monadic}
-use Rattle.typing.proofs.Accepted.{NodeTyped.by-test, NodeTyped.by-argument, typed-node, type-low}
+use Rattle.typing.proofs.Accepted.{NodeTyped.by-element, NodeTyped.by-guard, NodeTyped.by-dyadic}
+use Rattle.typing.proofs.Accepted.{NodeTyped.by-monadic, NodeTyped.by-test, NodeTyped.by-argument, typed-node}
+use Rattle.typing.proofs.Accepted.{type-low}
 use Rattle.owners.specs.Owners.{ownBelow}
 use Rattle.statements.specs.Statements.{procedureAt}
 use Rattle.statements.proofs.Bodies.{InBody, end-within, body-only}
 use Rattle.statements.proofs.Accepted.{StatementRow, StatementRow.is-assign, StatementRow.is-call}
 use Rattle.statements.proofs.Accepted.{StatementRow.is-jump, StatementRow.is-goto, StatementRow.is-return}
-use Rattle.statements.proofs.Accepted.{StatementRow.is-read, StatementRow.is-write, StatementRow.is-halt}
-use Rattle.statements.proofs.Accepted.{AssignRow, JumpRow, GotoRow, ReadRow, ValueRow, Target}
-use Rattle.statements.proofs.Accepted.{target-in, behind-in, no-end}
+use Rattle.statements.proofs.Accepted.{StatementRow.is-read, StatementRow.is-write, StatementRow.is-halt, AssignRow}
+use Rattle.statements.proofs.Accepted.{JumpRow, GotoRow, ReadRow, ValueRow, Target, target-in, behind-in, no-end}
 use Rattle.rules.proofs.Accepted.{assign-ruled, jump-ruled, read-ruled, write-ruled, halt-ruled}
 use Rattle.checker.proofs.Accepted.{AcceptedTables}
 use Rattle.semantics.specs.declared.Place.{Place}
 use Rattle.semantics.specs.declared.Found.{Found}
-use Rattle.semantics.specs.declared.Found.the-variants as Fs
 use Rattle.semantics.specs.declared.Mark.{Mark}
 use Rattle.semantics.specs.declared.Mark.the-variants.{Number}
-use Rattle.semantics.specs.Memory.{LINK, TYPE, Cell, tagged, markOf, cellAt, markAt, partAt, overwrite}
+use Rattle.semantics.specs.Memory.{LINK, Cell, tagged, markAt, partAt, overwrite}
 use Rattle.semantics.specs.Layout.{Program}
 use Rattle.semantics.specs.Finding.{findOf, evalOf}
-use Rattle.semantics.specs.Stepping.{State, Next, Next.goes}
-use Rattle.semantics.specs.Stepping.{onPlace, onValue, onInteger, onBoolean, onMark, goTo}
-use Rattle.semantics.specs.Stepping.{following, withCells, written, onPart}
-use Rattle.semantics.specs.Stepping.{copied, assigned, jumped, returned}
-use Rattle.semantics.specs.Stepping.{inputAt, afterRead, received, sent, halted, perform, stepOf}
-use Rattle.semantics.specs.Sound.{Want, any-value, exactly, Fits, fits-value, fits-exactly}
-use Rattle.semantics.specs.Sound.{Matched, no-more, one-more, Frame, Inside, Object, Sound}
-use Rattle.semantics.specs.Sound.{is-first, is-called, Stack, a-frame, valuesOf, wants, frameWants}
-use Rattle.semantics.proofs.Holding.{matched-length, matched-part, matched-put, matched-at}
-use Rattle.semantics.proofs.Holding.{put-below, put-length, part-below, cell-below}
-use Rattle.semantics.proofs.Objects.{values-length, object-front}
-use Rattle.semantics.proofs.Kinship.{extends-low, extends-scalar, scalar-layout}
+use Rattle.semantics.specs.Stepping.{State, Next, Next.goes, onPlace, onValue, onInteger, onBoolean, onMark}
+use Rattle.semantics.specs.Stepping.{goTo, following, withCells, written, onPart, copied, assigned, jumped}
+use Rattle.semantics.specs.Stepping.{returned, inputAt, afterRead, received, sent, halted, perform, stepOf}
+use Rattle.semantics.specs.Sound.{Want, any-value, exactly, Fits, fits-value, Matched, no-more, one-more, Frame}
+use Rattle.semantics.specs.Sound.{Inside, Object, Sound, is-first, is-called, Stack, a-frame, wants, frameWants}
+use Rattle.semantics.proofs.Holding.{part-start, part-next, part-end, matched-length, matched-part}
+use Rattle.semantics.proofs.Holding.{matched-put, put-below, put-length, part-below}
+use Rattle.semantics.proofs.Objects.{values-length}
+use Rattle.semantics.proofs.Kinship.{extends-low, extends-scalar}
 use Rattle.semantics.proofs.Evaluating.{FoundOk, found-ok, found-trap, Designates, itself, find-ok, eval-ok}
+use Rattle.semantics.proofs.Evaluating.{found-front, found-scalar, designator-yes, mark-there, part-top}
 use Rattle.semantics.proofs.Kept.{Unchanged, NextOk, ok-goes, ok-finished, ok-trapped}
 
 -- ---- what a step comes to, by the way it goes on
@@ -93,19 +85,21 @@ module _ (g : Program) (s : State Cell) where
   ok-either true h k = h
   ok-either false h k = k
 
-  pub on-place-ok : {fs : List Frame} {x : ℕ} {m : Found} (k : Place → Next Cell) → FoundOk g fs x m
-      → ((place : Place) → place .declared ≡ x → extends (g .types) (place .dynamic) (place .declared) ≡ true
-      → Object g fs (place .address) (place .dynamic) → NextOk g s (k place))
-      → NextOk g s (onPlace s m k)
-  unfolding onPlace
-  on-place-ok k (found-ok {place = place} declared extended object) f = f place declared extended object
-  on-place-ok k found-trap f = ok-trapped unchanged
+  -- after cells above top were written
+  module _ {s′ : State Cell} (same : Unchanged s s′) where
+    pub on-place-ok : {fs : List Frame} {x : ℕ} {m : Found} (k : Place → Next Cell) → FoundOk g fs x m
+        → ((place : Place) → place .declared ≡ x → extends (g .types) (place .dynamic) (place .declared) ≡ true
+        → Object g fs (place .address) (place .dynamic) → NextOk g s (k place))
+        → NextOk g s (onPlace s′ m k)
+    unfolding onPlace
+    on-place-ok k (found-ok {place = place} declared extended object) f = f place declared extended object
+    on-place-ok k found-trap f = ok-trapped same
 
-  pub on-value-ok : {x : ℕ} {m : Answer} (k : Value → Next Cell) → Gives x m
-      → ((v : Value) → kindOf v ≡ x → InRange v → NextOk g s (k v)) → NextOk g s (onValue s m k)
-  unfolding onValue
-  on-value-ok k (value {v = v} kind range) f = f v kind range
-  on-value-ok k gives-trap f = ok-trapped unchanged
+    pub on-value-ok : {x : ℕ} {m : Answer} (k : Value → Next Cell) → Gives x m
+        → ((v : Value) → kindOf v ≡ x → InRange v → NextOk g s (k v)) → NextOk g s (onValue s′ m k)
+    unfolding onValue
+    on-value-ok k (value {v = v} kind range) f = f v kind range
+    on-value-ok k gives-trap f = ok-trapped same
 
   pub on-integer-ok : (v : Value) (k : ℤ → Next Cell) → kindOf v ≡ INTEGER → ((z : ℤ) → NextOk g s (k z))
       → NextOk g s (onInteger v k)
@@ -127,12 +121,6 @@ module _ (g : Program) (s : State Cell) where
 
 -- ---- cells
 
--- a part ends within its list
-pub part-end : {X : Type 0} {l xs : List X} {a : ℕ} → Part l a xs → a + length xs ≤ length l
-part-end {l = l} {xs} {a} p =
-    let w = p .within in
-    omega (arith, length-append xs (p .rest), length-drop a l, ap length (p .seen))
-
 first-cells : (cells : List Cell) (n : ℕ) → partAt cells 0 n ≡ take n cells
 unfolding partAt
 first-cells cells n = refl
@@ -151,30 +139,7 @@ input-range g input i = go (isInteger (getD input i (pos 0))) (getD input i (pos
     go true z e = e
     go false z e = refl
 
--- a link, an address or a type reads as its number
-pub mark-fits : (c : Cell) (k n : ℕ) → n ≤ 65535 → Fits c (exactly k n) → tagged .marked k c ≡ Number n
-unfolding tagged markOf choose
-mark-fits c k n small (fits-exactly kind number) =
-    rw (kind, number, eq-eqb k k refl, lt-ltb n (choose (eqb k TYPE) 65536 4294967296) (below (eqb k TYPE)))
-  where
-    below : (b : Bool) → n < choose b 65536 4294967296
-    below true = omega arith
-    below false = omega arith
-
--- such a cell below top
-pub mark-there : (top : ℕ) (cells : List Cell) {w ws : List Want} {k n a : ℕ} → Matched Fits (take top cells) w
-    → Part w a (exactly k n ∷ ws) → a < top → n ≤ 65535 → markAt tagged top cells k a ≡ Number n
-unfolding markAt cellAt
-mark-there top cells {k = k} {n} {a} h p low small =
-    let d : Cell = tagged .loose (pos 0) in
-    choose-yes _ _ _ (lt-ltb a top low)
-    ∙ mark-fits (getD cells a d) k n small (rw (cell-below cells d a top low) at (matched-at d h p))
-
 -- ---- objects and nodes of accepted tables
-
-designator-yes : (n : List ℕ) (k : ℕ) → 1 ≤ rowAt n k .kind → rowAt n k .kind ≤ 4 → isDesignator n k ≡ true
-unfolding isDesignator
-designator-yes n k low high = also-yes (le-leb 1 (rowAt n k .kind) low) (le-leb (rowAt n k .kind) 4 high)
 
 module _ (g : Program)
     (ok : AcceptedTables (g .types) (g .fields) (g .variables) (g .procedures) (g .nodes) (g .statements)) where
@@ -197,10 +162,11 @@ module _ (g : Program)
           let said = ok .questions .nodes in
           let low = constant-is (g .types) (g .variables) (g .nodes) said r (plain .within) k .typed in
           absurd (omega arith)
-      go (by-variable k e) = designator-yes (g .nodes) r (omega arith) (omega arith)
-      go (by-field k e) = designator-yes (g .nodes) r (omega arith) (omega arith)
-      go (by-element k e) = designator-yes (g .nodes) r (omega arith) (omega arith)
-      go (by-guard k e) = designator-yes (g .nodes) r (omega arith) (omega arith)
+      go (by-variable k e) =
+          designator-yes (record { within = plain .within; least = omega arith; most = omega arith })
+      go (by-field k e) = designator-yes (record { within = plain .within; least = omega arith; most = omega arith })
+      go (by-element k e) = designator-yes (record { within = plain .within; least = omega arith; most = omega arith })
+      go (by-guard k e) = designator-yes (record { within = plain .within; least = omega arith; most = omega arith })
       go (by-dyadic k e) =
           let low = dyadic-low (rowAt (g .nodes) r .c) (e .left) (e .right) x (e .result) in
           absurd (omega arith)
@@ -209,25 +175,6 @@ module _ (g : Program)
           absurd (omega arith)
       go (by-test k e) = let is = e .boolean in absurd (omega arith)
       go (by-argument k e) = absurd (plain .plain k)
-
-  pub scalar-values : (x : ℕ) → x ≤ 2 → valuesOf g x ≡ any-value x ∷ []
-  unfolding valuesOf
-  scalar-values x h = let most = ok .scalars in rw (scalar-layout (g .types) (g .fields) (ok .types) x h (omega arith))
-
-  module _ {fs : List Frame} (stack : Stack g fs) (place : Place)
-      (extended : extends (g .types) (place .dynamic) (place .declared) ≡ true)
-      (object : Object g fs (place .address) (place .dynamic)) where
-    -- the cells of an object that was found, as those of a type that its declared one extends
-    pub found-front : (u : ℕ) → extends (g .types) (place .declared) u ≡ true
-        → Part (wants g fs) (place .address) (valuesOf g u)
-    found-front u e =
-        object-front g ok u stack object (extends-trans (g .types) (place .dynamic) (place .declared) u extended e)
-
-    -- a scalar one's single cell
-    pub found-scalar : place .declared ≤ 2 → Part (wants g fs) (place .address) (any-value (place .declared) ∷ [])
-    found-scalar h =
-        rw (← scalar-values (place .declared) h)
-        (found-front (place .declared) (extends-refl (g .types) (place .declared)))
 
 -- ---- the newest frame is left
 
@@ -238,16 +185,16 @@ module _ (g : Program) (f : Frame) (fs : List Frame) where
 
   older-part : Part (wants g (f ∷ fs)) 0 (wants g fs)
   unfolding wants
-  older-part = record { rest = frameWants g f; seen = refl; within = omega arith }
+  older-part = part-start (wants g fs) (frameWants g f)
 
   back-part : Part (wants g (f ∷ fs)) (length (wants g fs) + 1)
       (exactly LINK (f .back) ∷ exactly LINK (f .callers-base) ∷ joined (f .slots))
   unfolding frameWants
-  back-part = part-part frame-part (record { rest = []; seen = sym (append-nil _); within = omega arith })
+  back-part = part-next frame-part
 
   base-part : Part (wants g (f ∷ fs)) (length (wants g fs) + 2) (exactly LINK (f .callers-base) ∷ joined (f .slots))
-  unfolding frameWants
-  base-part = part-part frame-part (record { rest = []; seen = sym (append-nil _); within = omega arith })
+  base-part =
+      let e : length (wants g fs) + 1 + 1 ≡ length (wants g fs) + 2 = omega arith in rw e at (part-next back-part)
 
 -- ---- from a sound state
 
@@ -311,27 +258,24 @@ module _ (g : Program)
 
   -- ---- the same frames, another row, other counts, cells and output
 
-  pub sound-with : (r read out : ℕ) (cells : List Cell) (output : List ℤ) → Inside g own-procedure r
+  abbrev pub sound-with : (r read out : ℕ) (cells : List Cell) (output : List ℤ) → Inside g own-procedure r
       → Matched Fits (take (s .at .top) cells) (wants g frames) → length cells ≡ length (s .cells)
       → Sound g (record {
         at = record { row = r; base = s .at .base; top = s .at .top; read = read; written = out };
         cells = cells;
         output = output;
       })
-  sound-with r read out cells output inside holding size =
-      let stored = sound .stored in
-      let lent = sound .lent in
-      record {
-        newest = sound .newest;
-        others = sound .others;
-        stack = sound .stack;
-        holding = holding;
-        inside = inside;
-        begins = sound .begins;
-        ends = sound .ends;
-        stored = omega arith;
-        lent = omega arith;
-      }
+  sound-with r read out cells output inside holding size = record {
+    newest = sound .newest;
+    others = sound .others;
+    stack = sound .stack;
+    holding = holding;
+    inside = inside;
+    begins = sound .begins;
+    ends = sound .ends;
+    stored = let stored = sound .stored in omega arith;
+    lent = let lent = sound .lent in omega arith;
+  }
 
   -- a jump within the body
   pub gone-ok : (r : ℕ) → Inside g own-procedure r → NextOk g s (goes (goTo s r))
@@ -342,20 +286,18 @@ module _ (g : Program)
 
   -- ---- its cells
 
-  pub part-top : {a : ℕ} {ws : List Want} → Part (wants g frames) a ws → a + length ws ≤ s .at .top
-  part-top p = omega (arith, part-end p, sound .ends)
-
   -- cells read below top
   pub part-cells : {a : ℕ} {ws : List Want} → Part (wants g frames) a ws
       → Matched Fits (partAt (s .cells) a (length ws)) ws
   part-cells {a} {ws} p =
-      rw (part-below (s .cells) a (length ws) (s .at .top) (part-top p)) at (matched-part (sound .holding) p)
+      rw (part-below (s .cells) a (length ws) (s .at .top) (part-top g ok bytes s sound p)) at
+      (matched-part (sound .holding) p)
 
   pub on-part-ok : {a : ℕ} {ws : List Want} (n : ℕ) (k : List Cell → Next Cell) → Part (wants g frames) a ws
       → length ws ≡ n → ((new : List Cell) → Matched Fits new ws → NextOk g s (k new)) → NextOk g s (onPart s a n k)
   unfolding onPart
   on-part-ok {a} {ws} n k p size f =
-      let top = part-top p in
+      let top = part-top g ok bytes s sound p in
       ok-yes g s _ _ (le-leb (a + n) (s .at .top) (omega arith))
       (f (partAt (s .cells) a n) (rw size at (part-cells p)))
 
@@ -364,7 +306,7 @@ module _ (g : Program)
       → Inside g own-procedure (s .at .row + 1) → NextOk g s (written s a new)
   unfolding written following goTo withCells
   written-ok {a} {new} {ws} p m inside =
-      let top = part-top p in
+      let top = part-top g ok bytes s sound p in
       let stored = sound .stored in
       let fill = matched-length m in
       let within : a + length new ≤ s .at .top = omega arith in
@@ -401,20 +343,19 @@ module _ (g : Program)
   -- ---- "0 assign b to designator a."
 
   -- "then copy the target type's cells": those of an object whose type extends the target's
-  copied-ok : (target source : Place) → target .declared < rowsOf (g .types)
-      → extends (g .types) (target .dynamic) (target .declared) ≡ true
+  copied-ok : (target source : Place) → extends (g .types) (target .dynamic) (target .declared) ≡ true
       → Object g frames (target .address) (target .dynamic)
       → extends (g .types) (source .dynamic) (source .declared) ≡ true
       → Object g frames (source .address) (source .dynamic)
       → extends (g .types) (source .declared) (target .declared) ≡ true
       → Inside g own-procedure (s .at .row + 1) → NextOk g s (copied tagged g s target source)
   unfolding copied
-  copied-ok target source low a into b from e inside =
+  copied-ok target source a into b from e inside =
       let itself-too = extends-refl (g .types) (target .declared) in
       ok-choose g s _ (λ other. ok-trapped (unchanged g s))
       (λ other. on-part-ok (sizeOf (g .types) (g .fields) (target .declared)) (written s (target .address))
       (found-front g ok (sound .stack) source b from (target .declared) e)
-      (values-length g ok (target .declared) low)
+      (values-length g (target .declared))
       (λ new fit. written-ok (found-front g ok (sound .stack) target a into (target .declared) itself-too) fit inside))
 
   pub assigned-ok : row .kind ≡ 0 → AssignRow (g .nodes) row → NextOk g s (assigned tagged g s row)
@@ -429,23 +370,25 @@ module _ (g : Program)
       let y-low = typed-low g ok (row .a) y (ruled .target-type) in
       let inside = kind-inside 0 kind (omega arith) (omega arith) (omega arith) in
       let d = form .target in
-      on-place-ok g s _ (found-here (row .a) y (d .within) (ruled .target-type) (ruled .own-target)
-      (itself (designator-yes (g .nodes) (row .a) (d .least) (d .most)))) (λ target declared extended object.
+      on-place-ok g s (unchanged g s) _ (found-here (row .a) y (d .within) (ruled .target-type) (ruled .own-target)
+      (itself (designator-yes d))) (λ target declared extended object.
       ok-choose g s _
       (λ scalar.
       let y-scalar : y ≤ 2 = omega (arith, leb-true (target .declared) 2 scalar) in
       let one : x ≡ y = extends-scalar t (g .fields) (ok .types) x y y-scalar y-low (ruled .extension) x-low in
       let known = form .source .within in
-      on-value-ok g s _ (given-here (row .b) x known (ruled .source-type) (ruled .own-source) (omega arith))
+      on-value-ok g s (unchanged g s) _ (given-here (row .b) x known (ruled .source-type) (ruled .own-source)
+      (omega arith))
       (λ v k range. put-ok target v extended object (k ∙ one ∙ sym declared) range (omega arith) inside))
       (λ structured.
       let y-large : 3 ≤ y = omega (arith, leb-false (target .declared) 2 structured) in
       let upward = extends-low t x y (ruled .extension) in
       let from = structured-designator g ok (row .b) x (form .source) (ruled .source-type) (omega arith) in
       let known = form .source .within in
-      on-place-ok g s _ (found-here (row .b) x known (ruled .source-type) (ruled .own-source) (itself from))
+      on-place-ok g s (unchanged g s) _ (found-here (row .b) x known (ruled .source-type) (ruled .own-source)
+      (itself from))
       (λ source stated held there.
-      copied-ok target source (rw declared y-low) extended object held there
+      copied-ok target source extended object held there
       (rw (declared, stated) (ruled .extension)) inside)))
 
   -- ---- "2 go to b if a is FALSE."
@@ -458,7 +401,7 @@ module _ (g : Program)
       let ruled = rules (ok .questions .rules) (s .at .row) row-within kind in
       let inside = kind-inside 2 kind (omega arith) (omega arith) (omega arith) in
       let known = form .condition .within in
-      on-value-ok g s _ (given-here (row .a) BOOLEAN known (ruled .type) (ruled .own) (omega arith))
+      on-value-ok g s (unchanged g s) _ (given-here (row .a) BOOLEAN known (ruled .type) (ruled .own) (omega arith))
       (λ v k range. on-boolean-ok g s v _ k (λ holds.
       ok-either g s holds (gone-ok (s .at .row + 1) inside)
       (gone-ok (row .b) (target-inside (row .b) (form .target)))))
@@ -496,8 +439,10 @@ module _ (g : Program)
       let to : Part (wants g (f ∷ c ∷ fs)) (s .at .base + 1) (exactly LINK (f .back) ∷ base-link) =
       rw begins (back-part g f (c ∷ fs)) in
       let from : Part (wants g (f ∷ c ∷ fs)) (s .at .base + 2) base-link = rw begins (base-part g f (c ∷ fs)) in
-      on-mark-ok g s _ (mark-there (s .at .top) (s .cells) h to (omega arith) (omega arith))
-      (on-mark-ok g s _ (mark-there (s .at .top) (s .cells) h from (omega arith) (omega arith))
+      on-mark-ok g s _ (mark-there (s .at .top) (s .cells) h to (omega arith) (omega arith)
+      (λ e. absurd (omega arith)))
+      (on-mark-ok g s _ (mark-there (s .at .top) (s .cells) h from (omega arith) (omega arith)
+      (λ e. absurd (omega arith)))
       (ok-goes (record {
         newest = c;
         others = fs;
@@ -543,8 +488,8 @@ module _ (g : Program)
       let ruled = rules (ok .questions .rules) (s .at .row) row-within kind in
       let inside = kind-inside 5 kind (omega arith) (omega arith) (omega arith) in
       let d = form .target in
-      on-place-ok g s _ (found-here (row .a) INTEGER (d .within) (ruled .type) (ruled .own)
-      (itself (designator-yes (g .nodes) (row .a) (d .least) (d .most)))) (λ target declared extended object.
+      on-place-ok g s (unchanged g s) _ (found-here (row .a) INTEGER (d .within) (ruled .type) (ruled .own)
+      (itself (designator-yes d))) (λ target declared extended object.
       ok-choose g s _
       (λ more. read-ok (put-ok target (Vs.Int (inputAt tagged g input (s .at .read))) extended object (sym declared)
       (integer (input-range g input (s .at .read))) (omega arith) inside))
@@ -556,7 +501,8 @@ module _ (g : Program)
       let rules = write-ruled (g .types) (g .fields) (g .variables) (g .procedures) (g .nodes) (g .statements) in
       let ruled = rules (ok .questions .rules) (s .at .row) row-within kind in
       let inside = kind-inside 6 kind (omega arith) (omega arith) (omega arith) in
-      on-value-ok g s _ (given-here (row .a) INTEGER (form .value .within) (ruled .type) (ruled .own) (omega arith))
+      on-value-ok g s (unchanged g s) _ (given-here (row .a) INTEGER (form .value .within) (ruled .type) (ruled .own)
+      (omega arith))
       (λ v k range. on-integer-ok g s v _ k (λ z.
       ok-choose g s _
       (λ more. ok-goes (sound-with (s .at .row + 1) (s .at .read) (s .at .written + 1) (s .cells)
@@ -569,7 +515,8 @@ module _ (g : Program)
   halted-ok kind form =
       let rules = halt-ruled (g .types) (g .fields) (g .variables) (g .procedures) (g .nodes) (g .statements) in
       let ruled = rules (ok .questions .rules) (s .at .row) row-within kind .value in
-      on-value-ok g s _ (given-here (row .a) INTEGER (form .value .within) (ruled .type) (ruled .own) (omega arith))
+      on-value-ok g s (unchanged g s) _ (given-here (row .a) INTEGER (form .value .within) (ruled .type) (ruled .own)
+      (omega arith))
       (λ v k range. on-integer-ok g s v _ k (λ z. ok-trapped (unchanged g s)))
 
   -- ---- by the kind
