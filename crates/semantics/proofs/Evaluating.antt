@@ -306,7 +306,7 @@ module _ (g : Program)
       rw (choose-yes _ (object (placeOf g a) (rowAt (g .variables) a .a)) _
       (eq-eqb (rowAt (g .variables) a .kind) 0 kind))
       (object-ok (rw (place-global g ok a e)
-      (of-global (global-low (g .types) (g .variables) a (ok .variable a low) low e kind))))
+      (of-global a (global-low (g .types) (g .variables) a (ok .variable a low) low e kind))))
 
   -- a local or value parameter stands in the newest frame
   variable-plain : (a : ℕ) → Own g procedure a → 1 ≤ rowAt (g .variables) a .kind → rowAt (g .variables) a .kind ≤ 2

@@ -207,7 +207,7 @@ module _ (g : Program)
 
   -- an object's type is a row
   pub object-typed : {fs : List Frame} {at r : ℕ} → Object g fs at r → r < rowsOf (g .types)
-  object-typed (of-global {k = k} h) = ok .variable k (omega (arith, globals-within (g .variables))) .typed
+  object-typed (of-global k h) = ok .variable k (omega (arith, globals-within (g .variables))) .typed
   object-typed (of-frame {k = k} own kind) = ok .variable k (own-within own) .typed
   object-typed (of-older o) = object-typed o
   object-typed (of-field {r = r} {offset = offset} {u = u} j o e) =
@@ -264,7 +264,7 @@ module _ (g : Program)
   -- an object's cells are to hold its type's layout
   pub object-part : {fs : List Frame} {at r : ℕ} → Stack g fs → Object g fs at r → Part (wants g fs) at (valuesOf g r)
   unfolding wants valuesOf form
-  object-part {fs} st (of-global {k = k} h) = global-part g fs k h
+  object-part {fs} st (of-global k h) = global-part g fs k h
   object-part st (of-frame {k = k} own kind) =
       let (ws, slot, part) = slot-at st k own in
       rw (value-slot slot kind) at part

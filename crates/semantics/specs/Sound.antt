@@ -84,7 +84,7 @@ module _ (g : Program) where
   -- at this address begins, in these frames, "a global, an older frame's local or value parameter, or an element or
   -- field at any depth of one, declared with the named type". An object without cells begins at its place too.
   pub data Object : List Frame → ℕ → ℕ → Type 0 where
-    of-global : {fs : List Frame} {k : ℕ} → k < globalsOf (g .variables)
+    of-global : {fs : List Frame} (k : ℕ) → k < globalsOf (g .variables)
         → Object fs (roomFrom (g .types) (g .fields) (g .variables) 0 k) (rowAt (g .variables) k .a)
     of-frame : {f : Frame} {fs : List Frame} {k : ℕ} → Own (f .procedure) k → rowAt (g .variables) k .kind ≤ 2
         → Object (f ∷ fs) (room fs + placeIn (g .types) (g .fields) (g .variables) (g .procedures) (f .procedure) k)
