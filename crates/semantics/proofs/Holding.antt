@@ -48,13 +48,6 @@ module _ {A B : Type 0} {R : A → B → Type 0} where
   matched-drop (suc n) no-more = no-more
   matched-drop (suc n) (one-more r h) = matched-drop n h
 
-  pub matched-split : (w x : List B) {l : List A} → Matched R l (w ++ x)
-      → Matched R (take (length w) l) w × Matched R (drop (length w) l) x
-  matched-split w x h =
-      let front = matched-take (length w) h in
-      let back = matched-drop (length w) h in
-      (rw (take-append-seam w x) at front, rw (drop-append-seam w x) at back)
-
   -- what stands in a part
   pub matched-part : {l : List A} {w ws : List B} {at : ℕ} → Matched R l w → Part w at ws
       → Matched R (partAt l at (length ws)) ws

@@ -25,7 +25,7 @@ use Rattle.semantics.specs.Stepping.{State, Next, Next.goes, Next.finish
 use Rattle.semantics.specs.Running.{programOf, firstTop, fresh, Ended, onward, runFrom, refusal, ranOf}
 use Rattle.semantics.specs.Running.{numbersOf, refusedWith, resultOf}
 use Rattle.semantics.specs.Sound.{Sound}
-use Rattle.semantics.specs.After.{Machine, Machine.running, moved, after}
+use Rattle.semantics.specs.After.{Machine, Machine.running, Machine.over, Machine.failed, moved, after}
 use Rattle.semantics.proofs.Simulation.{eraseEnded, run-follows, fresh-erased}
 use Rattle.semantics.proofs.Kept.{Unchanged, NextOk, NextOk.ok-goes, NextOk.ok-finished, NextOk.ok-trapped}
 use Rattle.semantics.proofs.Beginning.{fresh-sound, fresh-length}
@@ -90,6 +90,31 @@ module _ (g : Program) (input : List ℤ) where
       go finished e later = finishes {c = k + 1} 0 (omega arith) (omega arith) refl e
       go (trapped t z u) e later = traps {c = k + 1} 0 (omega arith) (omega arith) refl e
       go stuck e later = sticks {c = k + 1} 0 (omega arith) (omega arith) refl e
+
+-- the machine finished or trapped
+pub data Last : Machine Cell → Type 0 where
+  last-over : {s : State Cell} → Last (over s)
+  last-failed : {t : Trap} {z : ℤ} {s u : State Cell} → Last (failed t z s u)
+
+no-last : {s : State Cell} → Last (running s) → ⊥
+no-last h = elim h [ ]
+
+-- "A step that finishes or traps .. is the last.": k more steps change nothing
+pub last-stays : (g : Program) (input : List ℤ) (n k : ℕ) (s : State Cell) → Last (after tagged g input n s)
+    → after tagged g input (n + k) s ≡ after tagged g input n s
+unfolding after moved
+last-stays g input zero k s last = absurd (no-last last)
+last-stays g input (suc n) k s last =
+    let one : suc n + k ≡ suc (n + k) = omega arith in
+    rw one (go (stepOf tagged g input s) last (λ u h. last-stays g input n k u h))
+  where
+    go : (x : Next Cell) → Last (moved x s (after tagged g input n))
+        → ((u : State Cell) → Last (after tagged g input n u) → after tagged g input (n + k) u ≡ after tagged g input n u)
+        → moved x s (after tagged g input (n + k)) ≡ moved x s (after tagged g input n)
+    go (goes u) h later = later u h
+    go finished h later = refl
+    go (trapped t z u) h later = refl
+    go stuck h later = refl
 
 -- a run takes no more steps than it is lent
 pub steps-lent : (image : List ℕ) (input store output : List ℤ) (steps : ℕ)
