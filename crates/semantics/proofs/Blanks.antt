@@ -24,7 +24,8 @@ use Rattle.values.specs.Values.{cellOf, booleanCell, integerCell, isInteger, se
 use Rattle.semantics.specs.Memory.{Cell, tagged}
 use Rattle.semantics.specs.Layout.{Program, kindsOf, kindsFrom}
 use Rattle.semantics.specs.Sound.{Want, Want.any-value, Fits, Fits.fits-value, Matched, Matched.no-more}
-use Rattle.semantics.specs.Sound.{Matched.one-more, Frame, rowsFrom, valuesOf, Slot, Slot.by-value}
+use Rattle.semantics.specs.Sound.{Matched.one-more, Frame, valuesOf, Slot, Slot.by-value}
+use Rattle.names.specs.Names.{rowsFrom}
 use Rattle.semantics.proofs.Objects.{kinds-value}
 
 -- ---- layouts are made of scalar kinds

@@ -36,7 +36,8 @@ use Rattle.semantics.specs.Finding.{findOf, evalOf}
 use Rattle.semantics.specs.Stepping.{State, Next, onPlace, onValue, onPart, withCells, argumentCells, passed}
 use Rattle.semantics.specs.Stepping.{entered, called}
 use Rattle.semantics.specs.Sound.{Want, Want.any-value, Want.exactly, Fits, Fits.fits-exactly, Matched}
-use Rattle.semantics.specs.Sound.{Matched.no-more, Matched.one-more, Frame, rowsFrom, valuesOf, frameWants}
+use Rattle.semantics.specs.Sound.{Matched.no-more, Matched.one-more, Frame, valuesOf, frameWants}
+use Rattle.names.specs.Names.{rowsFrom}
 use Rattle.semantics.specs.Sound.{wants, room, Inside, Slot, Slot.by-value, Slot.by-reference, Called.is-called}
 use Rattle.semantics.specs.Sound.{Stack, Stack.a-frame, Sound}
 use Rattle.semantics.proofs.Holding.{matched-length, matched-append, put-above, put-length}

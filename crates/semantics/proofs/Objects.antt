@@ -32,7 +32,8 @@ use Rattle.checker.proofs.Accepted.{AcceptedTables}
 use Rattle.semantics.specs.Memory.{ADDRESS, TYPE}
 use Rattle.semantics.specs.Layout.{Program, ownerFrom, ownerOf, placeOf, kindsOf, kindsFrom}
 use Rattle.semantics.specs.Sound.{Want, Want.any-value, Matched, Matched.no-more, Matched.one-more, Frame}
-use Rattle.semantics.specs.Sound.{rowsFrom, valuesOf, frameWants, wants, room, Own, Object, Object.of-global}
+use Rattle.semantics.specs.Sound.{valuesOf, frameWants, wants, room, Own, Object, Object.of-global}
+use Rattle.names.specs.Names.{rowsFrom}
 use Rattle.semantics.specs.Sound.{Object.of-frame, Object.of-older, Object.of-field, Object.of-element, Slot}
 use Rattle.semantics.specs.Sound.{Slot.by-value, Slot.by-reference, Stack, Stack.a-frame}
 use Rattle.semantics.proofs.Holding.{part-start}

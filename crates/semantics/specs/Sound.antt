@@ -1,5 +1,5 @@
 -- Sound states of the tagged machine. The frames are ghost data: what they say is of the cells, by place.
-use Prim.Native.Nat.{ℕ, zero, suc, _+_, _*_, _≤_, _<_}
+use Prim.Native.Nat.{ℕ, _+_, _*_, _≤_, _<_}
 use mathlib.Core.Path.{_≡_}
 use mathlib.Core.Bool.{Bool, true}
 use mathlib.Core.List.{List, [], _∷_, _++_, map}
@@ -13,6 +13,7 @@ use Rattle.relations.specs.Extends.{extends}
 use Rattle.relations.specs.Fields.{fieldOf}
 use Rattle.frames.specs.Variables.{globalsOf}
 use Rattle.frames.specs.Procedures.{firstVariable, claimedBy, bodyEnd}
+use Rattle.names.specs.Names.{rowsFrom}
 use Rattle.places.specs.Places.{roomFrom, placeIn}
 use Rattle.values.specs.Values.{cellOf}
 use Rattle.values.specs.declared.Value.{Value}
@@ -45,11 +46,6 @@ pub record Frame : Type 0 where
   pub back : ℕ
   pub callers-base : ℕ
   pub slots : List (List Want)
-
--- n rows from row k on
-unfoldable pub rowsFrom : ℕ → ℕ → List ℕ
-rowsFrom k zero = []
-rowsFrom k (suc n) = k ∷ rowsFrom (k + 1) n
 
 module _ (g : Program) where
   -- what the cells of an object of type r are to hold
