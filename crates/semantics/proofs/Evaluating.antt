@@ -180,24 +180,18 @@ cell-there top cells {a = a} h p low =
     rw (← cell-below cells d a top low) (matched-at d h p)
 
 -- a link, an address or a type reads as its number
-marked-number : (c : Cell) (k n : ℕ) → n ≤ 65536 → (k ≡ TYPE → n < 65536) → Fits c (exactly k n)
-    → tagged .marked k c ≡ Number n
+marked-number : (c : Cell) (k n : ℕ) → n < 65536 → Fits c (exactly k n) → tagged .marked k c ≡ Number n
 unfolding tagged markOf
-marked-number c k n small type (fits-exactly kind e) =
-    choose-yes _ _ _ (eq-eqb k (c .kind) (sym kind)) ∙ rw e (choose-yes _ _ _ (lt-ltb n _ (bound (decide k TYPE))))
-  where
-    bound : (k ≡ TYPE) ⊎ (k ≡ TYPE → ⊥) → n < choose (eqb k TYPE) 65536 4294967296
-    bound (inl same) = rw (choose-yes {X = ℕ} _ 65536 4294967296 (eq-eqb k TYPE same)) (type same)
-    bound (inr other) = rw (choose-no {X = ℕ} _ 65536 4294967296 (ne-eqb k TYPE other)) (omega arith)
+marked-number c k n small (fits-exactly kind e) =
+    choose-yes _ _ _ (eq-eqb k (c .kind) (sym kind)) ∙ rw e (choose-yes _ _ _ (lt-ltb n _ small))
 
 -- such a cell below top
 pub mark-there : (top : ℕ) (cells : List Cell) {w ws : List Want} {k n a : ℕ} → Matched Fits (take top cells) w
-    → Part w a (exactly k n ∷ ws) → a < top → n ≤ 65536 → (k ≡ TYPE → n < 65536)
-    → markAt tagged top cells k a ≡ Number n
+    → Part w a (exactly k n ∷ ws) → a < top → n < 65536 → markAt tagged top cells k a ≡ Number n
 unfolding markAt
-mark-there top cells {k = k} {n} {a} h p low small type =
+mark-there top cells {k = k} {n} {a} h p low small =
     choose-yes _ _ _ (lt-ltb a top low)
-    ∙ marked-number (cellAt tagged cells a) k n small type (cell-there top cells h p low)
+    ∙ marked-number (cellAt tagged cells a) k n small (cell-there top cells h p low)
 
 -- ---- scalar objects
 
@@ -320,8 +314,8 @@ module _ (g : Program)
       (object-ok (rw (sound .begins, place-own g ok procedure a there own) (of-frame own most)))
 
   -- the address of an object, and its type, as numbers of cells
-  object-small : {fs : List Frame} {at r : ℕ} → Stack g fs → Object g fs at r → room g fs ≤ 65536
-      → (at ≤ 65536) × (r < 65536)
+  object-small : {fs : List Frame} {at r : ℕ} → Stack g fs → Object g fs at r → room g fs < 65536
+      → (at < 65536) × (r < 65536)
   object-small st object small =
       let within = object-part g ok st object .within in
       let typed = object-typed g ok object in
@@ -334,8 +328,8 @@ module _ (g : Program)
       go : {f : Frame} {fs : List Frame} → Stack g (f ∷ fs) → Stack g fs
       go (a-frame st low called slots) = st
 
-  older-small : room g (sound .others) ≤ 65536
-  unfolding wants
+  older-small : room g (sound .others) < 65536
+  unfolding wants frameWants
   older-small =
       let e = sound .ends in
       let l = length-append (wants g (sound .others)) (frameWants g (sound .newest)) in
@@ -353,9 +347,8 @@ module _ (g : Program)
       let (low, type) = object-small older object small in
       let next = part-next part in
       rw (
-        mark-there top cells {k = ADDRESS} {n = address} (sound .holding) part (part-inside part) low
-            (λ e. absurd (omega arith)),
-        mark-there top cells {k = TYPE} {n = r} (sound .holding) next (part-inside next) (omega arith) (λ e. type),
+        mark-there top cells {k = ADDRESS} {n = address} (sound .holding) part (part-inside part) low,
+        mark-there top cells {k = TYPE} {n = r} (sound .holding) next (part-inside next) type,
       )
       (found-ok {place = record { address = address; declared = rowAt (g .variables) a .a; dynamic = r }}
       refl extended (of-older object))

@@ -439,10 +439,8 @@ module _ (g : Program)
       let to : Part (wants g (f ∷ c ∷ fs)) (s .at .base + 1) (exactly LINK (f .back) ∷ base-link) =
       rw begins (back-part g f (c ∷ fs)) in
       let from : Part (wants g (f ∷ c ∷ fs)) (s .at .base + 2) base-link = rw begins (base-part g f (c ∷ fs)) in
-      on-mark-ok g s _ (mark-there (s .at .top) (s .cells) h to (omega arith) (omega arith)
-      (λ e. absurd (omega arith)))
-      (on-mark-ok g s _ (mark-there (s .at .top) (s .cells) h from (omega arith) (omega arith)
-      (λ e. absurd (omega arith)))
+      on-mark-ok g s _ (mark-there (s .at .top) (s .cells) h to (omega arith) (omega arith))
+      (on-mark-ok g s _ (mark-there (s .at .top) (s .cells) h from (omega arith) (omega arith))
       (ok-goes (record {
         newest = c;
         others = fs;

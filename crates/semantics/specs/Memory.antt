@@ -28,10 +28,10 @@ pub record Cell : Type 0 where
   pub kind : ℕ
   pub number : ℤ
 
--- a number as a link or an address, in 32 bits, or as a type, in 16
-unfoldable pub markOf : ℕ → ℤ → Mark
-markOf kind (pos n) = choose (ltb n (choose (eqb kind TYPE) 65536 4294967296)) (Number n) Nothing
-markOf kind (negsuc n) = Nothing
+-- a number as a link, an address or a type, in 16 bits: no store has more cells, and no table more rows
+unfoldable pub markOf : ℤ → Mark
+markOf (pos n) = choose (ltb n 65536) (Number n) Nothing
+markOf (negsuc n) = Nothing
 
 -- how cells of a memory are read and written
 pub record Memory (X : Type 0) : Type 0 where
@@ -48,7 +48,7 @@ pub record Memory (X : Type 0) : Type 0 where
 unfoldable pub tagged : Memory Cell
 tagged = record {
   held = λ kind c. choose (eqb kind (c .kind)) (cellOf kind (c .number)) As.Stuck;
-  marked = λ kind c. choose (eqb kind (c .kind)) (markOf kind (c .number)) Nothing;
+  marked = λ kind c. choose (eqb kind (c .kind)) (markOf (c .number)) Nothing;
   put = λ v. record { kind = kindOf v; number = numberOf v };
   mark = λ kind n. record { kind = kind; number = pos n };
   blank = λ kind. record { kind = kind; number = pos 0 };
@@ -60,7 +60,7 @@ tagged = record {
 unfoldable pub bare : Memory ℤ
 bare = record {
   held = λ kind z. cellOf kind z;
-  marked = λ kind z. markOf kind z;
+  marked = λ kind z. markOf z;
   put = λ v. numberOf v;
   mark = λ kind n. pos n;
   blank = λ kind. pos 0;

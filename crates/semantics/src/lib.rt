@@ -26,7 +26,7 @@ pub enum Found {
 
 // The number of a link, an address or a type.
 pub enum Mark {
-    Number(u32),
+    Number(u16),
     Nothing,
 }
 
