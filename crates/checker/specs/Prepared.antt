@@ -2,11 +2,15 @@
 use Prim.Native.Nat.{ℕ, _≤_}
 use mathlib.Core.Path.{_≡_}
 use mathlib.Core.List.{List}
+use lib.Dec.{eqb}
 use lib.ListN.{length}
+use Rattle.prelude.specs.Choice.{choose}
+use Rattle.prelude.specs.Cells.{Filled}
 use Rattle.image.specs.Rows.{rowsOf}
 use Rattle.image.specs.declared.Verdict.the-variants.{Kept}
 use Rattle.header.specs.declared.HeaderAnswer.the-variants.{No}
-use Rattle.header.specs.Header.{headerOf}
+use Rattle.header.specs.declared.Tables.{Tables}
+use Rattle.header.specs.Header.{headerOf, tablesIn}
 use Rattle.types.specs.Plan.{Plan, Rest, passed}
 use Rattle.types.specs.Question.{question4}
 use Rattle.frames.specs.Variables.{question5}
@@ -39,9 +43,31 @@ pub data Leaves (t f v p old : List ℕ) : CheckAnswer → List ℕ → Type 0 w
   some : {q row : ℕ} {plan : List ℕ} → Plan t f (passed t (question4 t f)) plan
       → Rest t (passed t (question4 t f)) old plan → Leaves t f v p old (Refused q row) plan
 
--- .. and of an image: nothing without tables
+-- where the six tables stand: number j of twelve, a start and an end for each, in the tables' order
+unfoldable pub boundOf : Tables → ℕ → ℕ
+boundOf t j =
+    choose (eqb j 0) (t .types .start)
+    (choose (eqb j 1) (t .types .end)
+    (choose (eqb j 2) (t .fields .start)
+    (choose (eqb j 3) (t .fields .end)
+    (choose (eqb j 4) (t .variables .start)
+    (choose (eqb j 5) (t .variables .end)
+    (choose (eqb j 6) (t .procedures .start)
+    (choose (eqb j 7) (t .procedures .end)
+    (choose (eqb j 8) (t .nodes .start)
+    (choose (eqb j 9) (t .nodes .end)
+    (choose (eqb j 10) (t .statements .start) (t .statements .end)))))))))))
+
+-- they are small
+pub record BoundsFit (t : Tables) : Type 0 where
+  pub each : (j : ℕ) → boundOf t j ≤ 65536
+
+-- .. and of an image: nothing without tables; with acceptance also where they stand, from cell 770 on
 pub data Prepared (image old : List ℕ) : CheckAnswer → List ℕ → Type 0 where
   untouched : {q : ℕ} → headerOf image ≡ No q → Prepared image old (Refused q 0) old
-  tables : {x : CheckAnswer} {plan : List ℕ}
-      → Leaves (typesIn image) (fieldsIn image) (variablesIn image) (proceduresIn image) old x plan
-      → Prepared image old x plan
+  refused : {q row : ℕ} {plan : List ℕ}
+      → Leaves (typesIn image) (fieldsIn image) (variablesIn image) (proceduresIn image) old (Refused q row) plan
+      → Prepared image old (Refused q row) plan
+  prepared : {between plan : List ℕ}
+      → Leaves (typesIn image) (fieldsIn image) (variablesIn image) (proceduresIn image) old Accepted between
+      → Filled 770 12 (boundOf (tablesIn image)) between plan → Prepared image old Accepted plan

@@ -1,5 +1,6 @@
 // The check of an image: questions 1 to 11, exported to C.
 use header::HeaderAnswer;
+use header::Tables;
 use image::Verdict;
 ghost use mathlib.Core.Path.{_≡_};
 ghost use Prim.Native.Nat.{_≤_};
@@ -12,7 +13,8 @@ ghost use Rattle.frames.specs.Variables.{question5};
 ghost use Rattle.frames.specs.Procedures.{question6};
 ghost use Rattle.checker.specs.declared.CheckAnswer.the-variants.{Accepted};
 ghost use Rattle.checker.specs.Check.{tableQuestion, asked, firstNo, checkOf, numberOf};
-ghost use Rattle.checker.specs.Prepared.{CountsFit, Leaves, Prepared};
+ghost use Rattle.prelude.specs.Cells.{Filled};
+ghost use Rattle.checker.specs.Prepared.{CountsFit, BoundsFit, Leaves, boundOf, Prepared};
 
 // Accepted, or the number of the question that fails and its lowest row at fault.
 pub enum CheckAnswer {
@@ -121,9 +123,28 @@ fn check_tables(
     CheckAnswer::Accepted
 }
 
-// The check, which leaves sizes, offsets, places and frame sizes in a lent plan.
+// Writes where the six tables stand.
+fn fill_bounds(tables: Tables, plan: &mut [u32])
+    requires { ⌜ BoundsFit tables × (782 ≤ length (now plan)) ⌝ }
+    ensures { λ x. ⌜ Filled 770 12 (boundOf tables) (now (plan .entry)) (now (plan .exit)) ⌝ }
+{
+    plan[770] = tables.types.start as u32;
+    plan[771] = tables.types.end as u32;
+    plan[772] = tables.fields.start as u32;
+    plan[773] = tables.fields.end as u32;
+    plan[774] = tables.variables.start as u32;
+    plan[775] = tables.variables.end as u32;
+    plan[776] = tables.procedures.start as u32;
+    plan[777] = tables.procedures.end as u32;
+    plan[778] = tables.nodes.start as u32;
+    plan[779] = tables.nodes.end as u32;
+    plan[780] = tables.statements.start as u32;
+    plan[781] = tables.statements.end as u32;
+}
+
+// The check, which leaves sizes, offsets, places and frame sizes in a lent plan, and where the tables stand.
 pub fn prepare(image: &[u8], plan: &mut [u32]) -> CheckAnswer
-    requires { ⌜ 770 ≤ length (now plan) ⌝ }
+    requires { ⌜ 782 ≤ length (now plan) ⌝ }
     ensures { λ x. ⌜ x ≡ checkOf (now (image .entry)) ⌝ }
     ensures plan { λ x. ⌜ Prepared (now (image .entry)) (now (plan .entry)) x (now (plan .exit)) ⌝ }
 {
@@ -142,7 +163,12 @@ pub fn prepare(image: &[u8], plan: &mut [u32]) -> CheckAnswer
             let p = header::part(image, procedures);
             let n = header::part(image, nodes);
             let s = header::part(image, statements);
-            check_tables(t, f, v, p, n, s, plan)
+            let answer = check_tables(t, f, v, p, n, s, plan);
+            let CheckAnswer::Accepted = answer else {
+                return answer;
+            };
+            fill_bounds(tables, plan);
+            CheckAnswer::Accepted
         }
     }
 }
@@ -151,7 +177,7 @@ pub fn prepare(image: &[u8], plan: &mut [u32]) -> CheckAnswer
 pub fn check(image: &[u8]) -> CheckAnswer
     ensures { λ x. ⌜ x ≡ checkOf (now (image .entry)) ⌝ }
 {
-    let mut plan = [0u32; 770];
+    let mut plan = [0u32; 782];
     prepare(image, &mut plan)
 }
 

@@ -1,0 +1,62 @@
+-- What a machine needs to know of an image and its plan.
+-- To the cells that `checker` fills, 782 + r adds the procedure whose body has statement row r.
+use Prim.Native.Nat.{ℕ, _+_, _≤_, _<_}
+use mathlib.Core.Path.{_≡_}
+use mathlib.Core.List.{List}
+use lib.Dec.{eqb}
+use lib.ListN.{length, getD}
+use Rattle.prelude.specs.Choice.{choose}
+use Rattle.prelude.specs.Cells.{Filled}
+use Rattle.image.specs.Rows.{rowsOf}
+use Rattle.header.specs.Header.{tablesIn}
+use Rattle.shapes.specs.Sizes.{sizeOf}
+use Rattle.relations.specs.Fields.{fieldOf, plannedField}
+use Rattle.frames.specs.Procedures.{firstVariable}
+use Rattle.statements.specs.Statements.{procedureAt}
+use Rattle.places.specs.Places.{frameSize}
+use Rattle.checker.specs.declared.CheckAnswer.{CheckAnswer}
+use Rattle.checker.specs.declared.CheckAnswer.the-variants.{Accepted, Refused}
+use Rattle.checker.specs.Check.{checkOf}
+use Rattle.checker.specs.Prepared.{boundOf, Prepared}
+use Rattle.semantics.specs.Layout.{Program, placeOf}
+use Rattle.semantics.specs.Running.{programOf, globalRoom}
+
+-- table k of the six, in their order
+unfoldable pub tableOf : Program → ℕ → List ℕ
+tableOf g k =
+    choose (eqb k 0) (g .types)
+    (choose (eqb k 1) (g .fields)
+    (choose (eqb k 2) (g .variables)
+    (choose (eqb k 3) (g .procedures)
+    (choose (eqb k 4) (g .nodes) (g .statements)))))
+
+-- an accepted image and a plan with its sizes, fields, places, frames and tables
+pub record Planned (image plan : List ℕ) : Type 0 where
+  pub accepted : checkOf image ≡ Accepted
+  pub cells : 1806 ≤ length plan
+  pub size : (r : ℕ) → r < rowsOf (programOf image .types)
+      → getD plan r 0 ≡ sizeOf (programOf image .types) (programOf image .fields) r
+  pub field : (r n : ℕ) → plannedField (programOf image .types) (programOf image .fields) plan n r
+      ≡ fieldOf (programOf image .types) (programOf image .fields) r n
+  pub place : (a : ℕ) → a < rowsOf (programOf image .variables)
+      → getD plan (384 + a) 0 ≡ placeOf (programOf image) a
+  pub frame : (q : ℕ) → q < rowsOf (programOf image .procedures)
+      → getD plan (640 + q) 0 ≡ frameSize (programOf image .types) (programOf image .fields)
+      (programOf image .variables) (programOf image .procedures) q
+  pub first : (q : ℕ) → q < rowsOf (programOf image .procedures)
+      → getD plan (704 + q) 0 ≡ firstVariable (programOf image .variables) (programOf image .procedures) q
+  pub globals : getD plan 769 0 ≡ globalRoom (programOf image)
+  pub bound : (j : ℕ) → j < 12 → getD plan (770 + j) 0 ≡ boundOf (tablesIn image) j
+
+-- and the procedure of each statement
+pub record Ready (image plan : List ℕ) : Type 0 where
+  pub planned : Planned image plan
+  pub owner : (r : ℕ) → r < rowsOf (programOf image .statements)
+      → getD plan (782 + r) 0 ≡ procedureAt (programOf image .procedures) r
+
+-- what the check leaves in a lent plan, and behind acceptance the procedure of each statement
+pub data Opened (image old : List ℕ) : CheckAnswer → List ℕ → Type 0 where
+  closed : {q row : ℕ} {plan : List ℕ} → Prepared image old (Refused q row) plan → Opened image old (Refused q row) plan
+  opened : {between plan : List ℕ} → Prepared image old Accepted between
+      → Filled 782 (rowsOf (programOf image .statements)) (procedureAt (programOf image .procedures)) between plan
+      → Opened image old Accepted plan

@@ -1,0 +1,169 @@
+// An accepted image as the machine reads it: its rows, and by its plan its sizes and places, of which none is added up
+// again.
+use checker::CheckAnswer;
+use image::Row;
+use relations::FieldAnswer;
+ghost use mathlib.Core.Path.{_≡_};
+ghost use Prim.Native.Nat.{_≤_, _<_};
+ghost use lib.ListN.{length};
+ghost use Rattle.prelude.specs.Cells.{Filled};
+ghost use Rattle.image.specs.Rows.{rowAt, rowsOf};
+ghost use Rattle.shapes.specs.Sizes.{sizeOf};
+ghost use Rattle.relations.specs.Extends.{extends as extendsOf};
+ghost use Rattle.relations.specs.Fields.{fieldOf};
+ghost use Rattle.frames.specs.Procedures.{firstVariable};
+ghost use Rattle.statements.specs.Statements.{procedureAt};
+ghost use Rattle.places.specs.Places.{frameSize};
+ghost use Rattle.checker.specs.Check.{checkOf};
+ghost use Rattle.semantics.specs.Layout.{placeOf};
+ghost use Rattle.semantics.specs.Running.{programOf, globalRoom};
+ghost use Rattle.access.specs.Ready.{tableOf, Planned, Ready, Opened};
+
+// ---- tables and rows
+
+// Table k of the six, in their order.
+fn table(image: &[u8], plan: &[u32], k: usize) -> &[u8]
+    requires { ⌜ Planned (now image) (now plan) × (k < 6) ⌝ }
+    ensures { λ x. ⌜ now x ≡ tableOf (programOf (now (image .entry))) k ⌝ }
+{
+    let start = plan[770 + 2 * k] as usize;
+    let end = plan[771 + 2 * k] as usize;
+    &image[start..end]
+}
+
+pub fn type_at(image: &[u8], plan: &[u32], r: u16) -> Row
+    requires { ⌜ Planned (now image) (now plan) ⌝ }
+    ensures { λ x. ⌜ x ≡ rowAt (programOf (now (image .entry)) .types) r ⌝ }
+{
+    image::row_at(table(image, plan, 0), r as usize)
+}
+
+pub fn variable_at(image: &[u8], plan: &[u32], a: u32) -> Row
+    requires { ⌜ Planned (now image) (now plan) ⌝ }
+    ensures { λ x. ⌜ x ≡ rowAt (programOf (now (image .entry)) .variables) a ⌝ }
+{
+    image::row_at(table(image, plan, 2), a as usize)
+}
+
+pub fn procedure_at(image: &[u8], plan: &[u32], q: u16) -> Row
+    requires { ⌜ Planned (now image) (now plan) ⌝ }
+    ensures { λ x. ⌜ x ≡ rowAt (programOf (now (image .entry)) .procedures) q ⌝ }
+{
+    image::row_at(table(image, plan, 3), q as usize)
+}
+
+pub fn node_at(image: &[u8], plan: &[u32], r: u32) -> Row
+    requires { ⌜ Planned (now image) (now plan) ⌝ }
+    ensures { λ x. ⌜ x ≡ rowAt (programOf (now (image .entry)) .nodes) r ⌝ }
+{
+    image::row_at(table(image, plan, 4), r as usize)
+}
+
+pub fn statement_at(image: &[u8], plan: &[u32], r: u32) -> Row
+    requires { ⌜ Planned (now image) (now plan) ⌝ }
+    ensures { λ x. ⌜ x ≡ rowAt (programOf (now (image .entry)) .statements) r ⌝ }
+{
+    image::row_at(table(image, plan, 5), r as usize)
+}
+
+// ---- types
+
+// Whether type row r extends row u.
+pub fn extends(image: &[u8], plan: &[u32], r: u16, u: u16) -> bool
+    requires { ⌜ Planned (now image) (now plan) ⌝ }
+    ensures { λ x. ⌜ x ≡ extendsOf (programOf (now (image .entry)) .types) r u ⌝ }
+{
+    relations::extends(table(image, plan, 0), r, u)
+}
+
+// Field n of type row r.
+pub fn field(image: &[u8], plan: &[u32], r: u16, n: u16) -> FieldAnswer
+    requires { ⌜ Planned (now image) (now plan) ⌝ }
+    ensures { λ x. ⌜ x ≡ fieldOf (programOf (now (image .entry)) .types) (programOf (now (image .entry)) .fields) r n ⌝ }
+{
+    relations::field(table(image, plan, 0), table(image, plan, 1), plan, r, n)
+}
+
+// The size of type row r.
+pub fn size_of(image: &[u8], plan: &[u32], r: u16) -> u32
+    requires { ⌜ Planned (now image) (now plan) × (r < rowsOf (programOf (now image) .types)) ⌝ }
+    ensures { λ x. ⌜ x ≡ sizeOf (programOf (now (image .entry)) .types) (programOf (now (image .entry)) .fields) r ⌝ }
+{
+    plan[r as usize]
+}
+
+// ---- variables and procedures
+
+// Where variable row a begins: a global in the store, another in its frame.
+pub fn place_of(image: &[u8], plan: &[u32], a: u32) -> u32
+    requires { ⌜ Planned (now image) (now plan) × (a < rowsOf (programOf (now image) .variables)) ⌝ }
+    ensures { λ x. ⌜ x ≡ placeOf (programOf (now (image .entry))) a ⌝ }
+{
+    plan[384 + a as usize]
+}
+
+// The size of procedure q's frame.
+pub fn frame_size(image: &[u8], plan: &[u32], q: u16) -> u32
+    requires { ⌜ Planned (now image) (now plan) × (q < rowsOf (programOf (now image) .procedures)) ⌝ }
+    ensures { λ x. ⌜ x ≡ frameSize (programOf (now (image .entry)) .types) (programOf (now (image .entry)) .fields)
+        (programOf (now (image .entry)) .variables) (programOf (now (image .entry)) .procedures) q ⌝ }
+{
+    plan[640 + q as usize]
+}
+
+// The first variable row of procedure q.
+pub fn first_variable(image: &[u8], plan: &[u32], q: u16) -> u32
+    requires { ⌜ Planned (now image) (now plan) × (q < rowsOf (programOf (now image) .procedures)) ⌝ }
+    ensures { λ x. ⌜ x ≡ firstVariable (programOf (now (image .entry)) .variables)
+        (programOf (now (image .entry)) .procedures) q ⌝ }
+{
+    plan[704 + q as usize]
+}
+
+// How many cells the globals have.
+pub fn global_room(image: &[u8], plan: &[u32]) -> u32
+    requires { ⌜ Planned (now image) (now plan) ⌝ }
+    ensures { λ x. ⌜ x ≡ globalRoom (programOf (now (image .entry))) ⌝ }
+{
+    plan[769]
+}
+
+// The procedure whose body has statement row r.
+pub fn procedure_of(image: &[u8], plan: &[u32], r: u32) -> u32
+    requires { ⌜ Ready (now image) (now plan) × (r < rowsOf (programOf (now image) .statements)) ⌝ }
+    ensures { λ x. ⌜ x ≡ procedureAt (programOf (now (image .entry)) .procedures) r ⌝ }
+{
+    plan[782 + r as usize]
+}
+
+// ---- the plan
+
+// Writes the procedure of each of n statement rows.
+fn fill_owners(p: &[u8], n: usize, plan: &mut [u32])
+    requires { ⌜ (n ≤ 1024) × (rowsOf (now p) ≤ 64) × (1806 ≤ length (now plan)) ⌝ }
+    ensures { λ x. ⌜ Filled 782 n (procedureAt (now (p .entry))) (now (plan .entry)) (now (plan .exit)) ⌝ }
+{
+    let mut q: usize = 0;
+    let mut r: usize = 0;
+    while r < n {
+        plan[782 + r] = q as u32;
+        r = r + 1;
+        q = statements::next_procedure(p, q, r);
+    }
+}
+
+// The check, which leaves a whole plan of an image that it accepts.
+pub fn open_image(image: &[u8], plan: &mut [u32]) -> CheckAnswer
+    requires { ⌜ 1806 ≤ length (now plan) ⌝ }
+    ensures { λ x. ⌜ x ≡ checkOf (now (image .entry)) ⌝ }
+    ensures plan { λ x. ⌜ Opened (now (image .entry)) (now (plan .entry)) x (now (plan .exit)) ⌝ }
+{
+    let answer = checker::prepare(image, plan);
+    let CheckAnswer::Accepted = answer else {
+        return answer;
+    };
+    let p = table(image, plan, 3);
+    let n = image::rows_of(table(image, plan, 5));
+    fill_owners(p, n, plan);
+    CheckAnswer::Accepted
+}
