@@ -1,0 +1,340 @@
+// Finding a designator and evaluating an expression.
+use image::Row;
+use relations::FieldAnswer;
+use semantics::Found;
+use semantics::Mark;
+use semantics::Place;
+use values::Answer;
+use values::Trap;
+use values::Value;
+ghost use mathlib.Core.Path.{_≡_};
+ghost use Prim.Native.Nat.{_+_, _≤_, _<_};
+ghost use lib.ListN.{length};
+ghost use Rattle.image.specs.Rows.{rowAt};
+ghost use Rattle.relations.specs.Fields.{fieldOf};
+ghost use Rattle.semantics.specs.Memory.{bare, valueAt};
+ghost use Rattle.semantics.specs.Finding.{reach, content, object, parameterPlace, variablePlace, fieldPlace};
+ghost use Rattle.semantics.specs.Finding.{elementPlace, arrayPlace, guardPlace, testOf, findOf, evalOf};
+ghost use Rattle.semantics.specs.Running.{programOf};
+ghost use Rattle.access.specs.Ready.{Planned};
+ghost use Rattle.finding.specs.Standing.{Standing, Within};
+ghost use Rattle.finding.specs.Missed.{noPlace, noValue};
+
+// ---- a trap in an operand
+
+// A value's trap, where an object was sought.
+fn no_place(x: Answer) -> Found
+    ensures { λ r. ⌜ r ≡ noPlace x ⌝ }
+{
+    match x {
+        Answer::Trap(t) => Found::Trap(t),
+        _ => Found::Stuck,
+    }
+}
+
+// An object's trap, where a value was sought.
+fn no_value(x: Found) -> Answer
+    ensures { λ r. ⌜ r ≡ noValue x ⌝ }
+{
+    match x {
+        Found::Trap(t) => Answer::Trap(t),
+        _ => Answer::Stuck,
+    }
+}
+
+// The value of an object that was found.
+fn load(store: &[i64], top: u32, found: Found) -> Answer
+    requires { ⌜ top ≤ length (now store) ⌝ }
+    ensures { λ r. ⌜ r ≡ content found (λ place. valueAt bare top (now (store .entry)) (place .declared)
+        (place .address)) ⌝ }
+{
+    let Found::At(place) = found else {
+        return no_value(found);
+    };
+    cells::value_at(store, top, place.declared, place.address)
+}
+
+// ---- designators
+
+// An object of type row r at an address: its dynamic type is the declared one.
+fn plain(address: u32, r: u16) -> Found
+    ensures { λ x. ⌜ x ≡ object address r ⌝ }
+{
+    Found::At(Place {
+        address,
+        declared: r,
+        dynamic: r,
+    })
+}
+
+// The object of a VAR parameter of type row r, whose two cells begin at `at`.
+fn parameter_place(store: &[i64], top: u32, at: u32, r: u16) -> Found
+    requires { ⌜ (top ≤ length (now store)) × (at < 4294967295) ⌝ }
+    ensures { λ x. ⌜ x ≡ parameterPlace bare top (now (store .entry)) at r ⌝ }
+{
+    let Mark::Number(address) = cells::mark_at(store, top, at) else {
+        return Found::Stuck;
+    };
+    let Mark::Number(dynamic) = cells::mark_at(store, top, at + 1) else {
+        return Found::Stuck;
+    };
+    Found::At(Place {
+        address: address as u32,
+        declared: r,
+        dynamic,
+    })
+}
+
+// Node kind 1: variable row a.
+fn variable_place(image: &[u8], plan: &[u32], store: &[i64], base: u32, top: u32, a: u16) -> Found
+    requires { ⌜ Standing (now image) (now plan) base top (now store) ⌝ }
+    ensures { λ x. ⌜ x ≡ variablePlace bare (programOf (now (image .entry))) base top (now (store .entry)) a
+        (rowAt (programOf (now (image .entry)) .variables) a) ⌝ }
+{
+    let row = access::variable_at(image, plan, a as u32);
+    let kind = row.kind;
+    let r = row.a;
+    if 3 < kind {
+        return Found::Stuck;
+    }
+    let place = access::place_of(image, plan, a as u32);
+    if kind == 0 {
+        return plain(place, r);
+    }
+    let at = base + place;
+    if kind < 3 {
+        return plain(at, r);
+    }
+    parameter_place(store, top, at, r)
+}
+
+// Node kind 2: field n of an object.
+fn field_place(image: &[u8], plan: &[u32], whole: Place, n: u16) -> Found
+    requires { ⌜ Planned (now image) (now plan) × Within (now image) whole ⌝ }
+    ensures { λ x. ⌜ x ≡ fieldPlace whole (fieldOf (programOf (now (image .entry)) .types)
+        (programOf (now (image .entry)) .fields) (whole .declared) n) ⌝ }
+{
+    let address = whole.address;
+    let declared = whole.declared;
+    let FieldAnswer::Field(offset, r) = access::field(image, plan, declared, n) else {
+        return Found::Stuck;
+    };
+    plain(address + offset, r)
+}
+
+// The element at an index of an array whose type row is `array`.
+fn element_place(image: &[u8], plan: &[u32], whole: Place, array: Row, index: i32) -> Found
+    requires { ⌜ Planned (now image) (now plan) × Within (now image) whole
+        × (array ≡ rowAt (programOf (now image) .types) (whole .declared)) × (array .kind ≡ 3) ⌝ }
+    ensures { λ x. ⌜ x ≡ elementPlace (programOf (now (image .entry))) whole array index ⌝ }
+{
+    let address = whole.address;
+    let element = array.a;
+    let length = array.b;
+    if index < 0 {
+        return Found::Trap(Trap::Index);
+    }
+    let i = index as u32;
+    if length as u32 <= i {
+        return Found::Trap(Trap::Index);
+    }
+    let size = access::size_of(image, plan, element);
+    let offset = i * size;
+    plain(address + offset, element)
+}
+
+// Node kind 3: the element of an object at an index that was evaluated.
+fn array_place(image: &[u8], plan: &[u32], whole: Place, answer: Answer) -> Found
+    requires { ⌜ Planned (now image) (now plan) × Within (now image) whole ⌝ }
+    ensures { λ x. ⌜ x ≡ arrayPlace (programOf (now (image .entry))) whole answer ⌝ }
+{
+    let array = access::type_at(image, plan, whole.declared);
+    let kind = array.kind;
+    if kind != 3 {
+        return Found::Stuck;
+    }
+    let Answer::Val(value) = answer else {
+        return no_place(answer);
+    };
+    let Value::Int(index) = value else {
+        return Found::Stuck;
+    };
+    element_place(image, plan, whole, array, index)
+}
+
+// Node kind 4: an object guarded by type row b.
+fn guard_place(image: &[u8], plan: &[u32], found: Found, b: u16) -> Found
+    requires { ⌜ Planned (now image) (now plan) ⌝ }
+    ensures { λ x. ⌜ x ≡ reach found (guardPlace (programOf (now (image .entry))) b) ⌝ }
+{
+    let Found::At(place) = found else {
+        return found;
+    };
+    let address = place.address;
+    let dynamic = place.dynamic;
+    if access::extends(image, plan, dynamic, b) {
+        return Found::At(Place {
+            address,
+            declared: b,
+            dynamic,
+        });
+    }
+    Found::Trap(Trap::Guard)
+}
+
+// Node kind 7: whether an object's dynamic type extends type row b.
+fn type_test(image: &[u8], plan: &[u32], found: Found, b: u16) -> Answer
+    requires { ⌜ Planned (now image) (now plan) ⌝ }
+    ensures { λ x. ⌜ x ≡ content found (testOf (programOf (now (image .entry))) b) ⌝ }
+{
+    let Found::At(place) = found else {
+        return no_value(found);
+    };
+    Answer::Val(Value::Bool(access::extends(image, plan, place.dynamic, b)))
+}
+
+// ---- nodes
+
+// The object that node row r designates.
+pub fn find(image: &[u8], plan: &[u32], store: &[i64], base: u32, top: u32, r: u32) -> Found
+    requires { ⌜ Standing (now image) (now plan) base top (now store) ⌝ }
+    ensures { λ x. ⌜ x ≡ findOf bare (programOf (now (image .entry))) base top (now (store .entry)) r ⌝ }
+{
+    let node = access::node_at(image, plan, r);
+    let kind = node.kind;
+    let a = node.a;
+    let b = node.b;
+    let first = a as u32;
+    let second = b as u32;
+    match kind {
+        1 => variable_place(image, plan, store, base, top, a),
+        2 => {
+            if r <= first {
+                return Found::Stuck;
+            }
+            let whole = find(image, plan, store, base, top, first);
+            let Found::At(owner) = whole else {
+                return whole;
+            };
+            field_place(image, plan, owner, b)
+        }
+        3 => {
+            if r <= first {
+                return Found::Stuck;
+            }
+            let list = find(image, plan, store, base, top, first);
+            let Found::At(array) = list else {
+                return list;
+            };
+            if r <= second {
+                return Found::Stuck;
+            }
+            let index = eval(image, plan, store, base, top, second);
+            array_place(image, plan, array, index)
+        }
+        4 => {
+            let guarded = variable_place(image, plan, store, base, top, a);
+            guard_place(image, plan, guarded, b)
+        }
+        8 => {
+            if r <= first {
+                return Found::Stuck;
+            }
+            find(image, plan, store, base, top, first)
+        }
+        _ => Found::Stuck,
+    }
+}
+
+// The value of node row r.
+pub fn eval(image: &[u8], plan: &[u32], store: &[i64], base: u32, top: u32, r: u32) -> Answer
+    requires { ⌜ Standing (now image) (now plan) base top (now store) ⌝ }
+    ensures { λ x. ⌜ x ≡ evalOf bare (programOf (now (image .entry))) base top (now (store .entry)) r ⌝ }
+{
+    let node = access::node_at(image, plan, r);
+    let kind = node.kind;
+    let a = node.a;
+    let b = node.b;
+    let c = node.c;
+    let first = a as u32;
+    let second = b as u32;
+    match kind {
+        0 => values::constant(a, b, c),
+        1 => {
+            let variable = variable_place(image, plan, store, base, top, a);
+            load(store, top, variable)
+        }
+        2 => {
+            if r <= first {
+                return Answer::Stuck;
+            }
+            let whole = find(image, plan, store, base, top, first);
+            let Found::At(owner) = whole else {
+                return no_value(whole);
+            };
+            let part = field_place(image, plan, owner, b);
+            load(store, top, part)
+        }
+        3 => {
+            if r <= first {
+                return Answer::Stuck;
+            }
+            let list = find(image, plan, store, base, top, first);
+            let Found::At(array) = list else {
+                return no_value(list);
+            };
+            if r <= second {
+                return Answer::Stuck;
+            }
+            let index = eval(image, plan, store, base, top, second);
+            let element = array_place(image, plan, array, index);
+            load(store, top, element)
+        }
+        4 => {
+            let guarded = variable_place(image, plan, store, base, top, a);
+            let narrowed = guard_place(image, plan, guarded, b);
+            load(store, top, narrowed)
+        }
+        5 => {
+            if r <= first {
+                return Answer::Stuck;
+            }
+            let left = eval(image, plan, store, base, top, first);
+            let Answer::Val(x) = left else {
+                return left;
+            };
+            if operators::decides(c, x) {
+                return left;
+            }
+            if r <= second {
+                return Answer::Stuck;
+            }
+            let right = eval(image, plan, store, base, top, second);
+            let Answer::Val(y) = right else {
+                return right;
+            };
+            operators::dyadic(c, x, y)
+        }
+        6 => {
+            if r <= first {
+                return Answer::Stuck;
+            }
+            let operand = eval(image, plan, store, base, top, first);
+            let Answer::Val(z) = operand else {
+                return operand;
+            };
+            operators::monadic(c, z)
+        }
+        7 => {
+            let tested = variable_place(image, plan, store, base, top, a);
+            type_test(image, plan, tested, b)
+        }
+        8 => {
+            if r <= first {
+                return Answer::Stuck;
+            }
+            eval(image, plan, store, base, top, first)
+        }
+        _ => Answer::Stuck,
+    }
+}
