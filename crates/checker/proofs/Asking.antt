@@ -1,22 +1,24 @@
 -- Laws of the functions that ask the questions.
-use mathlib.Core.Path.{_≡_, refl, sym, _∙_, ap}
+use mathlib.Core.Path.{_≡_, refl, _∙_, ap}
 use mathlib.Core.List.{List}
 use Prim.Native.Nat.{ℕ, _+_, _*_, _≤_}
 use native.Mathlib.Omega.{arith}
 use lib.ListN.{length, take, replicate, length-replicate}
 use Rattle.image.specs.declared.Verdict.{Verdict}
-use Rattle.image.specs.declared.Verdict.the-variants.{Kept, Fault}
+use Rattle.image.specs.declared.Verdict.the-variants.{Kept}
 use Rattle.image.specs.Rows.{rowsOf}
 use Rattle.typing.specs.Typing.{typeOf, typeIn, passed, Typed}
 use Rattle.typing.proofs.Passing.{types-known}
 use Rattle.rules.specs.Rules.{rulesBy, question11}
 use Rattle.prelude.specs.Choice.{choose}
-use mathlib.Core.Bool.{Bool, true, false}
+use Rattle.prelude.specs.Cells.{Filled}
+use mathlib.Core.Bool.{Bool, true}
 use Rattle.header.specs.declared.Tables.{Tables}
 use Rattle.header.specs.declared.HeaderAnswer.{HeaderAnswer}
 use Rattle.header.specs.declared.HeaderAnswer.the-variants.{No, Yes}
 use Rattle.header.specs.Header.{question1, question2, question3, tablesIn, headerOf, partOf}
-use Rattle.header.proofs.Fitting.{Fits, header-fits, HeaderCase, HeaderCase.first-no, HeaderCase.second-no, HeaderCase.third-no, HeaderCase.all-yes, header-case}
+use Rattle.header.proofs.Fitting.{header-fits, HeaderCase, HeaderCase.first-no, HeaderCase.second-no, HeaderCase.third-no}
+use Rattle.header.proofs.Fitting.{HeaderCase.all-yes, header-case}
 use Rattle.types.specs.Question.{question4}
 use Rattle.types.specs.Plan.{Plan, Rest, passed as passedTypes}
 use Rattle.places.specs.Places.{Places}
@@ -26,8 +28,9 @@ use Rattle.checker.specs.declared.CheckAnswer.{CheckAnswer}
 use Rattle.checker.specs.declared.CheckAnswer.the-variants.{Accepted, Refused}
 use Rattle.checker.specs.Check.{typesIn, fieldsIn, variablesIn, proceduresIn, nodesIn, statementsIn}
 use Rattle.checker.specs.Check.{yesOrNo, tableQuestion, questionOf, firstNo, checkOf, refusalOf, rowOf, numberOf}
-use Rattle.checker.specs.Prepared.{CountsFit, Whole, Leaves, Leaves.whole, Leaves.some, Prepared, Prepared.untouched, Prepared.tables}
-use Rattle.checker.proofs.Chain.{AllKept, accepted-all, chain-next, chain-stop}
+use Rattle.checker.specs.Prepared.{CountsFit, Leaves, Leaves.whole, Leaves.some}
+use Rattle.checker.specs.Prepared.{boundOf, Prepared, Prepared.refused, Prepared.prepared}
+use Rattle.checker.proofs.Chain.{accepted-all, chain-next, chain-stop}
 
 pub zeros : (n : ℕ) → length {A = ℕ} (replicate n 0) ≡ n
 zeros n = length-replicate {A = ℕ} n 0
@@ -155,10 +158,21 @@ module _ (image : List ℕ) where
         (partOf image (ts .procedures)) (partOf image (ts .nodes)) (partOf image (ts .statements))) 4 8
     header-yes = let (same, a, b, c) = yes-case (header-case image) yes in rw (← same) (tables-left a b c)
 
-    pub prepared : (old plan : List ℕ) (x : CheckAnswer)
-        → Leaves (partOf image (ts .types)) (partOf image (ts .fields)) (partOf image (ts .variables)) (partOf image (ts .procedures)) old x plan
+    -- where a table's question refuses
+    pub prepared-no : (old plan : List ℕ) (x : CheckAnswer) {q row : ℕ} → x ≡ Refused q row
+        → Leaves (partOf image (ts .types)) (partOf image (ts .fields)) (partOf image (ts .variables))
+        (partOf image (ts .procedures)) old x plan
         → Prepared image old x plan
-    prepared old plan x left = tables {x = x} {plan = plan} (rw header-tables left)
+    prepared-no old plan x {q} {row} e left =
+        rw e (refused {q = q} {row = row} {plan = plan} (rw (header-tables, ← e) left))
+
+    -- with acceptance
+    pub prepared-yes : (old between plan : List ℕ) (x : CheckAnswer) → x ≡ Accepted
+        → Leaves (partOf image (ts .types)) (partOf image (ts .fields)) (partOf image (ts .variables))
+        (partOf image (ts .procedures)) old x between
+        → Filled 770 12 (boundOf ts) between plan → Prepared image old Accepted plan
+    prepared-yes old between plan x e left filled =
+        prepared {between = between} {plan = plan} (rw (header-tables, ← e) left) (rw header-tables filled)
 
 -- ---- the number
 

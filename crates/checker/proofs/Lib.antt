@@ -1,4 +1,5 @@
 pub mod Chain
 pub mod Asking
+pub mod Bounds
 pub mod Exactly
 pub mod Accepted

@@ -1,10 +1,11 @@
 // The check of an image: questions 1 to 11, exported to C.
 use header::HeaderAnswer;
+use header::Table;
 use header::Tables;
 use image::Verdict;
 ghost use mathlib.Core.Path.{_≡_};
-ghost use Prim.Native.Nat.{_≤_};
-ghost use lib.ListN.{length};
+ghost use Prim.Native.Nat.{_+_, _≤_, _<_};
+ghost use lib.ListN.{length, set};
 ghost use Rattle.image.specs.declared.Verdict.the-variants.{Kept};
 ghost use Rattle.image.specs.Rows.{rowsOf};
 ghost use Rattle.types.specs.Question.{question4};
@@ -123,23 +124,34 @@ fn check_tables(
     CheckAnswer::Accepted
 }
 
+// Writes where a table stands: its start, and its end behind it.
+fn put_bounds(plan: &mut [u32], at: usize, table: Table)
+    requires { ⌜ (at + 1 < length (now plan)) × (table .start ≤ 65536) × (table .end ≤ 65536) ⌝ }
+    ensures { λ x. ⌜ now (plan .exit) ≡ set (set (now (plan .entry)) at (table .start)) (at + 1) (table .end) ⌝ }
+{
+    let start = table.start;
+    let end = table.end;
+    plan[at] = start as u32;
+    plan[at + 1] = end as u32;
+}
+
 // Writes where the six tables stand.
 fn fill_bounds(tables: Tables, plan: &mut [u32])
     requires { ⌜ BoundsFit tables × (782 ≤ length (now plan)) ⌝ }
     ensures { λ x. ⌜ Filled 770 12 (boundOf tables) (now (plan .entry)) (now (plan .exit)) ⌝ }
 {
-    plan[770] = tables.types.start as u32;
-    plan[771] = tables.types.end as u32;
-    plan[772] = tables.fields.start as u32;
-    plan[773] = tables.fields.end as u32;
-    plan[774] = tables.variables.start as u32;
-    plan[775] = tables.variables.end as u32;
-    plan[776] = tables.procedures.start as u32;
-    plan[777] = tables.procedures.end as u32;
-    plan[778] = tables.nodes.start as u32;
-    plan[779] = tables.nodes.end as u32;
-    plan[780] = tables.statements.start as u32;
-    plan[781] = tables.statements.end as u32;
+    let types = tables.types;
+    let fields = tables.fields;
+    let variables = tables.variables;
+    let procedures = tables.procedures;
+    let nodes = tables.nodes;
+    let statements = tables.statements;
+    put_bounds(plan, 770, types);
+    put_bounds(plan, 772, fields);
+    put_bounds(plan, 774, variables);
+    put_bounds(plan, 776, procedures);
+    put_bounds(plan, 778, nodes);
+    put_bounds(plan, 780, statements);
 }
 
 // The check, which leaves sizes, offsets, places and frame sizes in a lent plan, and where the tables stand.

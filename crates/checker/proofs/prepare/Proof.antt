@@ -1,12 +1,24 @@
-use Rattle.checker.specs.Prepared.{Prepared, Prepared.untouched}
-use Rattle.checker.proofs.Asking.{header-no, header-yes, counts-fit, prepared}
-use mathlib.Core.Path.{_≡_, refl, sym, _∙_, ap}
+use mathlib.Core.Path.{_≡_, sym, _∙_}
+use mathlib.Core.List.{List}
+use Prim.Native.Nat.{ℕ, _≤_}
+use native.Mathlib.Omega.{arith}
+use denote.Ref.{now}
+use lib.ListN.{length}
+use Rattle.header.specs.declared.Tables.{Tables}
+use Rattle.header.specs.declared.HeaderAnswer.the-variants.{Yes}
+use Rattle.header.specs.Header.{headerOf, partOf}
+use Rattle.header.proofs.Fitting.{header-fits}
+use Rattle.checker.specs.Check.{checkOf}
+use Rattle.checker.specs.Prepared.{Leaves, Prepared.untouched}
+use Rattle.checker.proofs.Asking.{header-no, header-yes, counts-fit, prepared-no, prepared-yes}
+use Rattle.checker.proofs.Bounds.{bounds-fit}
 use borrow.Author.Needs.{needs}
 use Rattle.checker.proofs.prepare.Statement.{statement}
 use Rattle.checker.proofs.prepare.Tie as tie
 use Rattle.checker.proofs.prepare.Reads as reads
 use Rattle.checker.proofs.prepare.Lts as lts
 use Rattle.checker.proofs.check_tables.Reads as check-tables-reads
+use Rattle.checker.proofs.fill_bounds.Reads as fill-bounds-reads
 use Rattle.header.proofs.header.Reads as header-reads
 use Rattle.header.proofs.part.Reads as part-reads
 
@@ -37,21 +49,98 @@ part-requires-5 c κs = search needs
 part-requires-6 : tie.Need-part-requires-6
 part-requires-6 c κs = search needs
 
-check-tables-requires : tie.Need-check-tables-requires
-check-tables-requires c κs = let yes = sym (c .before .before .before .before .before .before .before .before .before .before .before .before .before .before .before .before .header .ensures) ∙ c .before .before .before .before .before .before .before .before .before .before .before .before .before .before .tables .given .1 in
-    (rw (c .before .before .before .before .before .before .part .ensures, c .before .before .before .before .before .part2 .ensures, c .before .before .before .before .part3 .ensures, c .before .before .before .part4 .ensures, c .before .before .part5 .ensures, c .before .part6 .ensures) (counts-fit _ yes), c .before .before .before .before .before .before .before .before .before .before .before .before .before .before .before .before .before .before .before .pre)
+abbrev at-tables : tie.After-part6 → tie.After-tables
+at-tables c = c .before .before .before .before .before .before .before .before .before .before .before .before .before
 
-returns : tie.Need-returns
-returns c = let no = sym (c .before .before .before .header .ensures) ∙ c .before .question .given .1 in
-    (sym (header-no _ no), untouched no)
+abbrev at-header : tie.After-part6 → tie.After-header
+at-header c = at-tables c .before .before
+
+abbrev image-of : tie.After-part6 → List ℕ
+image-of c = now (at-header c .before .before .before .args .image)
+
+abbrev plan-of : tie.After-part6 → List ℕ
+plan-of c = now (at-header c .before .before .before .args .plan)
+
+abbrev tables-of : tie.After-part6 → Tables
+tables-of c = at-tables c .tables .given .0 .0
+
+plan-room : (c : tie.After-part6) → 782 ≤ length (plan-of c)
+plan-room c = at-header c .before .before .before .pre
+
+-- the header says yes
+yes : (c : tie.After-part6) → headerOf (image-of c) ≡ Yes (tables-of c)
+yes c = sym (at-header c .header .ensures) ∙ at-tables c .tables .given .1
+
+check-tables-requires : tie.Need-check-tables-requires
+check-tables-requires c κs = let d = c .before in (
+  rw (
+    d .before .before .before .before .before .part .ensures,
+    d .before .before .before .before .part2 .ensures,
+    d .before .before .before .part3 .ensures,
+    d .before .before .part4 .ensures,
+    d .before .part5 .ensures,
+    d .part6 .ensures,
+  ) (counts-fit _ (yes d)),
+  omega (arith, plan-room d),
+)
+
+-- what the tables' check says and leaves
+told : (c : tie.After-check-tables) → let d = c .before .before in let i = image-of d in let ts = tables-of d in
+    (c .check-tables .result ≡ checkOf i)
+    × Leaves (partOf i (ts .types)) (partOf i (ts .fields)) (partOf i (ts .variables)) (partOf i (ts .procedures))
+    (plan-of d) (c .check-tables .result) (c .check-tables .last .1 .1 .1 .1 .1 .1 .0)
+told c = let d = c .before .before in
+    let k = c .check-tables .ensures in
+    let answer = rw (
+      d .before .before .before .before .before .part .ensures,
+      d .before .before .before .before .part2 .ensures,
+      d .before .before .before .part3 .ensures,
+      d .before .before .part4 .ensures,
+      d .before .part5 .ensures,
+      d .part6 .ensures,
+    ) at (k .0) in
+    let left = rw (
+      d .before .before .before .before .before .part .ensures,
+      d .before .before .before .before .part2 .ensures,
+      d .before .before .before .part3 .ensures,
+      d .before .before .part4 .ensures,
+    ) at (k .1) in
+    (answer ∙ sym (header-yes _ (yes d)), left)
+
+enum-told : tie.Need-enum-told
+enum-told c = search needs
+
+enum-told-2 : tie.Need-enum-told-2
+enum-told-2 c = search needs
 
 same-length : tie.Need-same-length
 same-length c = search needs
 
+returns : tie.Need-returns
+returns c = let k = c .before .before .before .before in
+    let t = told k in
+    (t .0, prepared-no _ (yes (k .before .before)) _ _ _ (c .enum-told2 .given .1) (t .1))
+
+fill-bounds-requires : tie.Need-fill-bounds-requires
+fill-bounds-requires c κs = let k = c .before .before .before .before .before in
+    let d = k .before .before in (
+      bounds-fit _ _ (header-fits _ _ (yes d)),
+      omega (arith, plan-room d, k .check-tables .kept .1 .1 .1 .1 .1 .1 .0),
+    )
+
 returns-2 : tie.Need-returns-2
-returns-2 c = let yes = sym (c .before .before .before .before .before .before .before .before .before .before .before .before .before .before .before .before .before .before .before .header .ensures) ∙ c .before .before .before .before .before .before .before .before .before .before .before .before .before .before .before .before .before .tables .given .1 in
-    let k = c .before .before .check-tables .ensures in
-    ((rw (c .before .before .before .before .before .before .before .before .before .part .ensures, c .before .before .before .before .before .before .before .before .part2 .ensures, c .before .before .before .before .before .before .before .part3 .ensures, c .before .before .before .before .before .before .part4 .ensures, c .before .before .before .before .before .part5 .ensures, c .before .before .before .before .part6 .ensures) at (k .0)) ∙ sym (header-yes _ yes), prepared _ yes _ _ _ (rw (c .before .before .before .before .before .before .before .before .before .part .ensures, c .before .before .before .before .before .before .before .before .part2 .ensures, c .before .before .before .before .before .before .before .part3 .ensures, c .before .before .before .before .before .before .part4 .ensures) at (k .1)))
+returns-2 c = let no = sym (c .before .before .before .header .ensures) ∙ c .before .question .given .1 in
+    (sym (header-no _ no), untouched no)
+
+same-length-2 : tie.Need-same-length-2
+same-length-2 c = search needs
+
+returns-3 : tie.Need-returns-3
+returns-3 c = let k = c .before .before .before .before .before .before .before .before in
+    let t = told k in
+    let accepted = c .before .before .before .before .enum-told .given .1 in
+    let filled = c .before .before .fill-bounds .ensures in
+    (sym accepted ∙ t .0, prepared-yes _ (yes (k .before .before)) _ _ _ _ accepted (t .1) filled)
 
 pub prepare-spec : {M : Type 1} → statement M
 prepare-spec =
@@ -67,6 +156,11 @@ prepare-spec =
     part-requires-5
     part-requires-6
     check-tables-requires
-    returns
+    enum-told
+    enum-told-2
     same-length
-    returns-2)
+    returns
+    fill-bounds-requires
+    returns-2
+    same-length-2
+    returns-3)
