@@ -1,0 +1,196 @@
+// The run: the check, the fresh state, and steps until the last.
+use calling::Step;
+use checker::CheckAnswer;
+use semantics::Registers;
+use semantics::RunResult;
+ghost use mathlib.Core.Path.{_≡_};
+ghost use Prim.Native.Nat.{ℕ, _≤_};
+ghost use lib.ListN.{length};
+ghost use Rattle.checker.specs.Check.{refusalOf, rowOf};
+ghost use Rattle.semantics.specs.Memory.{bare};
+ghost use Rattle.semantics.specs.Running.{programOf, globalRoom, firstTop, runFrom, refusedWith, resultOf, storeAfter};
+ghost use Rattle.semantics.specs.Running.{outputAfter};
+ghost use Rattle.access.specs.Ready.{Ready};
+ghost use Rattle.calling.specs.Showing.{stateOf, Stands};
+ghost use Rattle.machine.specs.Stopping.{stopBy, Stops, numbersAt};
+
+// Where a run ended: outcome, trap and HALT's number, how many steps it took, and its numbers.
+pub struct Stop {
+    pub outcome: u32,
+    pub trap: u32,
+    pub halt: i32,
+    pub steps: u32,
+    pub at: Registers,
+}
+
+// A step that was the last, from s, as the k-th.
+fn stop_by(x: Step, s: Registers, k: u32) -> Stop
+    ensures { λ r. ⌜ r ≡ stopBy x s k ⌝ }
+{
+    match x {
+        Step::Finished => Stop {
+            outcome: 1,
+            trap: 0,
+            halt: 0,
+            steps: k,
+            at: s,
+        },
+        Step::Trapped(t, z) => Stop {
+            outcome: 2,
+            trap: values::trap_number(t) as u32,
+            halt: z,
+            steps: k,
+            at: s,
+        },
+        _ => Stop {
+            outcome: 3,
+            trap: 0,
+            halt: 0,
+            steps: k,
+            at: s,
+        },
+    }
+}
+
+// At most n steps from any state.
+pub fn advance(
+    image: &[u8],
+    plan: &[u32],
+    input: &[i32],
+    store: &mut [i64],
+    output: &mut [i32],
+    from: Registers,
+    n: u32,
+) -> Stop
+    requires { ⌜ Ready (now image) (now plan) × Stands from (now store) n ⌝ }
+    ensures { λ x. ⌜ Stops (runFrom bare (programOf (now (image .entry))) (now (input .entry)) n 0
+        (stateOf from (now (store .entry)) (now (output .entry)))) x (now (store .exit)) (now (output .exit)) ⌝ }
+{
+    let mut s = from;
+    let mut k: u32 = 0;
+    while k < n {
+        let next = stepping::step(image, plan, input, store, output, s);
+        let done = k + 1;
+        let Step::Goes(q) = next else {
+            return stop_by(next, s, done);
+        };
+        s = q;
+        k = done;
+    }
+    Stop {
+        outcome: 0,
+        trap: 0,
+        halt: 0,
+        steps: k,
+        at: s,
+    }
+}
+
+// ---- the run
+
+fn refused(question: u32, row: u32) -> RunResult
+    ensures { λ x. ⌜ x ≡ refusedWith question row ⌝ }
+{
+    RunResult {
+        refusal: question,
+        fault: row,
+        outcome: 0,
+        trap: 0,
+        halt: 0,
+        row: 0,
+        steps: 0,
+        read: 0,
+        written: 0,
+    }
+}
+
+// An answer of the check that is a refusal.
+fn refused_by(answer: CheckAnswer) -> RunResult
+    ensures { λ x. ⌜ x ≡ refusedWith (refusalOf answer) (rowOf answer) ⌝ }
+{
+    match answer {
+        CheckAnswer::Accepted => refused(0, 0),
+        CheckAnswer::Refused(question, row) => refused(question as u32, row as u32),
+    }
+}
+
+// The nine numbers of a run that was not refused.
+fn numbers(stop: Stop) -> RunResult
+    ensures { λ x. ⌜ x ≡ numbersAt stop ⌝ }
+{
+    let at = stop.at;
+    RunResult {
+        refusal: 0,
+        fault: 0,
+        outcome: stop.outcome,
+        trap: stop.trap,
+        halt: stop.halt,
+        row: at.row,
+        steps: stop.steps,
+        read: at.read,
+        written: at.written,
+    }
+}
+
+// G + F0: how many cells the globals and procedure 0's frame have.
+fn first_top(image: &[u8], plan: &[u32]) -> u32
+    requires { ⌜ Ready (now image) (now plan) ⌝ }
+    ensures { λ x. ⌜ x ≡ firstTop (programOf (now (image .entry))) ⌝ }
+{
+    let globals = access::global_room(image, plan);
+    let frame = access::frame_size(image, plan, 0);
+    globals + frame
+}
+
+// Checks an image and runs it from the fresh state, with at most `steps` steps.
+pub fn run(image: &[u8], input: &[i32], store: &mut [i64], output: &mut [i32], steps: u32) -> RunResult
+    ensures { λ x. ⌜ x ≡ resultOf (now (image .entry)) (now (input .entry)) (now (store .entry)) (now (output .entry))
+        steps ⌝ }
+    ensures store { λ x. ⌜ now (store .exit) ≡ storeAfter (now (image .entry)) (now (input .entry))
+        (now (store .entry)) (now (output .entry)) steps ⌝ }
+    ensures output { λ x. ⌜ now (output .exit) ≡ outputAfter (now (image .entry)) (now (input .entry))
+        (now (store .entry)) (now (output .entry)) steps ⌝ }
+{
+    let mut plan = [0u32; 1806];
+    let answer = access::open_image(image, &mut plan);
+    let CheckAnswer::Accepted = answer else {
+        return refused_by(answer);
+    };
+    if 65536 < store.len() {
+        return refused(12, 0);
+    }
+    let base = access::global_room(image, &plan);
+    let top = first_top(image, &plan);
+    if store.len() < top as usize {
+        return refused(13, 0);
+    }
+    cells::zero(store, 0, top);
+    let first = Registers {
+        row: 0,
+        base,
+        top,
+        read: 0,
+        written: 0,
+    };
+    let stop = advance(image, &plan, input, store, output, first, steps);
+    numbers(stop)
+}
+
+// The same for C.
+#[no_mangle]
+pub extern "C" fn door_run(
+    image: &[u8],
+    input: &[i32],
+    store: &mut [i64],
+    output: &mut [i32],
+    steps: u32,
+) -> RunResult
+    ensures { λ x. ⌜ x ≡ resultOf (now (image .entry)) (now (input .entry)) (now (store .entry)) (now (output .entry))
+        steps ⌝ }
+    ensures store { λ x. ⌜ now (store .exit) ≡ storeAfter (now (image .entry)) (now (input .entry))
+        (now (store .entry)) (now (output .entry)) steps ⌝ }
+    ensures output { λ x. ⌜ now (output .exit) ≡ outputAfter (now (image .entry)) (now (input .entry))
+        (now (store .entry)) (now (output .entry)) steps ⌝ }
+{
+    run(image, input, store, output, steps)
+}
