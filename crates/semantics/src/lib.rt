@@ -31,6 +31,7 @@ pub enum Mark {
 }
 
 // The nine numbers of a run; `fault` is the row of refusal.
+#[repr(C)]
 pub struct RunResult {
     pub refusal: u32,
     pub fault: u32,
