@@ -44,6 +44,7 @@ there t r k kind low = go (decLt r (rowsOf t))
     go (yes h) = h
     go (no h) = absurd (omega (arith, kind, ap (λ x. x .kind) (row-missing t r (omega arith))))
 
+-- a choice of two numbers that are not large
 either : (b : Bool) {x y m : ℕ} → x ≤ m → y ≤ m → choose b x y ≤ m
 unfolding choose
 either true h k = h
@@ -82,15 +83,16 @@ module _ {image plan : List ℕ} (p : Planned image plan) where
   field-low r n offset x e =
       let low = field-there r n offset x e in
       let (place, nth) = field-nth (g .types) (g .fields) r n offset x e in
-      let inner = field-layout (g .types) (g .fields) (ok .types) r n x low nth .within in
-      (
+      let inner = field-layout (g .types) (g .fields) (ok .types) r n x low nth .within in (
         omega (arith, place, inner, layout-length (g .types) (g .fields) r, size-low r low),
         field-row (g .types) (g .fields) (ok .types) r n offset x low e,
       )
 
   -- an array's element type, and an element's offset
   pub element-typed : (r : ℕ) → rowAt (g .types) r .kind ≡ 3 → rowAt (g .types) r .a < rowsOf (g .types)
-  element-typed r kind = element-row (g .types) (g .fields) (ok .types) r (there (g .types) r 3 kind (omega arith)) kind
+  element-typed r kind =
+      let low = there (g .types) r 3 kind (omega arith) in
+      element-row (g .types) (g .fields) (ok .types) r low kind
 
   pub element-low : (r i : ℕ) → rowAt (g .types) r .kind ≡ 3 → i < rowAt (g .types) r .b
       → i * sizeOf (g .types) (g .fields) (rowAt (g .types) r .a) ≤ 4096
@@ -113,8 +115,9 @@ module _ {image plan : List ℕ} (p : Planned image plan) where
       → roomFrom (g .types) (g .fields) (g .variables) k (a - k) ≤ 1048576
   room-low k a h =
       let few = ok .counts .variables in
-      let room = room-small (sizeOf (g .types) (g .fields)) (g .variables) k (a - k) (λ j low high.
-      width-kept (g .types) (g .fields) (g .variables) (ok .questions .types) (ok .questions .variables) j (omega arith)) in
+      let width = width-kept (g .types) (g .fields) (g .variables) (ok .questions .types) (ok .questions .variables) in
+      let size = sizeOf (g .types) (g .fields) in
+      let room = room-small size (g .variables) k (a - k) (λ j low high. width j (omega arith)) in
       omega arith
 
   -- where a variable begins
@@ -129,16 +132,20 @@ module _ {image plan : List ℕ} (p : Planned image plan) where
       (omega arith)
       (omega (arith, room-low first a (omega arith)))
 
+  -- the globals' cells
   pub globals-low : globalRoom g ≤ 1048576
   unfolding globalRoom
   globals-low =
       let few = ok .counts .variables in
-      let kept = globals-kept (g .types) (g .fields) (g .variables) (ok .questions .types) (ok .questions .variables) in
+      let types = ok .questions .types in
+      let kept = globals-kept (g .types) (g .fields) (g .variables) types (ok .questions .variables) in
       omega (arith, kept, globals-within (g .variables))
 
+  -- every procedure's variables exist
   claims : Claims (g .variables) (g .procedures)
   claims = claims-kept (g .variables) (g .procedures) (g .statements) (ok .questions .procedures)
 
+  -- a frame's cells
   pub frame-low : (q : ℕ) → q < rowsOf (g .procedures)
       → frameSize (g .types) (g .fields) (g .variables) (g .procedures) q ≤ 1048579
   frame-low q h =
@@ -169,10 +176,15 @@ module _ {image plan : List ℕ} (p : Planned image plan) where
 
   -- ---- nodes and statements
 
+  -- a guard's type is there
   pub guard-typed : (r : ℕ) → rowAt (g .nodes) r .kind ≡ 4 → rowAt (g .nodes) r .b < rowsOf (g .types)
   guard-typed r kind =
       let here = there (g .nodes) r 4 kind (omega arith) in
       guard-is (g .types) (g .variables) (g .nodes) (ok .questions .nodes) r here kind .typed
+
+  -- how many rows a table has
+  pub types-few : rowsOf (g .types) ≤ 64
+  types-few = ok .counts .types
 
   pub nodes-few : rowsOf (g .nodes) ≤ 2048
   nodes-few = ok .counts .nodes
