@@ -22,7 +22,7 @@ ghost use Rattle.access.specs.Ready.{tableOf, Planned, Ready, Opened};
 // ---- tables and rows
 
 // Table k of the six, in their order.
-fn table(image: &[u8], plan: &[u32], k: usize) -> &[u8]
+fn table<'a>(image: &'a [u8], plan: &[u32], k: usize) -> &'a [u8]
     requires { ⌜ Planned (now image) (now plan) × (k < 6) ⌝ }
     ensures { λ x. ⌜ now x ≡ tableOf (programOf (now (image .entry))) k ⌝ }
 {

@@ -25,15 +25,15 @@ pub claims-kept : (v p s : List ℕ) → question6 v p s ≡ Kept → Claims v p
 unfolding claimedBy
 claims-kept v p s e q h = procedures-kept v p s e .row q h .room
 
--- what question 4 put into the plan is still there
-pub plan-kept : (t f v p old plan : List ℕ) → Places t f v p old plan → question4 t f ≡ Kept
+-- where the cells of types and fields are as they were, what question 4 put there is still there
+pub plan-kept : (t f old plan : List ℕ) → ((i : ℕ) → i < 384 → getD plan i 0 ≡ getD old i 0) → question4 t f ≡ Kept
     → rowsOf t ≤ 64 → rowsOf f ≤ 256 → Plan t f (rowsOf t) old → Plan t f (rowsOf t) plan
-plan-kept t f v p old plan places four few-types few-fields planned = record {
-  size = λ r h. places .types r (omega arith) ∙ planned .size r h;
-  inherited = λ r h. places .types (64 + r) (omega arith) ∙ planned .inherited r h;
+plan-kept t f old plan same four few-types few-fields planned = record {
+  size = λ r h. same r (omega arith) ∙ planned .size r h;
+  inherited = λ r h. same (64 + r) (omega arith) ∙ planned .inherited r h;
   offset = λ r base first count j h e l.
       let within = record-is (types-kept t f four .row r h .shape) e .within in
-      places .types (128 + (first + j)) (omega arith) ∙ planned .offset r base first count j h e l;
+      same (128 + (first + j)) (omega arith) ∙ planned .offset r base first count j h e l;
 }
 
 -- row k is a variable of procedure q

@@ -1,0 +1,160 @@
+-- What the check leaves of an image that it accepts is the plan that a machine needs.
+use mathlib.Core.Path.{_≡_, refl, sym, _∙_}
+use mathlib.Core.Bool.{true}
+use mathlib.Core.List.{List}
+use Prim.Native.Nat.{ℕ, zero, suc, _+_, _≤_, _<_}
+use native.Mathlib.Omega.{arith}
+use native.Mathlib.Decide.{decLt}
+use borrow.Author.Tests.{eq-eqb}
+use lib.ListN.{length, getD}
+use Rattle.prelude.specs.Cells.{Filled}
+use Rattle.image.specs.Rows.{rowAt, rowsOf}
+use Rattle.header.specs.Header.{tablesIn}
+use Rattle.types.specs.Plan.{Plan}
+use Rattle.relations.proofs.Fielding.{field-known}
+use Rattle.frames.specs.Variables.{isGlobal, globalsOf}
+use Rattle.frames.specs.Procedures.{firstVariable}
+use Rattle.statements.specs.Statements.{procedureAt}
+use Rattle.places.proofs.Counting.{first-none}
+use Rattle.places.proofs.Owning.{Own as OwnRow, plan-kept, own-place}
+use Rattle.checker.specs.declared.CheckAnswer.{CheckAnswer}
+use Rattle.checker.specs.declared.CheckAnswer.the-variants.{Accepted, Refused}
+use Rattle.checker.specs.Check.{checkOf}
+use Rattle.checker.specs.Prepared.{Whole, Leaves, Leaves.whole, Leaves.some, boundOf}
+use Rattle.checker.specs.Prepared.{Prepared, Prepared.untouched, Prepared.refused, Prepared.prepared}
+use Rattle.checker.proofs.Accepted.{AcceptedTables}
+use Rattle.semantics.specs.Layout.{Program, placeOf}
+use Rattle.semantics.specs.Running.{programOf, globalRoom}
+use Rattle.semantics.specs.Sound.{Own}
+use Rattle.semantics.proofs.Demand3.{program-accepted}
+use Rattle.semantics.proofs.Objects.{global-kind, place-own, place-global}
+use Rattle.access.specs.Ready.{Planned, Ready, Opened, Opened.closed, Opened.opened}
+
+-- a variable behind the globals is a procedure's own
+owned : (v p : List ℕ) (a n : ℕ) → globalsOf v ≤ a → a < firstVariable v p n → (q : ℕ) × (q < n) × OwnRow v p q a
+owned v p a zero low high = absurd (omega (arith, first-none v p))
+owned v p a (suc n) low high = go (decLt a (firstVariable v p n)) (owned v p a n low)
+  where
+    go : Dec (a < firstVariable v p n) → (a < firstVariable v p n → (q : ℕ) × (q < n) × OwnRow v p q a)
+        → (q : ℕ) × (q < suc n) × OwnRow v p q a
+    go (yes h) before = let (q, less, own) = before h in (q, omega arith, own)
+    go (no h) before =
+        let one : suc n ≡ n + 1 = omega arith in
+        (n, omega arith, record { low = omega arith; high = rw one at high })
+
+-- the first variables are globals
+global-is : (v : List ℕ) (a : ℕ) → a < globalsOf v → isGlobal v a ≡ true
+unfolding isGlobal
+global-is v a h = eq-eqb (rowAt v a .kind) 0 (global-kind v a h)
+
+module _ (image old between : List ℕ) (room : 1806 ≤ length old) (accepted : checkOf image ≡ Accepted)
+    (left : Whole (programOf image .types) (programOf image .fields) (programOf image .variables)
+    (programOf image .procedures) old between) where
+  abbrev g : Program
+  g = programOf image
+
+  ok : AcceptedTables (g .types) (g .fields) (g .variables) (g .procedures) (g .nodes) (g .statements)
+  ok = program-accepted image accepted
+
+  -- every variable's place is in the plan
+  place-is : (a : ℕ) → a < rowsOf (g .variables) → getD between (384 + a) 0 ≡ placeOf g a
+  place-is a h = go (decLt a (globalsOf (g .variables)))
+    where
+      go : Dec (a < globalsOf (g .variables)) → getD between (384 + a) 0 ≡ placeOf g a
+      go (yes global) =
+          left .places .global a global
+          ∙ sym (place-global g ok a (global-is (g .variables) a global))
+      go (no other) =
+          let all = ok .procedures .claimed in
+          let n = rowsOf (g .procedures) in
+          let (q, less, own) = owned (g .variables) (g .procedures) a n (omega arith) (omega arith) in
+          let mine : Own g q a = record { low = own .low; high = own .high } in
+          let here = own-place (g .types) (g .fields) (g .variables) (g .procedures) q a own in
+          here (left .typed) between (left .places) less
+          ∙ sym (place-own g ok q a less mine)
+
+  -- later cells may be written behind those of types, variables and procedures
+  module _ (plan : List ℕ) (cells : length plan ≡ length between)
+      (same : (i : ℕ) → i < 770 → getD plan i 0 ≡ getD between i 0)
+      (bound : (j : ℕ) → j < 12 → getD plan (770 + j) 0 ≡ boundOf (tablesIn image) j) where
+    types-same : (i : ℕ) → i < 384 → getD plan i 0 ≡ getD (left .typed) i 0
+    types-same i h = same i (omega arith) ∙ left .places .types i h
+
+    typed : Plan (g .types) (g .fields) (rowsOf (g .types)) plan
+    typed =
+        plan-kept (g .types) (g .fields) (left .typed) plan types-same (ok .questions .types) (ok .counts .types)
+        (ok .counts .fields) (left .planned)
+
+    whole-planned : Planned image plan
+    unfolding globalRoom
+    whole-planned =
+        let few = ok .counts in
+        let many = few .variables in
+        let procedures = few .procedures in
+        record {
+          accepted = accepted;
+          cells = omega (arith, cells, left .places .cells, left .rest .cells);
+          size = typed .size;
+          field = field-known (g .types) (g .fields) plan (ok .questions .types) typed;
+          place = λ a h. same (384 + a) (omega arith) ∙ place-is a h;
+          frame = λ q h. same (640 + q) (omega arith) ∙ left .places .frame q h;
+          first = λ q h. same (704 + q) (omega arith) ∙ left .places .first q (omega arith);
+          globals = same 769 (omega arith) ∙ left .places .globals;
+          bound = bound;
+        }
+
+-- what the check left of an image that it accepts
+record Left (image old plan : List ℕ) : Type 0 where
+  between : List ℕ
+  whole-plan : Whole (programOf image .types) (programOf image .fields) (programOf image .variables)
+      (programOf image .procedures) old between
+  filled : Filled 770 12 (boundOf (tablesIn image)) between plan
+
+-- with acceptance the plan is whole
+leaves-whole : {t f v p old plan : List ℕ} {x : CheckAnswer} → x ≡ Accepted → Leaves t f v p old x plan
+    → Whole t f v p old plan
+leaves-whole e (whole w) = w
+leaves-whole e (some p r) = let z : _≡_ {A = ℕ} 0 1 = cc in absurd (omega arith)
+
+prepared-left : (image old plan : List ℕ) (x : CheckAnswer) → x ≡ Accepted → Prepared image old x plan
+    → Left image old plan
+unfolding programOf
+prepared-left image old plan x e (untouched header) = let z : _≡_ {A = ℕ} 0 1 = cc in absurd (omega arith)
+prepared-left image old plan x e (refused l) = let z : _≡_ {A = ℕ} 0 1 = cc in absurd (omega arith)
+prepared-left image old plan x e (prepared {between = between} l filled) =
+    record { between = between; whole-plan = leaves-whole refl l; filled = filled }
+
+-- a plan that the check left with acceptance
+pub prepared-planned : (image old plan : List ℕ) → 1806 ≤ length old → checkOf image ≡ Accepted
+    → Prepared image old Accepted plan → Planned image plan
+prepared-planned image old plan room accepted p =
+    let l = prepared-left image old plan Accepted refl p in
+    whole-planned image old (l .between) room accepted (l .whole-plan) plan (l .filled .cells) (l .filled .below)
+    (l .filled .cell)
+
+-- and the procedures of statements with it
+pub opened-ready : (image old plan : List ℕ) (x : CheckAnswer) → 1806 ≤ length old → x ≡ Accepted → checkOf image ≡ x
+    → Opened image old x plan → Ready image plan
+opened-ready image old plan x room e check (closed p) = let z : _≡_ {A = ℕ} 0 1 = cc in absurd (omega arith)
+opened-ready image old plan x room e check (opened {between = between} p owners) =
+    let l = prepared-left image old between Accepted refl p in
+    record {
+      planned = whole-planned image old (l .between) room check (l .whole-plan) plan
+          (owners .cells ∙ l .filled .cells)
+          (λ i h. owners .below i (omega arith) ∙ l .filled .below i h)
+          (λ j h. owners .below (770 + j) (omega arith) ∙ l .filled .cell j h);
+      owner = owners .cell;
+    }
+
+-- ---- what `open_image` leaves
+
+-- of a refused image
+pub opened-no : (image old plan : List ℕ) (x : CheckAnswer) {q row : ℕ} → x ≡ Refused q row → Prepared image old x plan
+    → Opened image old x plan
+opened-no image old plan x e p = rw e (closed (rw e at p))
+
+-- of an accepted one
+pub opened-yes : (image old between plan p : List ℕ) (n : ℕ) → Prepared image old Accepted between
+    → p ≡ programOf image .procedures → n ≡ rowsOf (programOf image .statements)
+    → Filled 782 n (procedureAt p) between plan → Opened image old Accepted plan
+opened-yes image old between plan p n left procedures rows filled = opened left (rw (procedures, rows) at filled)

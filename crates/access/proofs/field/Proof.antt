@@ -1,0 +1,29 @@
+use mathlib.Core.Path.{_∙_}
+use Rattle.prelude.specs.Choice.{choose}
+use Rattle.access.specs.Ready.{tableOf}
+use borrow.Author.Needs.{needs}
+use Rattle.access.proofs.field.Statement.{statement}
+use Rattle.access.proofs.field.Tie as tie
+use Rattle.access.proofs.field.Reads as reads
+use Rattle.access.proofs.field.Lts as lts
+use Rattle.access.proofs.table.Reads as table-reads
+use Rattle.relations.proofs.field.Reads as field-reads
+
+table-requires : tie.Need-table-requires
+table-requires c κs = search needs
+
+table-requires-2 : tie.Need-table-requires-2
+table-requires-2 c κs = search needs
+
+field-requires : tie.Need-field-requires
+field-requires c κs = search needs
+
+returns : tie.Need-returns
+unfolding tableOf choose
+returns c = let s = c .before .before .before .before .before in
+    let types = c .before .before .table .ensures in
+    let fields = c .before .table2 .ensures in
+    c .field .ensures ∙ rw (types, fields) (s .pre .field _ _)
+
+pub field-spec : {M : Type 1} → statement M
+field-spec = tie.close (tie.spec table-requires table-requires-2 field-requires returns)

@@ -1,0 +1,23 @@
+use native.Mathlib.Omega.{arith}
+use Rattle.access.proofs.Bounds.{procedures-few}
+use borrow.Author.Needs.{needs}
+use Rattle.access.proofs.first_variable.Statement.{statement}
+use Rattle.access.proofs.first_variable.Tie as tie
+use Rattle.access.proofs.first_variable.Reads as reads
+use Rattle.access.proofs.first_variable.Lts as lts
+
+add-result : tie.Need-add-result
+add-result c = search needs
+
+mul-result : tie.Need-mul-result
+mul-result c = search needs
+
+shared-slice-read-result : tie.Need-shared-slice-read-result
+shared-slice-read-result c = let s = c .before in
+    omega (arith, s .pre .0 .cells, procedures-few (s .pre .0), s .pre .1)
+
+returns : tie.Need-returns
+returns c = let s = c .before in s .pre .0 .first _ (s .pre .1)
+
+pub first-variable-spec : {M : Type 1} → statement M
+first-variable-spec = tie.close (tie.spec add-result mul-result shared-slice-read-result returns)
