@@ -121,18 +121,14 @@ pub fn copy(store: &mut [i64], from: u32, to: u32, n: u32)
     }
 }
 
-// n cells from below top to a place in the part from top on, which is lent for each.
+// n cells from below top to a place in the part from top on.
 pub fn copy_above(store: &mut [i64], top: u32, from: u32, place: u32, n: u32)
     requires { ⌜ (from + n ≤ top) × (top + (place + n) ≤ length (now store)) ⌝ }
     ensures { λ x. ⌜ now (store .exit)
         ≡ overwrite (now (store .entry)) (top + place) (partAt (now (store .entry)) from n) ⌝ }
 {
-    let above = top as usize;
     let source = from as usize;
-    let mut i: u32 = 0;
-    while i < n {
-        let z = store[source + i as usize];
-        put(&mut store[above..], place + i, z);
-        i = i + 1;
-    }
+    let target = top as usize + place as usize;
+    let count = n as usize;
+    copy_up(store, source, target, count);
 }

@@ -1,0 +1,4 @@
+pub mod Missed
+pub mod Elements
+pub mod Laws
+pub mod Low

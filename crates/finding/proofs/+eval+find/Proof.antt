@@ -1,0 +1,762 @@
+-- `finding::eval` and `finding::find` meet their contracts: they call each other for lower rows alone.
+use mathlib.Core.Path.{_≡_, refl, sym, ap, _∙_}
+use Prim.Native.Nat.{ℕ, _<_}
+use denote.Ref.{now}
+use borrow.Author.Tests.{ne-eqb}
+use Rattle.prelude.specs.Choice.{choose}
+use Rattle.image.specs.declared.Row.{Row}
+use Rattle.values.specs.Values.{bind}
+use Rattle.values.specs.declared.Answer.{Answer}
+use Rattle.values.proofs.Binding.{bind-value, bind-other}
+use Rattle.operators.specs.Operators.{dyadicOf, monadicOf, appliedTo}
+use Rattle.relations.specs.Fields.{fieldOf}
+use Rattle.semantics.specs.declared.Place.{Place}
+use Rattle.semantics.specs.declared.Found.{Found}
+use Rattle.semantics.specs.Memory.{bare, valueAt}
+use Rattle.semantics.specs.Layout.{Program}
+use Rattle.semantics.specs.Finding.{reach, content, fieldPlace, arrayPlace}
+use Rattle.semantics.specs.Finding.{designator, Meaning, meaningBy, findOf, evalOf}
+use Rattle.semantics.specs.Running.{programOf}
+use Rattle.access.specs.Ready.{Planned}
+use Rattle.finding.specs.Standing.{Within}
+use Rattle.finding.proofs.Missed.{reach-other, content-other, array-stuck}
+use Rattle.finding.proofs.Laws.{lower, find-row, eval-row, find-lower, eval-lower, not-lower, find-other}
+use Rattle.finding.proofs.Low.{find-within}
+use borrow.Author.Needs.{needs}
+use borrow.Fn.Kinds.{In}
+use borrow.Fn.PlainCycle.{Measures, is, falls, and}
+use Rattle.finding.proofs.eval.Reads as eval
+use Rattle.finding.proofs.eval.Kinds as eval-kinds
+use Rattle.finding.proofs.+eval+find.Lts-eval as eval-lts
+use Rattle.finding.proofs.find.Reads as find
+use Rattle.finding.proofs.find.Kinds as find-kinds
+use Rattle.finding.proofs.+eval+find.Lts-find as find-lts
+use Rattle.access.proofs.node_at.Reads as node-at-reads
+use Rattle.finding.proofs.array_place.Reads as array-place-reads
+use Rattle.finding.proofs.field_place.Reads as field-place-reads
+use Rattle.finding.proofs.guard_place.Reads as guard-place-reads
+use Rattle.finding.proofs.load.Reads as load-reads
+use Rattle.finding.proofs.no_value.Reads as no-value-reads
+use Rattle.finding.proofs.type_test.Reads as type-test-reads
+use Rattle.finding.proofs.variable_place.Reads as variable-place-reads
+use Rattle.operators.proofs.decides.Reads as decides-reads
+use Rattle.operators.proofs.dyadic.Reads as dyadic-reads
+use Rattle.operators.proofs.monadic.Reads as monadic-reads
+use Rattle.values.proofs.constant.Reads as constant-reads
+use Rattle.finding.proofs.+eval+find.{statement}
+use Rattle.finding.proofs.+eval+find.Tie.{close}
+
+abbrev μ-eval : Measures 3 eval-kinds.ps ℕ
+μ-eval κs a = a .1 .1 .1 .1 .1 .0
+
+abbrev μ-find : Measures 3 find-kinds.ps ℕ
+μ-find κs a = a .1 .1 .1 .1 .1 .0
+
+abbrev eval-at : ℕ → In 3 eval-kinds.ps
+eval-at t = and 3 eval-kinds.ps (is 3 eval-kinds.ps μ-eval t) eval.Pre
+
+abbrev below-eval : ℕ → In 3 eval-kinds.ps
+below-eval t = and 3 eval-kinds.ps (falls 3 eval-kinds.ps _<_ μ-eval t) eval.Pre
+
+abbrev find-at : ℕ → In 3 find-kinds.ps
+find-at t = and 3 find-kinds.ps (is 3 find-kinds.ps μ-find t) find.Pre
+
+abbrev below-find : ℕ → In 3 find-kinds.ps
+below-find t = and 3 find-kinds.ps (falls 3 find-kinds.ps _<_ μ-find t) find.Pre
+
+abbrev eval-claims : ℕ → eval-lts.Claims
+eval-claims t = (
+  node-at-reads.Asked,
+  node-at-reads.Learnt,
+  constant-reads.Asked,
+  constant-reads.Learnt,
+  variable-place-reads.Asked,
+  variable-place-reads.Learnt,
+  load-reads.Asked,
+  load-reads.Learnt,
+  below-find t,
+  find.Post,
+  no-value-reads.Asked,
+  no-value-reads.Learnt,
+  field-place-reads.Asked,
+  field-place-reads.Learnt,
+  below-eval t,
+  eval.Post,
+  array-place-reads.Asked,
+  array-place-reads.Learnt,
+  guard-place-reads.Asked,
+  guard-place-reads.Learnt,
+  decides-reads.Asked,
+  decides-reads.Learnt,
+  dyadic-reads.Asked,
+  dyadic-reads.Learnt,
+  monadic-reads.Asked,
+  monadic-reads.Learnt,
+  type-test-reads.Asked,
+  type-test-reads.Learnt,
+)
+
+abbrev find-claims : ℕ → find-lts.Claims
+find-claims t = (
+  node-at-reads.Asked,
+  node-at-reads.Learnt,
+  variable-place-reads.Asked,
+  variable-place-reads.Learnt,
+  below-find t,
+  find.Post,
+  field-place-reads.Asked,
+  field-place-reads.Learnt,
+  below-eval t,
+  eval.Post,
+  array-place-reads.Asked,
+  array-place-reads.Learnt,
+  guard-place-reads.Asked,
+  guard-place-reads.Learnt,
+)
+
+-- ---- eval, place by place: what the node is worth, by what is known there
+
+module _ (t : ℕ) where
+  abbrev Node : Type 0
+  Node = eval-lts.After-node-at (eval-claims t) (eval-at t) eval.Post
+
+  abbrev program : Node → Program
+  program m = programOf (now (m .before .before .before .args .image))
+
+  abbrev row : Node → Row
+  row m = m .node-at .result
+
+  -- what the node is worth
+  abbrev worth : Node → Answer
+  worth m =
+      let a = m .before .before .before .args in
+      evalOf bare (program m) (a .base) (a .top) (now (a .store)) (a .r)
+
+  -- what lower nodes mean
+  abbrev low : Node → ℕ → Meaning
+  low m =
+      let a = m .before .before .before .args in
+      lower bare (program m) (a .base) (a .top) (now (a .store)) (a .r)
+
+  -- the node's field or element of an object
+  abbrev field : Node → Place → Found
+  field m whole =
+      fieldPlace whole (fieldOf (program m .types) (program m .fields) (whole .declared) (row m .b))
+
+  abbrev element : Node → Answer → Place → Found
+  element m answer whole = arrayPlace (program m) whole answer
+
+  -- what an object holds
+  abbrev held : Node → Found → Answer
+  held m x =
+      let a = m .before .before .before .args in
+      content x (λ place. valueAt bare (a .top) (now (a .store)) (place .declared) (place .address))
+
+  -- a node of a kind
+  at-row : (m : Node) (kind : ℕ) → row m .kind ≡ kind → let a = m .before .before .before .args in
+      worth m
+      ≡ meaningBy bare (program m) (a .base) (a .top) (now (a .store)) (low m) kind (row m) .value
+  at-row m kind e = eval-row _ _ _ _ _ _ (row m) (m .node-at .ensures) kind e
+
+  -- a field: the record
+  at-whole : (c : eval-lts.After-find (eval-claims t) (eval-at t) eval.Post) →
+      let m = c .before .before .before in worth m ≡ held m (reach (c .find .result) (field m))
+  unfolding meaningBy designator choose
+  at-whole c =
+      at-row (c .before .before .before) 2 (c .before .before .match .keys3)
+      ∙ rw (find-lower _ _ _ _ _ _ _ (c .before .if1 .left) (c .find .ensures))
+
+  at-record : (c : eval-lts.After-whole (eval-claims t) (eval-at t) eval.Post) →
+      let m = c .before .before .before .before .before in worth m ≡ held m (field m (c .whole .given .0 .0))
+  unfolding reach
+  at-record c =
+      at-whole (c .before .before) ∙ rw (c .whole .given .1)
+
+  at-record-within : (c : eval-lts.After-whole (eval-claims t) (eval-at t) eval.Post) →
+      let a = c .before .before .before .before .before .before .before .before .args in
+      Planned (now (a .image)) (now (a .plan)) × Within (now (a .image)) (c .whole .given .0 .0)
+  at-record-within c =
+      let s = c .before .before .before .before .before .before .before .before .pre .1 in
+      (s .planned, find-within s _ _ (sym (c .before .before .find .ensures) ∙ c .whole .given .1))
+
+  -- an element: the array, and then the index
+  at-list : (c : eval-lts.After-find2 (eval-claims t) (eval-at t) eval.Post) →
+      let m = c .before .before .before in
+      worth m ≡ held m (reach (c .find2 .result) (element m (low m (row m .b) .value)))
+  unfolding meaningBy designator choose
+  at-list c =
+      at-row (c .before .before .before) 3 (c .before .before .match .keys4)
+      ∙ rw (find-lower _ _ _ _ _ _ _ (c .before .if2 .left) (c .find2 .ensures))
+
+  at-array : (c : eval-lts.After-list (eval-claims t) (eval-at t) eval.Post) →
+      let m = c .before .before .before .before .before in
+      worth m ≡ held m (element m (low m (row m .b) .value) (c .list .given .0 .0))
+  unfolding reach
+  at-array c =
+      at-list (c .before .before) ∙ rw (c .list .given .1)
+
+  at-array-within : (c : eval-lts.After-list (eval-claims t) (eval-at t) eval.Post) →
+      let a = c .before .before .before .before .before .before .before .before .args in
+      Planned (now (a .image)) (now (a .plan)) × Within (now (a .image)) (c .list .given .0 .0)
+  at-array-within c =
+      let s = c .before .before .before .before .before .before .before .before .pre .1 in
+      (s .planned, find-within s _ _ (sym (c .before .before .find2 .ensures) ∙ c .list .given .1))
+
+  at-index : (c : eval-lts.After-eval (eval-claims t) (eval-at t) eval.Post) →
+      let l = c .before .before .before in
+      let m = l .before .before .before .before .before in
+      worth m ≡ held m (element m (c .eval .result) (l .list .given .0 .0))
+  at-index c =
+      at-array (c .before .before .before) ∙ rw (eval-lower _ _ _ _ _ _ _ (c .before .if3 .left) (c .eval .ensures))
+
+  -- a dyadic operator: the left operand, and then the right one
+  at-left : (c : eval-lts.After-eval2 (eval-claims t) (eval-at t) eval.Post) →
+      let m = c .before .before .before in
+      worth m ≡ bind (c .eval2 .result) (λ left. appliedTo (row m .c) left (low m (row m .b) .value))
+  unfolding meaningBy choose
+  at-left c =
+      at-row (c .before .before .before) 5 (c .before .before .match .keys6)
+      ∙ rw (eval-lower _ _ _ _ _ _ _ (c .before .if4 .left) (c .eval2 .ensures))
+
+  at-operator : (c : eval-lts.After-left (eval-claims t) (eval-at t) eval.Post) →
+      let m = c .before .before .before .before .before in
+      worth m ≡ appliedTo (row m .c) (c .left .given .0 .0) (low m (row m .b) .value)
+  at-operator c = at-left (c .before .before) ∙ bind-value (c .left .given .1) _
+
+  at-right : (c : eval-lts.After-eval3 (eval-claims t) (eval-at t) eval.Post) →
+      let l = c .before .before .before .before .before in let m = l .before .before .before .before .before in
+      worth m ≡ bind (c .eval3 .result) (λ right. dyadicOf (row m .c) (l .left .given .0 .0) right)
+  unfolding appliedTo choose
+  at-right c =
+      at-operator (c .before .before .before .before .before)
+      ∙ rw (
+        ← c .before .before .before .decides .ensures,
+        c .before .before .if5 .left,
+        eval-lower _ _ _ _ _ _ _ (c .before .if6 .left) (c .eval3 .ensures),
+      )
+
+  -- a monadic operator
+  at-operand : (c : eval-lts.After-eval4 (eval-claims t) (eval-at t) eval.Post) →
+      let m = c .before .before .before in worth m ≡ bind (c .eval4 .result) (λ operand. monadicOf (row m .c) operand)
+  unfolding meaningBy choose
+  at-operand c =
+      at-row (c .before .before .before) 6 (c .before .before .match .keys7)
+      ∙ rw (eval-lower _ _ _ _ _ _ _ (c .before .if7 .left) (c .eval4 .ensures))
+
+eval-node-at-requires : (t : ℕ) → eval-lts.Need-node-at-requires (eval-claims t) (eval-at t) eval.Post
+eval-node-at-requires t c κs = search needs
+
+eval-cast-first : (t : ℕ) → eval-lts.Need-cast-first (eval-claims t) (eval-at t) eval.Post
+eval-cast-first t c = search needs
+
+eval-cast-second : (t : ℕ) → eval-lts.Need-cast-second (eval-claims t) (eval-at t) eval.Post
+eval-cast-second t c = search needs
+
+eval-constant-requires : (t : ℕ) → eval-lts.Need-constant-requires (eval-claims t) (eval-at t) eval.Post
+eval-constant-requires t c κs = search needs
+
+eval-variable-place-requires : (t : ℕ) → eval-lts.Need-variable-place-requires (eval-claims t) (eval-at t) eval.Post
+eval-variable-place-requires t c κs = search needs
+
+eval-load-requires : (t : ℕ) → eval-lts.Need-load-requires (eval-claims t) (eval-at t) eval.Post
+eval-load-requires t c κs = search needs
+
+eval-returns : (t : ℕ) → eval-lts.Need-returns (eval-claims t) (eval-at t) eval.Post
+unfolding meaningBy designator choose content reach
+eval-returns t c =
+    sym (at-row t (c .before .before) 2 (c .before .match .keys3) ∙ rw (not-lower _ _ _ _ _ _ _ (c .if1 .taken)))
+
+eval-find-requires : (t : ℕ) → eval-lts.Need-find-requires (eval-claims t) (eval-at t) eval.Post
+eval-find-requires t c κs = search needs
+
+eval-enum-known-whole : (t : ℕ) → eval-lts.Need-enum-known-whole (eval-claims t) (eval-at t) eval.Post
+eval-enum-known-whole t c = search needs
+
+eval-no-value-requires : (t : ℕ) → eval-lts.Need-no-value-requires (eval-claims t) (eval-at t) eval.Post
+eval-no-value-requires t c κs = search needs
+
+eval-returns-2 : (t : ℕ) → eval-lts.Need-returns-2 (eval-claims t) (eval-at t) eval.Post
+eval-returns-2 t c =
+    c .no-value .ensures
+    ∙ sym (at-whole t (c .before .before)
+    ∙ ap (λ (x : Found). held t (c .before .before .before .before .before) x)
+    (reach-other _ (c .before .match2 .keys2) _)
+    ∙ content-other _ (c .before .match2 .keys2) _)
+
+eval-field-place-requires : (t : ℕ) → eval-lts.Need-field-place-requires (eval-claims t) (eval-at t) eval.Post
+eval-field-place-requires t c κs =
+    at-record-within t (c .before)
+
+eval-load-requires-2 : (t : ℕ) → eval-lts.Need-load-requires-2 (eval-claims t) (eval-at t) eval.Post
+eval-load-requires-2 t c κs = search needs
+
+eval-returns-3 : (t : ℕ) → eval-lts.Need-returns-3 (eval-claims t) (eval-at t) eval.Post
+unfolding meaningBy designator choose content reach
+eval-returns-3 t c =
+    sym (at-row t (c .before .before) 3 (c .before .match .keys4) ∙ rw (not-lower _ _ _ _ _ _ _ (c .if2 .taken)))
+
+eval-find-requires-2 : (t : ℕ) → eval-lts.Need-find-requires-2 (eval-claims t) (eval-at t) eval.Post
+eval-find-requires-2 t c κs = search needs
+
+eval-enum-known-list : (t : ℕ) → eval-lts.Need-enum-known-list (eval-claims t) (eval-at t) eval.Post
+eval-enum-known-list t c = search needs
+
+eval-no-value-requires-2 : (t : ℕ) → eval-lts.Need-no-value-requires-2 (eval-claims t) (eval-at t) eval.Post
+eval-no-value-requires-2 t c κs = search needs
+
+eval-returns-4 : (t : ℕ) → eval-lts.Need-returns-4 (eval-claims t) (eval-at t) eval.Post
+eval-returns-4 t c =
+    c .no-value2 .ensures
+    ∙ sym (at-list t (c .before .before)
+    ∙ ap (λ (x : Found). held t (c .before .before .before .before .before) x)
+    (reach-other _ (c .before .match3 .keys2) _)
+    ∙ content-other _ (c .before .match3 .keys2) _)
+
+eval-returns-5 : (t : ℕ) → eval-lts.Need-returns-5 (eval-claims t) (eval-at t) eval.Post
+unfolding content
+eval-returns-5 t c =
+    sym (at-array t (c .before .before) ∙ rw (not-lower _ _ _ _ _ _ _ (c .if3 .taken), array-stuck _ _))
+
+eval-eval-requires : (t : ℕ) → eval-lts.Need-eval-requires (eval-claims t) (eval-at t) eval.Post
+eval-eval-requires t c κs = search needs
+
+eval-array-place-requires : (t : ℕ) → eval-lts.Need-array-place-requires (eval-claims t) (eval-at t) eval.Post
+eval-array-place-requires t c κs =
+    at-array-within t (c .before .before .before)
+
+eval-load-requires-3 : (t : ℕ) → eval-lts.Need-load-requires-3 (eval-claims t) (eval-at t) eval.Post
+eval-load-requires-3 t c κs = search needs
+
+eval-variable-place-requires-2 : (t : ℕ) → eval-lts.Need-variable-place-requires-2 (eval-claims t) (eval-at t) eval.Post
+eval-variable-place-requires-2 t c κs = search needs
+
+eval-guard-place-requires : (t : ℕ) → eval-lts.Need-guard-place-requires (eval-claims t) (eval-at t) eval.Post
+eval-guard-place-requires t c κs = search needs
+
+eval-load-requires-4 : (t : ℕ) → eval-lts.Need-load-requires-4 (eval-claims t) (eval-at t) eval.Post
+eval-load-requires-4 t c κs = search needs
+
+eval-returns-6 : (t : ℕ) → eval-lts.Need-returns-6 (eval-claims t) (eval-at t) eval.Post
+unfolding meaningBy choose bind
+eval-returns-6 t c =
+    sym (at-row t (c .before .before) 5 (c .before .match .keys6) ∙ rw (not-lower _ _ _ _ _ _ _ (c .if4 .taken)))
+
+eval-eval-requires-2 : (t : ℕ) → eval-lts.Need-eval-requires-2 (eval-claims t) (eval-at t) eval.Post
+eval-eval-requires-2 t c κs = search needs
+
+eval-enum-known-left : (t : ℕ) → eval-lts.Need-enum-known-left (eval-claims t) (eval-at t) eval.Post
+eval-enum-known-left t c = search needs
+
+eval-returns-7 : (t : ℕ) → eval-lts.Need-returns-7 (eval-claims t) (eval-at t) eval.Post
+eval-returns-7 t c =
+    sym (at-left t (c .before) ∙ bind-other _ (c .match4 .keys2) _)
+
+eval-decides-requires : (t : ℕ) → eval-lts.Need-decides-requires (eval-claims t) (eval-at t) eval.Post
+eval-decides-requires t c κs = search needs
+
+eval-returns-8 : (t : ℕ) → eval-lts.Need-returns-8 (eval-claims t) (eval-at t) eval.Post
+unfolding appliedTo choose
+eval-returns-8 t c =
+    sym
+    (at-operator t (c .before .before .before)
+    ∙ rw (← c .before .decides .ensures, c .if5 .taken, ← c .before .before .before .left .given .1))
+
+eval-returns-9 : (t : ℕ) → eval-lts.Need-returns-9 (eval-claims t) (eval-at t) eval.Post
+unfolding appliedTo choose bind
+eval-returns-9 t c =
+    sym
+    (at-operator t (c .before .before .before .before)
+    ∙ rw (← c .before .before .decides .ensures, c .before .if5 .left, not-lower _ _ _ _ _ _ _ (c .if6 .taken)))
+
+eval-eval-requires-3 : (t : ℕ) → eval-lts.Need-eval-requires-3 (eval-claims t) (eval-at t) eval.Post
+eval-eval-requires-3 t c κs = search needs
+
+eval-enum-known-right : (t : ℕ) → eval-lts.Need-enum-known-right (eval-claims t) (eval-at t) eval.Post
+eval-enum-known-right t c = search needs
+
+eval-returns-10 : (t : ℕ) → eval-lts.Need-returns-10 (eval-claims t) (eval-at t) eval.Post
+eval-returns-10 t c =
+    sym (at-right t (c .before) ∙ bind-other _ (c .match5 .keys2) _)
+
+eval-dyadic-requires : (t : ℕ) → eval-lts.Need-dyadic-requires (eval-claims t) (eval-at t) eval.Post
+eval-dyadic-requires t c κs = search needs
+
+eval-returns-11 : (t : ℕ) → eval-lts.Need-returns-11 (eval-claims t) (eval-at t) eval.Post
+unfolding meaningBy choose bind
+eval-returns-11 t c =
+    sym (at-row t (c .before .before) 6 (c .before .match .keys7) ∙ rw (not-lower _ _ _ _ _ _ _ (c .if7 .taken)))
+
+eval-eval-requires-4 : (t : ℕ) → eval-lts.Need-eval-requires-4 (eval-claims t) (eval-at t) eval.Post
+eval-eval-requires-4 t c κs = search needs
+
+eval-enum-known-operand : (t : ℕ) → eval-lts.Need-enum-known-operand (eval-claims t) (eval-at t) eval.Post
+eval-enum-known-operand t c = search needs
+
+eval-returns-12 : (t : ℕ) → eval-lts.Need-returns-12 (eval-claims t) (eval-at t) eval.Post
+eval-returns-12 t c =
+    sym (at-operand t (c .before) ∙ bind-other _ (c .match6 .keys2) _)
+
+eval-monadic-requires : (t : ℕ) → eval-lts.Need-monadic-requires (eval-claims t) (eval-at t) eval.Post
+eval-monadic-requires t c κs = search needs
+
+eval-variable-place-requires-3 : (t : ℕ) → eval-lts.Need-variable-place-requires-3 (eval-claims t) (eval-at t) eval.Post
+eval-variable-place-requires-3 t c κs = search needs
+
+eval-type-test-requires : (t : ℕ) → eval-lts.Need-type-test-requires (eval-claims t) (eval-at t) eval.Post
+eval-type-test-requires t c κs = search needs
+
+eval-returns-13 : (t : ℕ) → eval-lts.Need-returns-13 (eval-claims t) (eval-at t) eval.Post
+unfolding meaningBy choose
+eval-returns-13 t c =
+    sym (at-row t (c .before .before) 8 (c .before .match .keys9) ∙ rw (not-lower _ _ _ _ _ _ _ (c .if8 .taken)))
+
+eval-eval-requires-5 : (t : ℕ) → eval-lts.Need-eval-requires-5 (eval-claims t) (eval-at t) eval.Post
+eval-eval-requires-5 t c κs = search needs
+
+eval-returns-14 : (t : ℕ) → eval-lts.Need-returns-14 (eval-claims t) (eval-at t) eval.Post
+unfolding meaningBy choose
+eval-returns-14 t c =
+    c .constant .ensures ∙ sym (at-row t (c .before .before) 0 (c .before .match .keys1))
+
+eval-returns-15 : (t : ℕ) → eval-lts.Need-returns-15 (eval-claims t) (eval-at t) eval.Post
+unfolding meaningBy designator choose
+eval-returns-15 t c =
+    c .load .ensures
+    ∙ rw (c .before .variable-place .ensures)
+    (sym (at-row t (c .before .before .before) 1 (c .before .before .match .keys2)))
+
+eval-returns-16 : (t : ℕ) → eval-lts.Need-returns-16 (eval-claims t) (eval-at t) eval.Post
+eval-returns-16 t c =
+    c .load2 .ensures ∙ rw (c .before .field-place .ensures) (sym (at-record t (c .before .before .before)))
+
+eval-returns-17 : (t : ℕ) → eval-lts.Need-returns-17 (eval-claims t) (eval-at t) eval.Post
+eval-returns-17 t c =
+    c .load3 .ensures ∙ rw (c .before .array-place .ensures) (sym (at-index t (c .before .before)))
+
+eval-returns-18 : (t : ℕ) → eval-lts.Need-returns-18 (eval-claims t) (eval-at t) eval.Post
+unfolding meaningBy designator choose
+eval-returns-18 t c =
+    c .load4 .ensures
+    ∙ rw (c .before .guard-place .ensures, c .before .before .variable-place2 .ensures)
+    (sym (at-row t (c .before .before .before .before) 4 (c .before .before .before .match .keys5)))
+
+eval-returns-19 : (t : ℕ) → eval-lts.Need-returns-19 (eval-claims t) (eval-at t) eval.Post
+eval-returns-19 t c =
+    c .dyadic .ensures
+    ∙ sym (at-right t (c .before .before .before .before)
+    ∙ bind-value (c .before .before .right .given .1) _)
+
+eval-returns-20 : (t : ℕ) → eval-lts.Need-returns-20 (eval-claims t) (eval-at t) eval.Post
+eval-returns-20 t c =
+    c .monadic .ensures
+    ∙ sym (at-operand t (c .before .before .before .before)
+    ∙ bind-value (c .before .before .operand .given .1) _)
+
+eval-returns-21 : (t : ℕ) → eval-lts.Need-returns-21 (eval-claims t) (eval-at t) eval.Post
+unfolding meaningBy choose
+eval-returns-21 t c =
+    c .type-test .ensures
+    ∙ rw (c .before .variable-place3 .ensures)
+    (sym (at-row t (c .before .before .before) 7 (c .before .before .match .keys8)))
+
+eval-returns-22 : (t : ℕ) → eval-lts.Need-returns-22 (eval-claims t) (eval-at t) eval.Post
+unfolding meaningBy choose
+eval-returns-22 t c =
+    sym
+    (at-row t (c .before .before .before) 8 (c .before .before .match .keys9)
+    ∙ eval-lower _ _ _ _ _ _ _ (c .before .if8 .left) (c .eval5 .ensures))
+
+eval-returns-23 : (t : ℕ) → eval-lts.Need-returns-23 (eval-claims t) (eval-at t) eval.Post
+unfolding meaningBy choose
+eval-returns-23 t c =
+    let n = c .match .rest in
+    let k : ℕ = c .before .node-at .result .kind in
+    sym (at-row t (c .before) k refl
+    ∙ rw (
+      ne-eqb k 0 (n .0 .0 .0 .0 .0 .0 .0 .0 .1),
+      ne-eqb k 1 (n .0 .0 .0 .0 .0 .0 .0 .1),
+      ne-eqb k 2 (n .0 .0 .0 .0 .0 .0 .1),
+      ne-eqb k 3 (n .0 .0 .0 .0 .0 .1),
+      ne-eqb k 4 (n .0 .0 .0 .0 .1),
+      ne-eqb k 5 (n .0 .0 .0 .1),
+      ne-eqb k 6 (n .0 .0 .1),
+      ne-eqb k 7 (n .0 .1),
+      ne-eqb k 8 (n .1),
+    ))
+
+-- ---- find, place by place: what the node designates, by what is known there
+
+module _ (t : ℕ) where
+  abbrev NodeF : Type 0
+  NodeF = find-lts.After-node-at (find-claims t) (find-at t) find.Post
+
+  abbrev programF : NodeF → Program
+  programF m = programOf (now (m .before .before .before .args .image))
+
+  abbrev rowF : NodeF → Row
+  rowF m = m .node-at .result
+
+  -- what the node designates
+  abbrev found : NodeF → Found
+  found m =
+      let a = m .before .before .before .args in
+      findOf bare (programF m) (a .base) (a .top) (now (a .store)) (a .r)
+
+  -- what lower nodes mean
+  abbrev lowF : NodeF → ℕ → Meaning
+  lowF m =
+      let a = m .before .before .before .args in
+      lower bare (programF m) (a .base) (a .top) (now (a .store)) (a .r)
+
+  -- the node's field or element of an object
+  abbrev fieldF : NodeF → Place → Found
+  fieldF m whole =
+      fieldPlace whole (fieldOf (programF m .types) (programF m .fields) (whole .declared) (rowF m .b))
+
+  abbrev elementF : NodeF → Answer → Place → Found
+  elementF m answer whole = arrayPlace (programF m) whole answer
+
+  -- a node of a kind
+  f-row : (m : NodeF) (kind : ℕ) → rowF m .kind ≡ kind → let a = m .before .before .before .args in
+      found m
+      ≡ meaningBy bare (programF m) (a .base) (a .top) (now (a .store)) (lowF m) kind (rowF m) .place
+  f-row m kind e = find-row _ _ _ _ _ _ (rowF m) (m .node-at .ensures) kind e
+
+  -- a field: the record
+  f-whole : (c : find-lts.After-find (find-claims t) (find-at t) find.Post) →
+      let m = c .before .before .before in found m ≡ reach (c .find .result) (fieldF m)
+  unfolding meaningBy designator choose
+  f-whole c =
+      f-row (c .before .before .before) 2 (c .before .before .match .keys2)
+      ∙ rw (find-lower _ _ _ _ _ _ _ (c .before .if1 .left) (c .find .ensures))
+
+  f-record : (c : find-lts.After-whole (find-claims t) (find-at t) find.Post) →
+      let m = c .before .before .before .before .before in found m ≡ fieldF m (c .whole .given .0 .0)
+  unfolding reach
+  f-record c =
+      f-whole (c .before .before) ∙ rw (c .whole .given .1)
+
+  f-record-within : (c : find-lts.After-whole (find-claims t) (find-at t) find.Post) →
+      let a = c .before .before .before .before .before .before .before .before .args in
+      Planned (now (a .image)) (now (a .plan)) × Within (now (a .image)) (c .whole .given .0 .0)
+  f-record-within c =
+      let s = c .before .before .before .before .before .before .before .before .pre .1 in
+      (s .planned, find-within s _ _ (sym (c .before .before .find .ensures) ∙ c .whole .given .1))
+
+  -- an element: the array, and then the index
+  f-list : (c : find-lts.After-find2 (find-claims t) (find-at t) find.Post) →
+      let m = c .before .before .before in found m ≡ reach (c .find2 .result) (elementF m (lowF m (rowF m .b) .value))
+  unfolding meaningBy designator choose
+  f-list c =
+      f-row (c .before .before .before) 3 (c .before .before .match .keys3)
+      ∙ rw (find-lower _ _ _ _ _ _ _ (c .before .if2 .left) (c .find2 .ensures))
+
+  f-array : (c : find-lts.After-list (find-claims t) (find-at t) find.Post) →
+      let m = c .before .before .before .before .before in
+      found m ≡ elementF m (lowF m (rowF m .b) .value) (c .list .given .0 .0)
+  unfolding reach
+  f-array c =
+      f-list (c .before .before) ∙ rw (c .list .given .1)
+
+  f-array-within : (c : find-lts.After-list (find-claims t) (find-at t) find.Post) →
+      let a = c .before .before .before .before .before .before .before .before .args in
+      Planned (now (a .image)) (now (a .plan)) × Within (now (a .image)) (c .list .given .0 .0)
+  f-array-within c =
+      let s = c .before .before .before .before .before .before .before .before .pre .1 in
+      (s .planned, find-within s _ _ (sym (c .before .before .find2 .ensures) ∙ c .list .given .1))
+
+  f-index : (c : find-lts.After-eval (find-claims t) (find-at t) find.Post) →
+      let l = c .before .before .before in
+      let m = l .before .before .before .before .before in
+      found m ≡ elementF m (c .eval .result) (l .list .given .0 .0)
+  f-index c =
+      f-array (c .before .before .before) ∙ rw (eval-lower _ _ _ _ _ _ _ (c .before .if3 .left) (c .eval .ensures))
+
+find-node-at-requires : (t : ℕ) → find-lts.Need-node-at-requires (find-claims t) (find-at t) find.Post
+find-node-at-requires t c κs = search needs
+
+find-cast-first : (t : ℕ) → find-lts.Need-cast-first (find-claims t) (find-at t) find.Post
+find-cast-first t c = search needs
+
+find-cast-second : (t : ℕ) → find-lts.Need-cast-second (find-claims t) (find-at t) find.Post
+find-cast-second t c = search needs
+
+find-variable-place-requires : (t : ℕ) → find-lts.Need-variable-place-requires (find-claims t) (find-at t) find.Post
+find-variable-place-requires t c κs = search needs
+
+find-returns : (t : ℕ) → find-lts.Need-returns (find-claims t) (find-at t) find.Post
+unfolding meaningBy designator choose reach
+find-returns t c =
+    sym (f-row t (c .before .before) 2 (c .before .match .keys2) ∙ rw (not-lower _ _ _ _ _ _ _ (c .if1 .taken)))
+
+find-find-requires : (t : ℕ) → find-lts.Need-find-requires (find-claims t) (find-at t) find.Post
+find-find-requires t c κs = search needs
+
+find-enum-known-whole : (t : ℕ) → find-lts.Need-enum-known-whole (find-claims t) (find-at t) find.Post
+find-enum-known-whole t c = search needs
+
+find-returns-2 : (t : ℕ) → find-lts.Need-returns-2 (find-claims t) (find-at t) find.Post
+find-returns-2 t c =
+    sym (f-whole t (c .before) ∙ reach-other _ (c .match2 .keys2) _)
+
+find-field-place-requires : (t : ℕ) → find-lts.Need-field-place-requires (find-claims t) (find-at t) find.Post
+find-field-place-requires t c κs =
+    f-record-within t (c .before)
+
+find-returns-3 : (t : ℕ) → find-lts.Need-returns-3 (find-claims t) (find-at t) find.Post
+unfolding meaningBy designator choose reach
+find-returns-3 t c =
+    sym (f-row t (c .before .before) 3 (c .before .match .keys3) ∙ rw (not-lower _ _ _ _ _ _ _ (c .if2 .taken)))
+
+find-find-requires-2 : (t : ℕ) → find-lts.Need-find-requires-2 (find-claims t) (find-at t) find.Post
+find-find-requires-2 t c κs = search needs
+
+find-enum-known-list : (t : ℕ) → find-lts.Need-enum-known-list (find-claims t) (find-at t) find.Post
+find-enum-known-list t c = search needs
+
+find-returns-4 : (t : ℕ) → find-lts.Need-returns-4 (find-claims t) (find-at t) find.Post
+find-returns-4 t c =
+    sym (f-list t (c .before) ∙ reach-other _ (c .match3 .keys2) _)
+
+find-returns-5 : (t : ℕ) → find-lts.Need-returns-5 (find-claims t) (find-at t) find.Post
+find-returns-5 t c =
+    sym (f-array t (c .before .before) ∙ rw (not-lower _ _ _ _ _ _ _ (c .if3 .taken), array-stuck _ _))
+
+find-eval-requires : (t : ℕ) → find-lts.Need-eval-requires (find-claims t) (find-at t) find.Post
+find-eval-requires t c κs = search needs
+
+find-array-place-requires : (t : ℕ) → find-lts.Need-array-place-requires (find-claims t) (find-at t) find.Post
+find-array-place-requires t c κs =
+    f-array-within t (c .before .before .before)
+
+find-variable-place-requires-2 : (t : ℕ) → find-lts.Need-variable-place-requires-2 (find-claims t) (find-at t) find.Post
+find-variable-place-requires-2 t c κs = search needs
+
+find-guard-place-requires : (t : ℕ) → find-lts.Need-guard-place-requires (find-claims t) (find-at t) find.Post
+find-guard-place-requires t c κs = search needs
+
+find-returns-6 : (t : ℕ) → find-lts.Need-returns-6 (find-claims t) (find-at t) find.Post
+unfolding meaningBy choose
+find-returns-6 t c =
+    sym (f-row t (c .before .before) 8 (c .before .match .keys5) ∙ rw (not-lower _ _ _ _ _ _ _ (c .if4 .taken)))
+
+find-find-requires-3 : (t : ℕ) → find-lts.Need-find-requires-3 (find-claims t) (find-at t) find.Post
+find-find-requires-3 t c κs = search needs
+
+find-returns-7 : (t : ℕ) → find-lts.Need-returns-7 (find-claims t) (find-at t) find.Post
+unfolding meaningBy designator choose
+find-returns-7 t c =
+    c .variable-place .ensures ∙ sym (f-row t (c .before .before) 1 (c .before .match .keys1))
+
+find-returns-8 : (t : ℕ) → find-lts.Need-returns-8 (find-claims t) (find-at t) find.Post
+find-returns-8 t c =
+    c .field-place .ensures ∙ sym (f-record t (c .before .before))
+
+find-returns-9 : (t : ℕ) → find-lts.Need-returns-9 (find-claims t) (find-at t) find.Post
+find-returns-9 t c =
+    c .array-place .ensures ∙ sym (f-index t (c .before))
+
+find-returns-10 : (t : ℕ) → find-lts.Need-returns-10 (find-claims t) (find-at t) find.Post
+unfolding meaningBy designator choose
+find-returns-10 t c =
+    c .guard-place .ensures
+    ∙ rw (c .before .variable-place2 .ensures)
+    (sym (f-row t (c .before .before .before) 4 (c .before .before .match .keys4)))
+
+find-returns-11 : (t : ℕ) → find-lts.Need-returns-11 (find-claims t) (find-at t) find.Post
+unfolding meaningBy choose
+find-returns-11 t c =
+    sym
+    (f-row t (c .before .before .before) 8 (c .before .before .match .keys5)
+    ∙ find-lower _ _ _ _ _ _ _ (c .before .if4 .left) (c .find3 .ensures))
+
+find-returns-12 : (t : ℕ) → find-lts.Need-returns-12 (find-claims t) (find-at t) find.Post
+find-returns-12 t c =
+    let n = c .match .rest in
+    sym (find-other _ _ _ _ _ _ (c .before .node-at .result) (c .before .node-at .ensures)
+    (n .0 .0 .0 .0 .1) (n .0 .0 .0 .1) (n .0 .0 .1) (n .0 .1) (n .1))
+
+pub +eval+find-spec : {M : Type 1} → statement M
++eval+find-spec = close μ-eval μ-find (λ t. eval-lts.spec (eval-claims t) (eval-at t) eval.Post
+    (eval-node-at-requires t)
+    (eval-cast-first t)
+    (eval-cast-second t)
+    (eval-constant-requires t)
+    (eval-variable-place-requires t)
+    (eval-load-requires t)
+    (eval-returns t)
+    (eval-find-requires t)
+    (eval-enum-known-whole t)
+    (eval-no-value-requires t)
+    (eval-returns-2 t)
+    (eval-field-place-requires t)
+    (eval-load-requires-2 t)
+    (eval-returns-3 t)
+    (eval-find-requires-2 t)
+    (eval-enum-known-list t)
+    (eval-no-value-requires-2 t)
+    (eval-returns-4 t)
+    (eval-returns-5 t)
+    (eval-eval-requires t)
+    (eval-array-place-requires t)
+    (eval-load-requires-3 t)
+    (eval-variable-place-requires-2 t)
+    (eval-guard-place-requires t)
+    (eval-load-requires-4 t)
+    (eval-returns-6 t)
+    (eval-eval-requires-2 t)
+    (eval-enum-known-left t)
+    (eval-returns-7 t)
+    (eval-decides-requires t)
+    (eval-returns-8 t)
+    (eval-returns-9 t)
+    (eval-eval-requires-3 t)
+    (eval-enum-known-right t)
+    (eval-returns-10 t)
+    (eval-dyadic-requires t)
+    (eval-returns-11 t)
+    (eval-eval-requires-4 t)
+    (eval-enum-known-operand t)
+    (eval-returns-12 t)
+    (eval-monadic-requires t)
+    (eval-variable-place-requires-3 t)
+    (eval-type-test-requires t)
+    (eval-returns-13 t)
+    (eval-eval-requires-5 t)
+    (eval-returns-14 t)
+    (eval-returns-15 t)
+    (eval-returns-16 t)
+    (eval-returns-17 t)
+    (eval-returns-18 t)
+    (eval-returns-19 t)
+    (eval-returns-20 t)
+    (eval-returns-21 t)
+    (eval-returns-22 t)
+    (eval-returns-23 t))
+    λ t. find-lts.spec (find-claims t) (find-at t) find.Post
+    (find-node-at-requires t)
+    (find-cast-first t)
+    (find-cast-second t)
+    (find-variable-place-requires t)
+    (find-returns t)
+    (find-find-requires t)
+    (find-enum-known-whole t)
+    (find-returns-2 t)
+    (find-field-place-requires t)
+    (find-returns-3 t)
+    (find-find-requires-2 t)
+    (find-enum-known-list t)
+    (find-returns-4 t)
+    (find-returns-5 t)
+    (find-eval-requires t)
+    (find-array-place-requires t)
+    (find-variable-place-requires-2 t)
+    (find-guard-place-requires t)
+    (find-returns-6 t)
+    (find-find-requires-3 t)
+    (find-returns-7 t)
+    (find-returns-8 t)
+    (find-returns-9 t)
+    (find-returns-10 t)
+    (find-returns-11 t)
+    (find-returns-12 t)
