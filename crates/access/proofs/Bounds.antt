@@ -192,6 +192,9 @@ module _ {image plan : List ℕ} (p : Planned image plan) where
   pub statements-few : rowsOf (g .statements) ≤ 1024
   statements-few = ok .counts .statements
 
+  pub procedures-some : 1 ≤ rowsOf (g .procedures)
+  procedures-some = ok .counts .some-procedure
+
   pub procedures-few : rowsOf (g .procedures) ≤ 64
   procedures-few = ok .counts .procedures
 

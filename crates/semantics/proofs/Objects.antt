@@ -85,7 +85,8 @@ module _ (g : Program) where
       go true = refl
       go false = layout-length (g .types) (g .fields) a
 
-  kinds-room : (n k : ℕ) → length (kindsFrom g k n) ≡ roomFrom (g .types) (g .fields) (g .variables) k n
+  -- variables' cells are as many as their room
+  pub kinds-room : (n k : ℕ) → length (kindsFrom g k n) ≡ roomFrom (g .types) (g .fields) (g .variables) k n
   unfolding kindsFrom roomBy
   kinds-room zero k = refl
   kinds-room (suc n) k =

@@ -1,0 +1,79 @@
+use borrow.Author.Needs.{needs}
+use mathlib.Core.Path.{_≡_, _∙_}
+use Prim.Native.Nat.{_-_}
+use native.Mathlib.Omega.{arith}
+use Rattle.semantics.specs.Running.{programOf}
+use Rattle.calling.specs.Showing.{stateOf}
+use Rattle.machine.proofs.Along.{stands-less, Along, along-start, along-more, along-last, along-out, shows-going}
+use Rattle.machine.proofs.advance.Statement.{statement}
+use Rattle.machine.proofs.advance.Tie as tie
+use Rattle.machine.proofs.advance.Reads as reads
+use Rattle.machine.proofs.advance.Lts as lts
+use Rattle.machine.proofs.stop_by.Reads as stop-by-reads
+use Rattle.stepping.proofs.step.Reads as step-reads
+
+abbrev Inv-loop : tie.InvT-loop
+Inv-loop image plan input store₀ output₀ n s₀ k₀ store output s k = Along (programOf image) input n (stateOf s₀ store₀ output₀) (stateOf s store output) k
+
+abbrev μ-loop : tie.MeasureT-loop
+μ-loop image plan input store₀ output₀ n s₀ k₀ store output s k = n - k
+
+loop-holds : tie.Need-loop-holds Inv-loop μ-loop
+loop-holds c = along-start _ _ _ _ (c .before .before .pre .1)
+
+step-requires : tie.Need-step-requires Inv-loop μ-loop
+step-requires c κs = (c .before .before .before .before .before .before .pre .0, stands-less (omega (arith, c .before .before .loop-test .taken)) (c .before .before .before .loop .inv .stands))
+
+add-done : tie.Need-add-done Inv-loop μ-loop
+add-done c = omega (arith, c .before .before .before .before .before .before .loop .inv .few)
+
+enum-known-next : tie.Need-enum-known-next Inv-loop μ-loop
+enum-known-next c = search needs
+
+stop-by-requires : tie.Need-stop-by-requires Inv-loop μ-loop
+stop-by-requires c κs = search needs
+
+same-length : tie.Need-same-length Inv-loop μ-loop
+same-length c = c .before .before .before .before .step .kept .1 .1 .1 .0 ∙ c .before .before .before .before .before .before .before .before .loop .inv .cells-kept
+
+same-length-2 : tie.Need-same-length-2 Inv-loop μ-loop
+same-length-2 c = c .before .before .before .before .step .kept .1 .1 .1 .1 .0 ∙ c .before .before .before .before .before .before .before .before .loop .inv .output-kept
+
+returns : tie.Need-returns Inv-loop μ-loop
+returns c = rw (c .stop-by .ensures) (along-last _ _ (c .before .before .before .before .before .before .before .before .loop .inv) (c .before .before .before .before .before .before .before .loop-test .taken) (c .before .before .before .before .step .ensures) (c .before .match .keys2))
+
+loop-less : tie.Need-loop-less Inv-loop μ-loop
+loop-less c = omega (arith, c .before .before .before .before .before .before .before .before .before .loop .inv .few)
+
+loop-again : tie.Need-loop-again Inv-loop μ-loop
+loop-again c = let shown = shows-going (rw (c .before .next .given .1) at (c .before .before .before .before .before .step .ensures)) in
+    along-more _ _ (c .before .before .before .before .before .before .before .before .before .loop .inv) (c .before .before .before .before .before .before .before .before .loop-test .taken) (shown .0) (shown .1) (c .before .before .before .before .before .step .kept .1 .1 .1 .0) (c .before .before .before .before .before .step .kept .1 .1 .1 .1 .0)
+
+same-length-3 : tie.Need-same-length-3 Inv-loop μ-loop
+same-length-3 c = c .before .loop .inv .cells-kept
+
+same-length-4 : tie.Need-same-length-4 Inv-loop μ-loop
+same-length-4 c = c .before .loop .inv .output-kept
+
+returns-2 : tie.Need-returns-2 Inv-loop μ-loop
+returns-2 c = along-out _ _ (c .before .loop .inv) (c .loop-test .left)
+
+pub advance-spec : {M : Type 1} → statement M
+advance-spec =
+    tie.close
+    (tie.spec
+    Inv-loop
+    μ-loop
+    loop-holds
+    step-requires
+    add-done
+    enum-known-next
+    stop-by-requires
+    same-length
+    same-length-2
+    returns
+    loop-less
+    loop-again
+    same-length-3
+    same-length-4
+    returns-2)
