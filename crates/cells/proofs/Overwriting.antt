@@ -1,19 +1,19 @@
 -- Laws of cells that are overwritten and copied.
 use mathlib.Core.Path.{_≡_, sym, _∙_, ap}
-use mathlib.Core.List.{List, [], _∷_, _++_, append-assoc}
+use mathlib.Core.List.{List, [], _∷_, _++_, append-assoc, append-nil}
 use Prim.Native.Nat.{ℕ, suc, _+_, _-_, _≤_, _<_}
 use native.Mathlib.Omega.{arith}
+use native.Mathlib.Nat.{le-of-eq}
 use lib.ListN.{length, getD, set, take, drop, replicate, length-append, length-drop, length-replicate}
-use lib.ListN.{take-append-drop, List·getD-append, replicate-append-replicate}
+use lib.ListN.{take-append-drop, drop-of-length-le, List·getD-append, replicate-append-replicate}
 use lib.Seq.{length-take-le, take-suc, drop-cons, take-at, drop-at, drop-append-add, getD-append-add, set-split}
-use lib.Seq.{take-add, drop-drop, getD-take, getD-drop}
+use lib.Seq.{take-add, take-all, drop-drop, getD-take, getD-drop}
 use Rattle.semantics.specs.Memory.{partAt, overwrite}
 use Rattle.semantics.proofs.Holding.{put-length, put-above}
 
 module _ {X : Type 0} where
   -- ---- parts
 
-  -- a part has as many cells as were asked for
   pub part-length : (cells : List X) (a n : ℕ) → a + n ≤ length cells → length (partAt cells a n) ≡ n
   unfolding partAt
   part-length cells a n h = length-take-le n (drop a cells) (omega (arith, length-drop a cells))
@@ -37,7 +37,6 @@ module _ {X : Type 0} where
 
   -- ---- overwriting
 
-  -- no cell overwritten
   pub overwrite-none : (cells : List X) (a : ℕ) → overwrite cells a [] ≡ cells
   unfolding overwrite
   overwrite-none cells a = let none : a + 0 ≡ a = omega arith in rw none (take-append-drop a cells)
@@ -47,7 +46,6 @@ module _ {X : Type 0} where
   unfolding overwrite
   overwrite-one cells a x h = let next : a + 1 ≡ suc a = omega arith in rw next (set-split cells a x h)
 
-  -- the list stays as long as it was
   pub overwrite-length : (cells new : List X) (a : ℕ) → a + length new ≤ length cells
       → length (overwrite cells a new) ≡ length cells
   overwrite-length cells new a h = put-length cells new a h
@@ -61,11 +59,25 @@ module _ {X : Type 0} where
       rw (drop-drop (a + length new) top cells, place, take-add top a cells)
       (sym (append-assoc (take top cells) (take a (drop top cells)) (new ++ drop (top + a + length new) cells)))
 
-  -- the kept cells before a place, and the new ones from there on
+  -- the part `&mut cells[top..]` that is lent, and the whole once it has come back
+  pub lent-is : (cells : List X) (top : ℕ) → take (length cells - top) (drop top cells) ≡ drop top cells
+  lent-is cells top = take-all (length cells - top) (drop top cells) (le-of-eq (length-drop top cells))
+
+  pub lent-back : (cells part : List X) (top : ℕ)
+      → take top cells ++ (part ++ drop (length cells - top) (drop top cells)) ≡ take top cells ++ part
+  lent-back cells part top =
+      rw (drop-of-length-le (drop top cells) {i = length cells - top} (le-of-eq (length-drop top cells)), append-nil)
+
+  -- cells overwritten in that part
+  pub overwrite-lent : (cells new part : List X) (top a : ℕ) → top ≤ length cells
+      → part ≡ overwrite (take (length cells - top) (drop top cells)) a new
+      → take top cells ++ (part ++ drop (length cells - top) (drop top cells)) ≡ overwrite cells (top + a) new
+  overwrite-lent cells new part top a h e =
+      rw (lent-back cells part top, e, lent-is cells top) (overwrite-above cells new top a h)
+
   front-length : (cells new : List X) (a : ℕ) → a ≤ length cells → length (take a cells ++ new) ≡ a + length new
   front-length cells new a h = length-append (take a cells) new ∙ rw (length-take-le a cells h)
 
-  -- the place behind two lists that begin at a
   both-length : (xs ys : List X) (a : ℕ) → a + length (xs ++ ys) ≡ a + length xs + length ys
   both-length xs ys a = omega (arith, length-append xs ys)
 
@@ -103,7 +115,6 @@ module _ {X : Type 0} where
 
   -- ---- cells that stay
 
-  -- a cell before those overwritten
   pub cell-before : (cells new : List X) (a i : ℕ) (d : X) → i < a → a ≤ length cells
       → getD (overwrite cells a new) i d ≡ getD cells i d
   unfolding overwrite
@@ -111,7 +122,6 @@ module _ {X : Type 0} where
       List·getD-append (take a cells) (new ++ drop (a + length new) cells) d i (rw (length-take-le a cells low) h)
       ∙ getD-take a cells i d h
 
-  -- a cell behind those overwritten
   pub cell-behind : (cells new : List X) (a i : ℕ) (d : X) → a + length new ≤ i → a ≤ length cells
       → getD (overwrite cells a new) i d ≡ getD cells i d
   unfolding overwrite
