@@ -14,6 +14,7 @@ use Rattle.semantics.proofs.Holding.{put-length, put-above}
 module _ {X : Type 0} where
   -- ---- parts
 
+  -- a part has as many cells as were asked for
   pub part-length : (cells : List X) (a n : ℕ) → a + n ≤ length cells → length (partAt cells a n) ≡ n
   unfolding partAt
   part-length cells a n h = length-take-le n (drop a cells) (omega (arith, length-drop a cells))
@@ -37,6 +38,7 @@ module _ {X : Type 0} where
 
   -- ---- overwriting
 
+  -- no cell overwritten
   pub overwrite-none : (cells : List X) (a : ℕ) → overwrite cells a [] ≡ cells
   unfolding overwrite
   overwrite-none cells a = let none : a + 0 ≡ a = omega arith in rw none (take-append-drop a cells)
@@ -46,6 +48,7 @@ module _ {X : Type 0} where
   unfolding overwrite
   overwrite-one cells a x h = let next : a + 1 ≡ suc a = omega arith in rw next (set-split cells a x h)
 
+  -- the list stays as long as it was
   pub overwrite-length : (cells new : List X) (a : ℕ) → a + length new ≤ length cells
       → length (overwrite cells a new) ≡ length cells
   overwrite-length cells new a h = put-length cells new a h
@@ -75,9 +78,11 @@ module _ {X : Type 0} where
   overwrite-lent cells new part top a h e =
       rw (lent-back cells part top, e, lent-is cells top) (overwrite-above cells new top a h)
 
+  -- the kept cells before a place, and the new ones from there on
   front-length : (cells new : List X) (a : ℕ) → a ≤ length cells → length (take a cells ++ new) ≡ a + length new
   front-length cells new a h = length-append (take a cells) new ∙ rw (length-take-le a cells h)
 
+  -- the place behind two lists that begin at a
   both-length : (xs ys : List X) (a : ℕ) → a + length (xs ++ ys) ≡ a + length xs + length ys
   both-length xs ys a = omega (arith, length-append xs ys)
 
@@ -115,6 +120,7 @@ module _ {X : Type 0} where
 
   -- ---- cells that stay
 
+  -- a cell before those overwritten
   pub cell-before : (cells new : List X) (a i : ℕ) (d : X) → i < a → a ≤ length cells
       → getD (overwrite cells a new) i d ≡ getD cells i d
   unfolding overwrite
@@ -122,6 +128,7 @@ module _ {X : Type 0} where
       List·getD-append (take a cells) (new ++ drop (a + length new) cells) d i (rw (length-take-le a cells low) h)
       ∙ getD-take a cells i d h
 
+  -- a cell behind those overwritten
   pub cell-behind : (cells new : List X) (a i : ℕ) (d : X) → a + length new ≤ i → a ≤ length cells
       → getD (overwrite cells a new) i d ≡ getD cells i d
   unfolding overwrite

@@ -181,22 +181,3 @@ pub fn run(
     let stop = advance(image, &plan, input, store, output, first, steps);
     numbers(stop)
 }
-
-// The same for C.
-#[no_mangle]
-pub extern "C" fn door_run(
-    image: &[u8],
-    input: &[i32],
-    store: &mut [i64],
-    output: &mut [i32],
-    steps: u32,
-) -> RunResult
-    ensures { λ x. ⌜ x ≡ resultOf (now (image .entry)) (now (input .entry)) (now (store .entry)) (now (output .entry))
-        steps ⌝ }
-    ensures store { λ x. ⌜ now (store .exit) ≡ storeAfter (now (image .entry)) (now (input .entry))
-        (now (store .entry)) (now (output .entry)) steps ⌝ }
-    ensures output { λ x. ⌜ now (output .exit) ≡ outputAfter (now (image .entry)) (now (input .entry))
-        (now (store .entry)) (now (output .entry)) steps ⌝ }
-{
-    run(image, input, store, output, steps)
-}
