@@ -4,8 +4,8 @@
 report.py          write vectors/report/, vectors/input/ and the images in tests/bench/programs/
 report.py --check  compare these with what would be written; exits 1 where one differs
 
-The images are what `listing assemble` makes of the listings; tools/listing.rs is built by rustc where target/listing is
-not there or older. Without rustc nothing is compared, and a line says so.
+The images are what `listing assemble` makes of the listings; tools/listing.rs is built by rustc where target/listing
+is not there or older. Without rustc nothing is compared, and a line says so.
 
 The answers stand in the first comments of each listing. They were found by hand from the Oberon-2 report and document
 01, and steps and cells by an interpreter that was written from document 01 alone and shares nothing with the crates. A
@@ -23,8 +23,8 @@ NAME is that of NAME-K.img:
     -- output: the numbers written
     -- cells: what each holds after the run, in one line or more
 
-What the numbers must have by document 01 alone, whatever the program, is asked here: so many outputs as are written, no
-more read than there is, and so on.
+What the numbers must have by document 01 alone, whatever the program, is asked here: so many outputs as are written,
+no more read than there is, and so on.
 """
 import pathlib
 import re
@@ -38,6 +38,7 @@ SOURCE, TOOL = TOP / 'tools/listing.rs', TOP / 'target/listing'
 KEYS = re.compile(r'-- (run|input|expect|output|cells):((?: -?[0-9]+)*)$')
 UNWRITTEN = 7  # what each output place holds before a run
 OUTPUTS, STEPS = 4096, 100000  # what doorrun lends
+FIRST_LINE = '# image cells fill outputs steps | inputs | the nine numbers | every output place | every cell\n'
 
 
 class Bad(Exception):
@@ -99,7 +100,7 @@ def words(numbers):
 def files():
     """What is to be there: for each folder the bytes of each file."""
     report, inputs, programs = {}, {}, {}
-    expect, lines = '', '# image cells fill outputs steps | inputs | the nine numbers | every output place | every cell\n'
+    expect, lines = '', FIRST_LINE
     with tempfile.TemporaryDirectory() as room:
         for listing in sorted((TOP / 'examples').glob('*/*.lst'), key=lambda path: path.name):
             image, runs = assembled(listing, room), answers(listing)
@@ -122,9 +123,9 @@ def files():
     return {'vectors/report': report, 'vectors/input': inputs, 'tests/bench/programs': programs}
 
 
-def others(path):
-    """Files of these folders that are not made here: listings, and what tests/deep.py makes."""
-    return path.suffix == '.lst' or path.name.startswith('deep-')
+def made(path):
+    """Whether a file of these folders is made here: an image or answers, but not what tests/deep.py makes."""
+    return path.suffix in ('.img', '.txt') and not path.name.startswith('deep-')
 
 
 def main(arguments):
@@ -146,7 +147,7 @@ def main(arguments):
             folder.mkdir(exist_ok=True)
             for file, data in there.items():
                 (folder / file).write_bytes(data)
-        paths = [path for path in folder.iterdir() if not others(path)] if folder.is_dir() else []
+        paths = [path for path in folder.iterdir() if made(path)] if folder.is_dir() else []
         found = {path.name: path.read_bytes() for path in paths}
         for file in sorted(there.keys() | found.keys()):
             if there.get(file) != found.get(file):

@@ -775,7 +775,8 @@ fn expression(tables: &Tables, node: u16, budget: &mut u32) -> Option<String> {
     let Row { kind, a, b, c, .. } = row;
     let mut operand = |node: u16| {
         let text = expression(tables, node, budget)?;
-        let compound = matches!(tables[NODES][node as usize].kind, 5..=7);
+        let row = tables[NODES][node as usize];
+        let compound = matches!(row.kind, 5..=7) && !text.starts_with('{') || text.starts_with('-');
         Some(if compound { format!("({text})") } else { text })
     };
     match (kind, c) {
@@ -784,7 +785,8 @@ fn expression(tables: &Tables, node: u16, budget: &mut u32) -> Option<String> {
         (2, _) => Some(format!("{}.f{b}", operand(a)?)),
         (3, _) => Some(format!("{}[{}]", operand(a)?, expression(tables, b, budget)?)),
         (4, _) => Some(format!("v{a}(t{b})")),
-        (5, 1..=16) => Some(format!("{} {} {}", operand(a)?, OPERATORS[c as usize - 1], operand(b)?)),
+        (5, 1..=15) => Some(format!("{} {} {}", operand(a)?, OPERATORS[c as usize - 1], operand(b)?)),
+        (5, 16) => Some(format!("{{{}..{}}}", operand(a)?, operand(b)?)),
         (6, 1) => Some(format!("-{}", operand(a)?)),
         (6, 2) => Some(format!("~{}", operand(a)?)),
         (7, _) => Some(format!("v{a} IS t{b}")),
