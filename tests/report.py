@@ -7,9 +7,10 @@ report.py --check  compare these with what would be written; exits 1 where one d
 The images are what `listing assemble` makes of the listings; tools/listing.rs is built by rustc where target/listing
 is not there or older. Without rustc nothing is compared, and a line says so.
 
-The answers stand in the first comments of each listing. They were found by hand from the Oberon-2 report and document
-01, and steps and cells by an interpreter that was written from document 01 alone and shares nothing with the crates. A
-listing of examples/ without inputs has the answer of `doorrun`, in vectors/report/expect.txt:
+The answers stand in the first comments of each listing. Outputs, traps and HALT numbers were found by hand from the
+Oberon-2 report and document 01; statement rows, steps and cells by an interpreter that is not kept here, which was
+written from document 01 and its readings, shares nothing with the crates, and gives all answers of vectors/special,
+doorrun and runs. A listing of examples/ without inputs has the answer of `doorrun`, in vectors/report/expect.txt:
 
     -- expect: the nine numbers
     -- output: the numbers written
