@@ -1,4 +1,4 @@
-//! Compares the proved check, linked as libchecker.a, with the plain one of plain.rs.
+//! Compares the proved check, linked as libdoor.a, with the plain one of plain.rs.
 //!
 //! bench vectors DIR...       asks both about every image of the folders, and compares with the answers there
 //! bench time NAME=IMAGE...   times both on each image; prints a table

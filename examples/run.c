@@ -1,0 +1,78 @@
+/* Runs door programs from C: run vectors/input/members-1.img
+ * Prints the nine numbers of each run and its outputs; exits 1 where they differ from what document 01 makes of the
+ * image. */
+#include <stdio.h>
+#include <string.h>
+
+#include "door.h"
+
+#define CELLS 8192
+#define PLACES 16
+
+/* Document 01's starred case 10: three types, a procedure, a RETURN. */
+static const uint8_t smallest[57] = {
+    1, 0, 0, 0, 57,                                                                 /* version, length */
+    0, 3, 0, 0, 0, 0, 0, 0, 0, 0, 1, 0, 0, 0, 0, 0, 0, 0, 2, 0, 0, 0, 0, 0, 0, 0, /* types */
+    0, 0,                                                                           /* fields */
+    0, 0,                                                                           /* variables */
+    0, 1, 0, 0, 0, 0, 0, 0, 0, 0,                                                   /* procedures */
+    0, 0,                                                                           /* nodes */
+    0, 1, 4, 0, 0, 0, 0, 0, 0, 0,                                                   /* statements */
+};
+
+static int64_t store[CELLS];
+static int32_t output[PLACES];
+static int differences;
+
+/* Runs an image in so many cells, and holds the nine numbers to those expected. */
+static void run(const char *what, const uint8_t *image, size_t length, const int32_t *input, size_t inputs,
+                size_t cells, uint32_t steps, struct door_result expected) {
+    struct door_result got;
+    for (size_t i = 0; i < CELLS; i++)
+        store[i] = -1;
+    for (size_t i = 0; i < PLACES; i++)
+        output[i] = 7;
+    got = door_run(image, length, input, inputs, store, cells, output, PLACES, steps);
+    printf("%s: refusal %u, row %u, outcome %u, trap %u, HALT %d, statement %u, steps %u, read %u, written %u\n", what,
+           (unsigned)got.refusal, (unsigned)got.fault, (unsigned)got.outcome, (unsigned)got.trap, (int)got.halt,
+           (unsigned)got.row, (unsigned)got.steps, (unsigned)got.read, (unsigned)got.written);
+    for (uint32_t i = 0; i < got.written; i++)
+        printf("  writes %d\n", (int)output[i]);
+    if (memcmp(&got, &expected, sizeof got) != 0) {
+        printf("  expected other numbers\n");
+        differences++;
+    }
+    /* a refusal leaves the store; cells behind those lent are never touched */
+    for (size_t i = got.refusal ? 0 : cells; i < CELLS; i++)
+        if (store[i] != -1) {
+            printf("  cell %zu was touched\n", i);
+            differences++;
+            break;
+        }
+}
+
+int main(int count, char **words) {
+    static const int32_t none[1] = {0}; /* never null */
+    static const int32_t member[2] = {1234, 19800}, expired[2] = {4711, 20001};
+    static uint8_t members[29713];
+    uint8_t other[57];
+    size_t length;
+    FILE *file;
+    if (count != 2 || !(file = fopen(words[1], "rb"))) {
+        fprintf(stderr, "usage: run MEMBERS.img\n");
+        return 2;
+    }
+    length = fread(members, 1, sizeof members, file);
+    fclose(file);
+    memcpy(other, smallest, sizeof other);
+    other[0] = 2;
+    run("starred case 10", smallest, 57, none, 0, 3, 100, (struct door_result){0, 0, 1, 0, 0, 0, 1, 0, 0});
+    run("no steps", smallest, 57, none, 0, 3, 0, (struct door_result){0, 0, 0, 0, 0, 0, 0, 0, 0});
+    run("two cells", smallest, 57, none, 0, 2, 100, (struct door_result){13, 0, 0, 0, 0, 0, 0, 0, 0});
+    run("version 2", other, 57, none, 0, CELLS, 100, (struct door_result){1, 0, 0, 0, 0, 0, 0, 0, 0});
+    run("a member", members, length, member, 2, CELLS, 200, (struct door_result){0, 0, 1, 0, 0, 12, 43, 2, 1});
+    run("a member, expired", members, length, expired, 2, CELLS, 200,
+        (struct door_result){0, 0, 1, 0, 0, 12, 36, 2, 1});
+    run("no card", members, length, none, 0, CELLS, 200, (struct door_result){0, 0, 2, 8, 0, 5, 26, 0, 0});
+    return differences ? 1 : 0;
+}
