@@ -68,7 +68,14 @@ pub fn ended_by(x: Passing) -> Step
 // ---- arguments
 
 // An object, at a place of the new frame: its address and dynamic type.
-fn pass_object(image: &[u8], plan: &[u32], store: &mut [i64], s: Registers, k: u32, place: u32) -> Passing
+fn pass_object(
+    image: &[u8],
+    plan: &[u32],
+    store: &mut [i64],
+    s: Registers,
+    k: u32,
+    place: u32,
+) -> Passing
     requires { ⌜ Ready (now image) (now plan) × Stands s (now store) 1 × (s .top + (place + 2) ≤ length (now store)) ⌝ }
     ensures { λ x. ⌜ ((output : List ℤ) → Passes (stateOf s (now (store .entry)) output)
         (λ next. onPlace (stateOf s (now (store .entry)) output)
@@ -89,7 +96,14 @@ fn pass_object(image: &[u8], plan: &[u32], store: &mut [i64], s: Registers, k: u
 }
 
 // A scalar value, at a place of the new frame.
-fn pass_value(image: &[u8], plan: &[u32], store: &mut [i64], s: Registers, k: u32, place: u32) -> Passing
+fn pass_value(
+    image: &[u8],
+    plan: &[u32],
+    store: &mut [i64],
+    s: Registers,
+    k: u32,
+    place: u32,
+) -> Passing
     requires { ⌜ Ready (now image) (now plan) × Stands s (now store) 1 × (s .top + (place + 1) ≤ length (now store)) ⌝ }
     ensures { λ x. ⌜ ((output : List ℤ) → Passes (stateOf s (now (store .entry)) output)
         (λ next. onValue (stateOf s (now (store .entry)) output)
@@ -108,7 +122,15 @@ fn pass_value(image: &[u8], plan: &[u32], store: &mut [i64], s: Registers, k: u3
 }
 
 // The cells of an object, as one of type row r, at a place of the new frame.
-fn pass_cells(image: &[u8], plan: &[u32], store: &mut [i64], s: Registers, k: u32, place: u32, r: u16) -> Passing
+fn pass_cells(
+    image: &[u8],
+    plan: &[u32],
+    store: &mut [i64],
+    s: Registers,
+    k: u32,
+    place: u32,
+    r: u16,
+) -> Passing
     requires { ⌜ Ready (now image) (now plan) × Stands s (now store) 1 × (r < rowsOf (programOf (now image) .types))
         × (s .top + (place + sizeOf (programOf (now image) .types) (programOf (now image) .fields) r)
         ≤ length (now store)) ⌝ }
@@ -156,7 +178,15 @@ fn pass(image: &[u8], plan: &[u32], store: &mut [i64], s: Registers, k: u32, a: 
 }
 
 // n arguments from node row k on, to the variables from row a on.
-fn pass_all(image: &[u8], plan: &[u32], store: &mut [i64], s: Registers, k: u32, a: u32, n: u32) -> Passing
+fn pass_all(
+    image: &[u8],
+    plan: &[u32],
+    store: &mut [i64],
+    s: Registers,
+    k: u32,
+    a: u32,
+    n: u32,
+) -> Passing
     requires { ⌜ Ready (now image) (now plan) × Stands s (now store) 1 × (k ≤ 65536) × (a ≤ 65536) × (n ≤ 65536)
         × ((j : ℕ) → j < n → Roomy (now image) (s .top) (a + j) (now store)) ⌝ }
     ensures { λ x. ⌜ ((output : List ℤ) → Passes (stateOf s (now (store .entry)) output)

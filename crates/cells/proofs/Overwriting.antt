@@ -1,12 +1,13 @@
 -- Laws of cells that are overwritten and copied.
 use mathlib.Core.Path.{_≡_, sym, _∙_, ap}
-use mathlib.Core.List.{List, [], _∷_, _++_, append-assoc}
+use mathlib.Core.List.{List, [], _∷_, _++_, append-assoc, append-nil}
 use Prim.Native.Nat.{ℕ, suc, _+_, _-_, _≤_, _<_}
 use native.Mathlib.Omega.{arith}
+use native.Mathlib.Nat.{le-of-eq}
 use lib.ListN.{length, getD, set, take, drop, replicate, length-append, length-drop, length-replicate}
-use lib.ListN.{take-append-drop, List·getD-append, replicate-append-replicate}
+use lib.ListN.{take-append-drop, drop-of-length-le, List·getD-append, replicate-append-replicate}
 use lib.Seq.{length-take-le, take-suc, drop-cons, take-at, drop-at, drop-append-add, getD-append-add, set-split}
-use lib.Seq.{take-add, drop-drop, getD-take, getD-drop}
+use lib.Seq.{take-add, take-all, drop-drop, getD-take, getD-drop}
 use Rattle.semantics.specs.Memory.{partAt, overwrite}
 use Rattle.semantics.proofs.Holding.{put-length, put-above}
 
@@ -60,6 +61,22 @@ module _ {X : Type 0} where
       let place : top + (a + length new) ≡ top + a + length new = omega arith in
       rw (drop-drop (a + length new) top cells, place, take-add top a cells)
       (sym (append-assoc (take top cells) (take a (drop top cells)) (new ++ drop (top + a + length new) cells)))
+
+  -- the part `&mut cells[top..]` that is lent, and the whole once it has come back
+  pub lent-is : (cells : List X) (top : ℕ) → take (length cells - top) (drop top cells) ≡ drop top cells
+  lent-is cells top = take-all (length cells - top) (drop top cells) (le-of-eq (length-drop top cells))
+
+  pub lent-back : (cells part : List X) (top : ℕ)
+      → take top cells ++ (part ++ drop (length cells - top) (drop top cells)) ≡ take top cells ++ part
+  lent-back cells part top =
+      rw (drop-of-length-le (drop top cells) {i = length cells - top} (le-of-eq (length-drop top cells)), append-nil)
+
+  -- cells overwritten in that part
+  pub overwrite-lent : (cells new part : List X) (top a : ℕ) → top ≤ length cells
+      → part ≡ overwrite (take (length cells - top) (drop top cells)) a new
+      → take top cells ++ (part ++ drop (length cells - top) (drop top cells)) ≡ overwrite cells (top + a) new
+  overwrite-lent cells new part top a h e =
+      rw (lent-back cells part top, e, lent-is cells top) (overwrite-above cells new top a h)
 
   -- the kept cells before a place, and the new ones from there on
   front-length : (cells new : List X) (a : ℕ) → a ≤ length cells → length (take a cells ++ new) ≡ a + length new

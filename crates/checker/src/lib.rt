@@ -1,4 +1,4 @@
-// The check of an image: questions 1 to 11, exported to C.
+// The check of an image: questions 1 to 11.
 use header::HeaderAnswer;
 use header::Table;
 use header::Tables;
@@ -13,7 +13,7 @@ ghost use Rattle.types.specs.Plan.{Plan};
 ghost use Rattle.frames.specs.Variables.{question5};
 ghost use Rattle.frames.specs.Procedures.{question6};
 ghost use Rattle.checker.specs.declared.CheckAnswer.the-variants.{Accepted};
-ghost use Rattle.checker.specs.Check.{tableQuestion, asked, firstNo, checkOf, numberOf};
+ghost use Rattle.checker.specs.Check.{tableQuestion, asked, firstNo, checkOf};
 ghost use Rattle.prelude.specs.Cells.{Filled};
 ghost use Rattle.checker.specs.Prepared.{CountsFit, BoundsFit, Leaves, boundOf, Prepared};
 
@@ -191,15 +191,4 @@ pub fn check(image: &[u8]) -> CheckAnswer
 {
     let mut plan = [0u32; 782];
     prepare(image, &mut plan)
-}
-
-// Refusal times 65,536 plus row; 0 is acceptance.
-#[no_mangle]
-pub extern "C" fn door_check(image: &[u8]) -> u32
-    ensures { λ x. ⌜ x ≡ numberOf (checkOf (now (image .entry))) ⌝ }
-{
-    match check(image) {
-        CheckAnswer::Accepted => 0,
-        CheckAnswer::Refused(question, row) => (question as u32) * 65536 + (row as u32),
-    }
 }

@@ -162,8 +162,10 @@ module _ (image : List ℕ) (input store output : List ℤ) (steps : ℕ) where
           eq-eqb _ 0 (choose-yes _ _ _ (eq-eqb _ 0 none) ∙ choose-yes _ _ _ (le-leb _ 65536 few)
           ∙ choose-yes _ _ _ (le-leb _ _ room)) in
           let free = never-stuck image bytes accepted input store output few room steps in
-          let ran = rw (fresh-is (programOf image) store output base-is top-is zeroed-is,
-          ran-bare image bytes accepted input store output few room steps) at stops in
+          let ran = rw (
+            fresh-is (programOf image) store output base-is top-is zeroed-is,
+            ran-bare image bytes accepted input store output few room steps,
+          ) at stops in
           record {
             result = ap numbersAt (ran .answer) ∙ sym (choose-yes _ _ _ yes);
             left = sym (ran .cells-left free) ∙ sym (choose-yes _ _ _ yes);

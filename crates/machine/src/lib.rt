@@ -143,7 +143,13 @@ fn first_top(image: &[u8], plan: &[u32]) -> u32
 }
 
 // Checks an image and runs it from the fresh state, with at most `steps` steps.
-pub fn run(image: &[u8], input: &[i32], store: &mut [i64], output: &mut [i32], steps: u32) -> RunResult
+pub fn run(
+    image: &[u8],
+    input: &[i32],
+    store: &mut [i64],
+    output: &mut [i32],
+    steps: u32,
+) -> RunResult
     ensures { λ x. ⌜ x ≡ resultOf (now (image .entry)) (now (input .entry)) (now (store .entry)) (now (output .entry))
         steps ⌝ }
     ensures store { λ x. ⌜ now (store .exit) ≡ storeAfter (now (image .entry)) (now (input .entry))
@@ -174,23 +180,4 @@ pub fn run(image: &[u8], input: &[i32], store: &mut [i64], output: &mut [i32], s
     };
     let stop = advance(image, &plan, input, store, output, first, steps);
     numbers(stop)
-}
-
-// The same for C.
-#[no_mangle]
-pub extern "C" fn door_run(
-    image: &[u8],
-    input: &[i32],
-    store: &mut [i64],
-    output: &mut [i32],
-    steps: u32,
-) -> RunResult
-    ensures { λ x. ⌜ x ≡ resultOf (now (image .entry)) (now (input .entry)) (now (store .entry)) (now (output .entry))
-        steps ⌝ }
-    ensures store { λ x. ⌜ now (store .exit) ≡ storeAfter (now (image .entry)) (now (input .entry))
-        (now (store .entry)) (now (output .entry)) steps ⌝ }
-    ensures output { λ x. ⌜ now (output .exit) ≡ outputAfter (now (image .entry)) (now (input .entry))
-        (now (store .entry)) (now (output .entry)) steps ⌝ }
-{
-    run(image, input, store, output, steps)
 }

@@ -14,8 +14,8 @@ ghost use Prim.Native.Nat.{_<_};
 ghost use lib.IntN.{ℤ};
 ghost use Rattle.image.specs.Rows.{rowsOf};
 ghost use Rattle.semantics.specs.Memory.{bare};
-ghost use Rattle.semantics.specs.Stepping.{written as writtenTo, otherRecord, copied, assigned, jumped, returned};
-ghost use Rattle.semantics.specs.Stepping.{received, sent, halted, stepOf};
+ghost use Rattle.semantics.specs.Stepping.{State, written as writtenTo, otherRecord, copied, assigned, jumped};
+ghost use Rattle.semantics.specs.Stepping.{returned, received, sent, halted, stepOf};
 ghost use Rattle.semantics.specs.Running.{programOf};
 ghost use Rattle.access.specs.Ready.{Ready};
 ghost use Rattle.finding.specs.Standing.{Within};
@@ -37,11 +37,12 @@ fn at_row(s: Registers, row: u32) -> Registers
 
 // Writes one cell at an address below top, and goes on.
 fn write_cell(store: &mut [i64], s: Registers, address: u32, z: i64) -> Step
-    requires { ⌜ Stands s (now store) 1 ⌝ }
+    requires { ⌜ Stands s (now store) 1 × (s .row < 65536) ⌝ }
     ensures { λ x. ⌜ ((output : List ℤ) → Shows (stateOf s (now (store .entry)) output)
         (writtenTo (stateOf s (now (store .entry)) output) address (z ∷ [])) x (now (store .exit)) output) ⌝ }
 {
-    let next = s.row + 1;
+    let row = s.row;
+    let next = row + 1;
     if s.top <= address {
         return Step::Stuck;
     }
@@ -54,8 +55,7 @@ fn write_cell(store: &mut [i64], s: Registers, address: u32, z: i64) -> Step
 // Whether a target is a record of another dynamic type than the declared one.
 fn other_record(image: &[u8], plan: &[u32], target: Place) -> bool
     requires { ⌜ Ready (now image) (now plan) ⌝ }
-    ensures { λ x. ⌜ ((s : List ℤ) (r : Registers) → x ≡ otherRecord bare (programOf (now (image .entry)))
-        (stateOf r s []) target) ⌝ }
+    ensures { λ x. ⌜ ((s : State ℤ) → x ≡ otherRecord bare (programOf (now (image .entry))) s target) ⌝ }
 {
     let declared = target.declared;
     let dynamic = target.dynamic;
@@ -67,9 +67,16 @@ fn other_record(image: &[u8], plan: &[u32], target: Place) -> bool
 }
 
 // The target type's cells, from the source to the target.
-fn copy_object(image: &[u8], plan: &[u32], store: &mut [i64], s: Registers, target: Place, source: Place) -> Step
-    requires { ⌜ Ready (now image) (now plan) × Stands s (now store) 1 × Within (now image) target
-        × Within (now image) source ⌝ }
+fn copy_object(
+    image: &[u8],
+    plan: &[u32],
+    store: &mut [i64],
+    s: Registers,
+    target: Place,
+    source: Place,
+) -> Step
+    requires { ⌜ Ready (now image) (now plan) × Stands s (now store) 1 × (s .row < 65536)
+        × Within (now image) target × Within (now image) source ⌝ }
     ensures { λ x. ⌜ ((output : List ℤ) → Shows (stateOf s (now (store .entry)) output)
         (copied bare (programOf (now (image .entry))) (stateOf s (now (store .entry)) output) target source)
         x (now (store .exit)) output) ⌝ }
@@ -78,11 +85,11 @@ fn copy_object(image: &[u8], plan: &[u32], store: &mut [i64], s: Registers, targ
     let top = s.top;
     let from = source.address;
     let to = target.address;
-    let declared = target.declared;
+    let wanted = target.declared;
     if other_record(image, plan, target) {
         return Step::Trapped(Trap::Target, 0);
     }
-    let size = access::size_of(image, plan, declared);
+    let size = access::size_of(image, plan, wanted);
     let source_end = from + size;
     if top < source_end {
         return Step::Stuck;
@@ -96,7 +103,7 @@ fn copy_object(image: &[u8], plan: &[u32], store: &mut [i64], s: Registers, targ
 }
 
 fn assign(image: &[u8], plan: &[u32], store: &mut [i64], s: Registers, statement: Row) -> Step
-    requires { ⌜ Ready (now image) (now plan) × Stands s (now store) 1 ⌝ }
+    requires { ⌜ Ready (now image) (now plan) × Stands s (now store) 1 × (s .row < 65536) ⌝ }
     ensures { λ x. ⌜ ((output : List ℤ) → Shows (stateOf s (now (store .entry)) output)
         (assigned bare (programOf (now (image .entry))) (stateOf s (now (store .entry)) output) statement)
         x (now (store .exit)) output) ⌝ }
@@ -129,7 +136,7 @@ fn assign(image: &[u8], plan: &[u32], store: &mut [i64], s: Registers, statement
 // ---- statement kinds 2 and 4
 
 fn jump(image: &[u8], plan: &[u32], store: &[i64], s: Registers, statement: Row) -> Step
-    requires { ⌜ Ready (now image) (now plan) × Stands s (now store) 1 ⌝ }
+    requires { ⌜ Ready (now image) (now plan) × Stands s (now store) 1 × (s .row < 65536) ⌝ }
     ensures { λ x. ⌜ ((output : List ℤ) → Shows (stateOf s (now (store .entry)) output)
         (jumped bare (programOf (now (image .entry))) statement (stateOf s (now (store .entry)) output))
         x (now (store .entry)) output) ⌝ }
@@ -174,9 +181,11 @@ fn give_back(image: &[u8], plan: &[u32], store: &[i64], s: Registers) -> Step
     let Mark::Number(older) = cells::mark_at(store, top, base + 2) else {
         return Step::Stuck;
     };
+    let after = back as u32;
+    let frame = older as u32;
     Step::Goes(Registers {
-        row: back as u32,
-        base: older as u32,
+        row: after,
+        base: frame,
         top: base,
         read,
         written,
@@ -185,8 +194,15 @@ fn give_back(image: &[u8], plan: &[u32], store: &[i64], s: Registers) -> Step
 
 // ---- statement kinds 5 to 7
 
-fn receive(image: &[u8], plan: &[u32], input: &[i32], store: &mut [i64], s: Registers, statement: Row) -> Step
-    requires { ⌜ Ready (now image) (now plan) × Stands s (now store) 1 ⌝ }
+fn receive(
+    image: &[u8],
+    plan: &[u32],
+    input: &[i32],
+    store: &mut [i64],
+    s: Registers,
+    statement: Row,
+) -> Step
+    requires { ⌜ Ready (now image) (now plan) × Stands s (now store) 1 × (s .row < 65536) ⌝ }
     ensures { λ x. ⌜ ((output : List ℤ) → Shows (stateOf s (now (store .entry)) output)
         (received bare (programOf (now (image .entry))) (now (input .entry)) statement
         (stateOf s (now (store .entry)) output)) x (now (store .exit)) output) ⌝ }
@@ -195,6 +211,7 @@ fn receive(image: &[u8], plan: &[u32], input: &[i32], store: &mut [i64], s: Regi
     let top = s.top;
     let next = s.row + 1;
     let read = s.read;
+    let more = read + 1;
     let written = s.written;
     let a = statement.a as u32;
     let found = finding::find(image, plan, store, base, top, a);
@@ -209,7 +226,6 @@ fn receive(image: &[u8], plan: &[u32], input: &[i32], store: &mut [i64], s: Regi
         return Step::Stuck;
     }
     let number = input[read as usize] as i64;
-    let more = read + 1;
     cells::put(store, address, number);
     Step::Goes(Registers {
         row: next,
@@ -220,8 +236,15 @@ fn receive(image: &[u8], plan: &[u32], input: &[i32], store: &mut [i64], s: Regi
     })
 }
 
-fn send(image: &[u8], plan: &[u32], store: &[i64], output: &mut [i32], s: Registers, statement: Row) -> Step
-    requires { ⌜ Ready (now image) (now plan) × Stands s (now store) 1 ⌝ }
+fn send(
+    image: &[u8],
+    plan: &[u32],
+    store: &[i64],
+    output: &mut [i32],
+    s: Registers,
+    statement: Row,
+) -> Step
+    requires { ⌜ Ready (now image) (now plan) × Stands s (now store) 1 × (s .row < 65536) ⌝ }
     ensures { λ x. ⌜ Shows (stateOf s (now (store .entry)) (now (output .entry)))
         (sent bare (programOf (now (image .entry))) statement
         (stateOf s (now (store .entry)) (now (output .entry)))) x (now (store .entry)) (now (output .exit)) ⌝ }
@@ -231,6 +254,7 @@ fn send(image: &[u8], plan: &[u32], store: &[i64], output: &mut [i32], s: Regist
     let next = s.row + 1;
     let read = s.read;
     let written = s.written;
+    let more = written + 1;
     let a = statement.a as u32;
     let answer = finding::eval(image, plan, store, base, top, a);
     let Answer::Val(value) = answer else {
@@ -242,7 +266,6 @@ fn send(image: &[u8], plan: &[u32], store: &[i64], output: &mut [i32], s: Regist
     if output.len() <= written as usize {
         return Step::Trapped(Trap::Output, 0);
     }
-    let more = written + 1;
     output[written as usize] = number;
     Step::Goes(Registers {
         row: next,

@@ -1,11 +1,11 @@
 use Rattle.checker.proofs.Asking.{number-accepted, number-refused}
 use mathlib.Core.Path.{_≡_, refl, sym, _∙_, ap}
 use borrow.Author.Needs.{needs}
-use Rattle.checker.proofs.door_check.Statement.{statement}
-use Rattle.checker.proofs.door_check.Tie as tie
-use Rattle.checker.proofs.door_check.Reads as reads
-use Rattle.checker.proofs.door_check.Lts as lts
+use Rattle.door.proofs.door_check.Statement.{statement}
+use Rattle.door.proofs.door_check.Tie as tie
+use Rattle.door.proofs.door_check.Reads as reads
+use Rattle.door.proofs.door_check.Lts as lts
 use Rattle.checker.proofs.check.Reads as check-reads
 
 check-requires : tie.Need-check-requires
 check-requires c κs = search needs
