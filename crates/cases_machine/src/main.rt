@@ -15,7 +15,8 @@ fn take_inputs(bytes: &[u8], input: &mut [i32])
 {
     let mut i: usize = 0;
     while i < input.len() {
-        input[i] = packs::signed_at(bytes, 20 + i * 4);
+        let z = packs::signed_at(bytes, 20 + i * 4);
+        input[i] = z;
         i = i + 1;
     }
 }

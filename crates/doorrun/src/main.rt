@@ -8,7 +8,7 @@ ghost use lib.IntN.{pos};
 ghost use lib.ListN.{replicate};
 ghost use Rattle.semantics.specs.Running.{resultOf, outputAfter};
 
-// A run with no inputs, 8,192 cells and 100,000 steps.
+// Runs an image with no inputs, 8,192 cells and 100,000 steps.
 fn run_image(image: &[u8], output: &mut [i32]) -> RunResult
     ensures { λ x. ⌜ x ≡ resultOf (now (image .entry)) [] (replicate 8192 (pos 0)) (now (output .entry)) 100000 ⌝ }
     ensures output { λ x. ⌜ now (output .exit) ≡ outputAfter (now (image .entry)) [] (replicate 8192 (pos 0))
@@ -19,13 +19,13 @@ fn run_image(image: &[u8], output: &mut [i32]) -> RunResult
     machine::run(image, &input, &mut store, output, 100000)
 }
 
-// Prints the first n outputs, one per line.
 fn main() {
     let mut image = [0u8; 29714];
     let n = io::read_full(STDIN_FILENO, &mut image);
     let mut output = [0i32; 4096];
     let x = run_image(&image[..n], &mut output);
     printing::print_result(x);
+    // No more are written than there are places.
     let written = x.written as usize;
     if written <= output.len() {
         printing::print_output(b"\n", &output[..written]);

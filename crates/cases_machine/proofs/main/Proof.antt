@@ -5,12 +5,6 @@ use native.Mathlib.Omega.{arith}
 use borrow.Author.Needs.{needs}
 use Rattle.cases_machine.proofs.main.Statement.{statement}
 use Rattle.cases_machine.proofs.main.Tie as tie
-use Rattle.cases_machine.proofs.main.Reads as reads
-use Rattle.cases_machine.proofs.main.Lts as lts
-use Rattle.cases_machine.proofs.run_record.Reads as run-record-reads
-use Rattle.os.proofs.fail.Reads as fail-reads
-use Rattle.os.proofs.open_read.Reads as open-read-reads
-use Rattle.packs.proofs.next_record.Reads as next-record-reads
 
 abbrev Inv-loop : tie.InvT-loop
 Inv-loop fd buffer₀ left₀ buffer left = length buffer ≡ 29990

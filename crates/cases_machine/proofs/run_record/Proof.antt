@@ -6,12 +6,6 @@ use Rattle.values.proofs.Numbers.{cast-fits}
 use borrow.Author.Needs.{needs}
 use Rattle.cases_machine.proofs.run_record.Statement.{statement}
 use Rattle.cases_machine.proofs.run_record.Tie as tie
-use Rattle.cases_machine.proofs.run_record.Reads as reads
-use Rattle.cases_machine.proofs.run_record.Lts as lts
-use Rattle.cases_machine.proofs.run_case.Reads as run-case-reads
-use Rattle.cases_machine.proofs.take_inputs.Reads as take-inputs-reads
-use Rattle.packs.proofs.signed_at.Reads as signed-at-reads
-use Rattle.packs.proofs.word_at.Reads as word-at-reads
 
 returns : tie.Need-returns
 returns c = search needs

@@ -9,9 +9,6 @@ use Rattle.cases_machine.specs.Records.{inputAt, Inputs}
 use Rattle.cases_machine.proofs.Inputs.{inputs-none, inputs-next}
 use Rattle.cases_machine.proofs.take_inputs.Statement.{statement}
 use Rattle.cases_machine.proofs.take_inputs.Tie as tie
-use Rattle.cases_machine.proofs.take_inputs.Reads as reads
-use Rattle.cases_machine.proofs.take_inputs.Lts as lts
-use Rattle.packs.proofs.signed_at.Reads as signed-at-reads
 
 abbrev Inv-loop : tie.InvT-loop
 Inv-loop bytes input₀ i₀ input i = (i ≤ length input₀) × (length input ≡ length input₀) × Inputs bytes i input
@@ -31,11 +28,11 @@ add-signed-at c = search needs
 signed-at-requires : tie.Need-signed-at-requires Inv-loop μ-loop
 signed-at-requires c κs = search needs
 
-mul-t8 : tie.Need-mul-t8 Inv-loop μ-loop
-mul-t8 c = search needs
+mul-z : tie.Need-mul-z Inv-loop μ-loop
+mul-z c = search needs
 
-slice-set-from-input : tie.Need-slice-set-from-input Inv-loop μ-loop
-slice-set-from-input c = search needs
+slice-set-from-z : tie.Need-slice-set-from-z Inv-loop μ-loop
+slice-set-from-z c = search needs
 
 add-i : tie.Need-add-i Inv-loop μ-loop
 add-i c = search needs
@@ -70,8 +67,8 @@ take-inputs-spec =
     mul-signed-at
     add-signed-at
     signed-at-requires
-    mul-t8
-    slice-set-from-input
+    mul-z
+    slice-set-from-z
     add-i
     loop-less
     loop-again

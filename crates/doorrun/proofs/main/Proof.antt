@@ -4,13 +4,6 @@ use native.Mathlib.Omega.{arith}
 use borrow.Author.Needs.{needs}
 use Rattle.doorrun.proofs.main.Statement.{statement}
 use Rattle.doorrun.proofs.main.Tie as tie
-use Rattle.doorrun.proofs.main.Reads as reads
-use Rattle.doorrun.proofs.main.Lts as lts
-use Rattle.doorrun.proofs.run_image.Reads as run-image-reads
-use Rattle.io.proofs.read_full.Reads as read-full-reads
-use Rattle.io.proofs.write_all.Reads as write-all-reads
-use Rattle.printing.proofs.print_output.Reads as print-output-reads
-use Rattle.printing.proofs.print_result.Reads as print-result-reads
 
 slice-aggregate-read-full : tie.Need-slice-aggregate-read-full
 slice-aggregate-read-full c = search needs

@@ -3,10 +3,6 @@ use lib.Seq.{length-take-le}
 use borrow.Author.Needs.{needs}
 use Rattle.packs.proofs.next_record.Statement.{statement}
 use Rattle.packs.proofs.next_record.Tie as tie
-use Rattle.packs.proofs.next_record.Reads as reads
-use Rattle.packs.proofs.next_record.Lts as lts
-use Rattle.io.proofs.read_full.Reads as read-full-reads
-use Rattle.packs.proofs.word_at.Reads as word-at-reads
 
 add-end : tie.Need-add-end
 add-end c = search needs

@@ -2,9 +2,6 @@ use Rattle.image.specs.Rows.{wordAt}
 use borrow.Author.Needs.{needs}
 use Rattle.packs.proofs.word_at.Statement.{statement}
 use Rattle.packs.proofs.word_at.Tie as tie
-use Rattle.packs.proofs.word_at.Reads as reads
-use Rattle.packs.proofs.word_at.Lts as lts
-use Rattle.image.proofs.number_at.Reads as number-at-reads
 
 number-at-requires : tie.Need-number-at-requires
 number-at-requires c κs = search needs

@@ -1,10 +1,10 @@
 -- `printing::magnitude` meets its contract: by the sign.
-use mathlib.Core.Path.{_≡_, _∙_}
+use mathlib.Core.Path.{_≡_}
 use native.Mathlib.Omega.{arith}
 use lib.IntN.{pos, negsuc, _-ℤ_}
 use lib.Signed.{mag}
 use mir.Syntax.{w64}
-use mir.Val.{SFits, toZ, ofZ}
+use mir.Val.{toZ, ofZ}
 use Rattle.values.proofs.Numbers.{plain64, above-zero}
 use Rattle.printing.proofs.Signs.{abs-negative, to-unsigned64}
 use Rattle.printing.proofs.magnitude.Statement.{statement}

@@ -2,9 +2,6 @@ use Rattle.values.proofs.Numbers.{cast-fits}
 use borrow.Author.Needs.{needs}
 use Rattle.printing.proofs.print_integer.Statement.{statement}
 use Rattle.printing.proofs.print_integer.Tie as tie
-use Rattle.printing.proofs.print_integer.Reads as reads
-use Rattle.printing.proofs.print_integer.Lts as lts
-use Rattle.printing.proofs.print_signed.Reads as print-signed-reads
 
 cast-print-signed : tie.Need-cast-print-signed
 cast-print-signed c = cast-fits (c .args .z) (c .fits .z)

@@ -3,10 +3,6 @@ use lib.ListN.{length}
 use borrow.Author.Needs.{needs}
 use Rattle.printing.proofs.print_output.Statement.{statement}
 use Rattle.printing.proofs.print_output.Tie as tie
-use Rattle.printing.proofs.print_output.Reads as reads
-use Rattle.printing.proofs.print_output.Lts as lts
-use Rattle.io.proofs.write_all.Reads as write-all-reads
-use Rattle.printing.proofs.print_integer.Reads as print-integer-reads
 
 abbrev Inv-loop : tie.InvT-loop
 Inv-loop before output i₀ i = i ≤ length output

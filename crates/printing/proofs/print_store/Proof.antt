@@ -3,10 +3,6 @@ use lib.ListN.{length}
 use borrow.Author.Needs.{needs}
 use Rattle.printing.proofs.print_store.Statement.{statement}
 use Rattle.printing.proofs.print_store.Tie as tie
-use Rattle.printing.proofs.print_store.Reads as reads
-use Rattle.printing.proofs.print_store.Lts as lts
-use Rattle.io.proofs.write_all.Reads as write-all-reads
-use Rattle.printing.proofs.print_signed.Reads as print-signed-reads
 
 abbrev Inv-loop : tie.InvT-loop
 Inv-loop before store i₀ i = i ≤ length store
