@@ -11,7 +11,7 @@ fn main() {
     let mut buffer = [0u8; 29714];
     let mut left: usize = 10000;
     while 0 < left {
-        let n = packs::next_image(fd, &mut buffer);
+        let n = packs::next_record(fd, &mut buffer);
         if buffer.len() < n {
             return;
         }

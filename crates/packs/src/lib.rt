@@ -1,19 +1,33 @@
-// Reads the images of a pack, as tools/pack writes it, and prints answers.
+// Reads the records of a pack, as tools/pack writes it, and prints answers.
 use libc::STDOUT_FILENO;
 ghost use mathlib.Core.Path.{_≡_};
-ghost use Prim.Native.Nat.{_+_, _*_, _≤_, _<_};
+ghost use Prim.Native.Nat.{_+_, _≤_, _<_};
 ghost use lib.ListN.{length};
+ghost use lib.IntN.{pos, _-ℤ_};
+ghost use Rattle.image.specs.Rows.{wordAt};
 
-// Four bytes as a number, the highest first.
-fn long(a: u8, b: u8, c: u8, d: u8) -> usize
-    ensures { λ r. ⌜ r ≡ ((a * 256 + b) * 256 + c) * 256 + d ⌝ }
+// The 32-bit number at a byte.
+pub fn word_at(s: &[u8], at: usize) -> u32
+    requires { ⌜ at + 4 ≤ length (now s) ⌝ }
+    ensures { λ r. ⌜ r ≡ wordAt (now (s .entry)) at ⌝ }
 {
-    (((a as usize) * 256 + (b as usize)) * 256 + (c as usize)) * 256 + (d as usize)
+    let high = image::number_at(s, at);
+    let low = image::number_at(s, at + 2);
+    (high as u32) * 65536 + (low as u32)
 }
 
-// Puts the next image at the start of the buffer and answers its length; at the end of the pack, or where the buffer is
-// too short, it answers more than the buffer's length.
-pub fn next_image(fd: i32, buffer: &mut [u8]) -> usize
+// The signed number at a byte, which is packed with 2,147,483,648 added to it.
+pub fn signed_at(s: &[u8], at: usize) -> i32
+    requires { ⌜ at + 4 ≤ length (now s) ⌝ }
+    ensures { λ r. ⌜ r ≡ pos (wordAt (now (s .entry)) at) -ℤ pos 2147483648 ⌝ }
+{
+    let n = word_at(s, at);
+    ((n as i64) - 2147483648) as i32
+}
+
+// Puts the next record at the start of the buffer and answers its length; at the end of the pack, or where the buffer
+// is too short, it answers more than the buffer's length.
+pub fn next_record(fd: i32, buffer: &mut [u8]) -> usize
     requires { ⌜ length (now buffer) < 4294967296 ⌝ }
     ensures { λ r. ⌜ (r ≤ length (now (buffer .entry)) + 1) × (length (now (buffer .exit)) ≡ length (now
         (buffer .entry))) ⌝ }
@@ -24,7 +38,7 @@ pub fn next_image(fd: i32, buffer: &mut [u8]) -> usize
     if got < 4 {
         return end;
     }
-    let n = long(head[0], head[1], head[2], head[3]);
+    let n = word_at(&head, 0) as usize;
     if buffer.len() < n {
         return end;
     }

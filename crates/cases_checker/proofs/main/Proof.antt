@@ -10,7 +10,7 @@ use Rattle.cases_checker.proofs.main.Lts as lts
 use Rattle.checker.proofs.check.Reads as check-reads
 use Rattle.os.proofs.fail.Reads as fail-reads
 use Rattle.os.proofs.open_read.Reads as open-read-reads
-use Rattle.packs.proofs.next_image.Reads as next-image-reads
+use Rattle.packs.proofs.next_record.Reads as next-record-reads
 use Rattle.packs.proofs.print_answer.Reads as print-answer-reads
 
 abbrev Inv-loop : tie.InvT-loop
@@ -31,11 +31,11 @@ returns c = search needs
 loop-holds : tie.Need-loop-holds Inv-loop μ-loop
 loop-holds c = search needs
 
-slice-aggregate-next-image : tie.Need-slice-aggregate-next-image Inv-loop μ-loop
-slice-aggregate-next-image c = search needs
+slice-aggregate-next-record : tie.Need-slice-aggregate-next-record Inv-loop μ-loop
+slice-aggregate-next-record c = search needs
 
-next-image-requires : tie.Need-next-image-requires Inv-loop μ-loop
-next-image-requires c κs = search needs
+next-record-requires : tie.Need-next-record-requires Inv-loop μ-loop
+next-record-requires c κs = search needs
 
 returns-2 : tie.Need-returns-2 Inv-loop μ-loop
 returns-2 c = search needs
@@ -44,7 +44,7 @@ array-share-prefix-buffer : tie.Need-array-share-prefix-buffer Inv-loop μ-loop
 array-share-prefix-buffer c = search needs
 
 slice-aggregate-check : tie.Need-slice-aggregate-check Inv-loop μ-loop
-slice-aggregate-check c = let n = c .before .before .before .next-image in
+slice-aggregate-check c = let n = c .before .before .before .next-record in
     sym (length-take-le (n .result) (n .last .1 .0) (omega arith))
 
 check-requires : tie.Need-check-requires Inv-loop μ-loop
@@ -96,8 +96,8 @@ main-spec =
     fail-requires
     returns
     loop-holds
-    slice-aggregate-next-image
-    next-image-requires
+    slice-aggregate-next-record
+    next-record-requires
     returns-2
     array-share-prefix-buffer
     slice-aggregate-check

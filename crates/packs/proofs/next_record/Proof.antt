@@ -1,12 +1,8 @@
 use mathlib.Core.Path.{sym}
 use lib.Seq.{length-take-le}
 use borrow.Author.Needs.{needs}
-use Rattle.packs.proofs.next_image.Statement.{statement}
-use Rattle.packs.proofs.next_image.Tie as tie
-use Rattle.packs.proofs.next_image.Reads as reads
-use Rattle.packs.proofs.next_image.Lts as lts
-use Rattle.io.proofs.read_full.Reads as read-full-reads
-use Rattle.packs.proofs.long.Reads as long-reads
+use Rattle.packs.proofs.next_record.Statement.{statement}
+use Rattle.packs.proofs.next_record.Tie as tie
 
 add-end : tie.Need-add-end
 add-end c = search needs
@@ -20,20 +16,14 @@ read-full-requires c κs = search needs
 returns : tie.Need-returns
 returns c = search needs
 
-array-read-long : tie.Need-array-read-long
-array-read-long c = search needs
+slice-aggregate-word-at : tie.Need-slice-aggregate-word-at
+slice-aggregate-word-at c = search needs
 
-array-read-long-2 : tie.Need-array-read-long-2
-array-read-long-2 c = search needs
+word-at-requires : tie.Need-word-at-requires
+word-at-requires c κs = search needs
 
-array-read-long-3 : tie.Need-array-read-long-3
-array-read-long-3 c = search needs
-
-array-read-long-4 : tie.Need-array-read-long-4
-array-read-long-4 c = search needs
-
-long-requires : tie.Need-long-requires
-long-requires c κs = search needs
+cast-n : tie.Need-cast-n
+cast-n c = search needs
 
 returns-2 : tie.Need-returns-2
 returns-2 c = search needs
@@ -59,19 +49,17 @@ same-length-2 c = search needs
 returns-4 : tie.Need-returns-4
 returns-4 c = search needs
 
-pub next-image-spec : {M : Type 1} → statement M
-next-image-spec =
+pub next-record-spec : {M : Type 1} → statement M
+next-record-spec =
     tie.close
     (tie.spec
     add-end
     slice-aggregate-read-full
     read-full-requires
     returns
-    array-read-long
-    array-read-long-2
-    array-read-long-3
-    array-read-long-4
-    long-requires
+    slice-aggregate-word-at
+    word-at-requires
+    cast-n
     returns-2
     slice-relend-prefix-read-full
     slice-aggregate-read-full-2
