@@ -1,0 +1,413 @@
+//! Compares the proved run, linked as a static library, with the plain one of plain_run.rs, and both with Lua.
+//!
+//! bench_run run-vectors DIR...   runs every image of the folders, and compares with the answers there
+//! bench_run time [OPTION...] IMAGE...
+//!                                times the runs on each image; prints a table
+//!     --steps N                  steps lent (by default 4294967295)
+//!     --rounds N                 rounds (by default 9)
+//!     --lua LUA DIR              also times LUA on DIR/NAME.lua, where that does the work of NAME.img
+//!
+//! It links the library where it is built with --cfg proved; without, the plain run stands alone.
+use std::hint::black_box;
+use std::path::{Path, PathBuf};
+use std::process::{Command, ExitCode};
+use std::time::Instant;
+
+mod plain;
+mod plain_run;
+use plain_run::RunResult;
+
+type Failed = Box<dyn std::error::Error>;
+type Run = fn(&[u8], &[i32], &mut [i64], &mut [i32], u32) -> RunResult;
+
+#[cfg(proved)]
+const ENGINES: &[(&str, Run)] = &[("proved", proved), ("plain", plain_run::run)];
+#[cfg(not(proved))]
+const ENGINES: &[(&str, Run)] = &[("plain", plain_run::run)];
+
+/// Where the plain run stands among the engines.
+const PLAIN: usize = ENGINES.len() - 1;
+
+#[cfg(proved)]
+extern "C" {
+    fn door_run(
+        image: *const u8,
+        image_len: usize,
+        input: *const i32,
+        input_len: usize,
+        store: *mut i64,
+        store_len: usize,
+        output: *mut i32,
+        output_len: usize,
+        steps: u32,
+    ) -> RunResult;
+}
+
+#[cfg(proved)]
+fn proved(image: &[u8], input: &[i32], store: &mut [i64], output: &mut [i32], steps: u32) -> RunResult {
+    // SAFETY: each pointer comes with the length of its slice, and no two slices that are written overlap.
+    unsafe {
+        door_run(
+            image.as_ptr(),
+            image.len(),
+            input.as_ptr(),
+            input.len(),
+            store.as_mut_ptr(),
+            store.len(),
+            output.as_mut_ptr(),
+            output.len(),
+            steps,
+        )
+    }
+}
+
+fn main() -> ExitCode {
+    let words: Vec<String> = std::env::args().skip(1).collect();
+    let done = match words.split_first() {
+        Some((mode, rest)) if mode == "run-vectors" && !rest.is_empty() => vectors(rest),
+        Some((mode, rest)) if mode == "time" && !rest.is_empty() => time(rest),
+        _ => Err("usage: bench_run run-vectors DIR... | bench_run time [OPTION...] IMAGE...".into()),
+    };
+    match done {
+        Ok(true) => ExitCode::SUCCESS,
+        Ok(false) => ExitCode::from(1),
+        Err(error) => {
+            eprintln!("bench_run: {error}");
+            ExitCode::from(2)
+        }
+    }
+}
+
+fn nine(r: RunResult) -> [i64; 9] {
+    let [refusal, fault, outcome, trap] = [r.refusal, r.fault, r.outcome, r.trap].map(i64::from);
+    let [row, steps, read, written] = [r.row, r.steps, r.read, r.written].map(i64::from);
+    [refusal, fault, outcome, trap, r.halt.into(), row, steps, read, written]
+}
+
+// ---- the answers
+
+/// What is lent to a run, and what it should come to. An answer in expect.txt has no store, and no output places but
+/// those that were written.
+struct Case {
+    name: String,
+    image: Vec<u8>,
+    input: Vec<i32>,
+    cells: usize,
+    fill: i64,
+    places: usize,
+    steps: u32,
+    numbers: Vec<i64>,
+    output: Vec<i32>,
+    store: Option<Vec<i64>>,
+}
+
+/// What doorrun lends: no more of its input as the image, cells, output places, steps.
+const LENT: (usize, usize, usize, u32) = (29714, 8192, 4096, 100_000);
+/// What an output place holds before a run.
+const OUTPUT_FILL: i32 = 7;
+
+fn vectors(folders: &[String]) -> Result<bool, Failed> {
+    let mut images = 0;
+    let mut same = vec![0; ENGINES.len()];
+    for folder in folders {
+        let folder = Path::new(folder);
+        let cases = cases(folder)?;
+        let there = std::fs::read_dir(folder)?
+            .filter(|entry| entry.as_ref().is_ok_and(|e| e.path().extension().is_some_and(|x| x == "img")))
+            .count();
+        if there != cases.len() {
+            return Err(format!("{}: {} answers for {there} images", folder.display(), cases.len()).into());
+        }
+        for case in cases {
+            images += 1;
+            let mut whole: Vec<(Vec<i64>, Vec<i32>)> = Vec::new();
+            for (who, (engine, run)) in ENGINES.iter().enumerate() {
+                let mut store = vec![case.fill; case.cells];
+                let mut output = vec![OUTPUT_FILL; case.places];
+                let result = run(&case.image, &case.input, &mut store, &mut output, case.steps);
+                let mut faults = Vec::new();
+                if nine(result)[..] != case.numbers[..] {
+                    faults.push(format!("expected {:?}, not {:?}", case.numbers, nine(result)));
+                }
+                if case.output[..] != output[..case.output.len()] {
+                    faults.push("other outputs".to_string());
+                }
+                if output[case.output.len()..].iter().any(|&place| place != OUTPUT_FILL) {
+                    faults.push("output places changed behind the last".to_string());
+                }
+                if case.store.as_ref().is_some_and(|cells| *cells != store) {
+                    faults.push("another store".to_string());
+                }
+                if result.refusal != 0 && store.iter().any(|&cell| cell != case.fill) {
+                    faults.push("a refusal changed the store".to_string());
+                }
+                whole.push((store, output));
+                if whole[0] != whole[who] {
+                    faults.push("store or outputs differ between the two".to_string());
+                }
+                for fault in &faults {
+                    println!("{}/{}: {engine}: {fault}", folder.display(), case.name);
+                }
+                same[who] += usize::from(faults.is_empty());
+            }
+        }
+    }
+    let counts: Vec<String> =
+        ENGINES.iter().zip(&same).map(|((engine, _), count)| format!("{engine} {count} the same")).collect();
+    println!("{images} images: {}", counts.join(", "));
+    Ok(images > 0 && same.iter().all(|&count| count == images))
+}
+
+fn numbers<T: std::str::FromStr>(text: &str) -> Result<Vec<T>, Failed>
+where
+    T::Err: std::error::Error + 'static,
+{
+    text.split_whitespace().map(|word| Ok(word.parse()?)).collect()
+}
+
+fn cases(folder: &Path) -> Result<Vec<Case>, Failed> {
+    let mut found = Vec::new();
+    if let Ok(text) = std::fs::read_to_string(folder.join("runs.txt")) {
+        for line in text.lines().filter(|line| !line.starts_with('#')) {
+            let parts: Vec<&str> = line.split('|').collect();
+            let [lent, input, answer, output, store] = parts[..] else {
+                return Err("runs.txt: a line without its five parts".into());
+            };
+            let words: Vec<&str> = lent.split_whitespace().collect();
+            let [name, cells, fill, places, steps] = words[..] else {
+                return Err("runs.txt: a line whose first part has not five words".into());
+            };
+            let case = Case {
+                name: name.to_string(),
+                image: std::fs::read(folder.join(name))?,
+                input: numbers(input)?,
+                cells: cells.parse()?,
+                fill: fill.parse()?,
+                places: places.parse()?,
+                steps: steps.parse()?,
+                numbers: numbers(answer)?,
+                output: numbers(output)?,
+                store: Some(numbers(store)?),
+            };
+            if case.output.len() != case.places || case.store.as_ref().is_some_and(|s| s.len() != case.cells) {
+                return Err(format!("runs.txt: {name} has not every output place and cell").into());
+            }
+            found.push(case);
+        }
+        return Ok(found);
+    }
+    let text = std::fs::read_to_string(folder.join("expect.txt"))?;
+    let (bytes, cells, places, steps) = LENT;
+    let mut lines = text.lines().peekable();
+    while let Some(name) = lines.next() {
+        let answer = lines.next().ok_or("expect.txt: a name without numbers")?;
+        let mut output = Vec::new();
+        while let Some(line) = lines.next_if(|line| !line.ends_with(".img")) {
+            output.push(line.parse()?);
+        }
+        let mut image = std::fs::read(folder.join(name))?;
+        image.truncate(bytes);
+        let case = Case {
+            name: name.to_string(),
+            image,
+            input: Vec::new(),
+            cells,
+            fill: 0,
+            places,
+            steps,
+            numbers: numbers(answer)?,
+            output,
+            store: None,
+        };
+        if case.numbers.get(8) != Some(&(case.output.len() as i64)) {
+            return Err(format!("expect.txt: {name} has not as many outputs as it says").into());
+        }
+        found.push(case);
+    }
+    Ok(found)
+}
+
+// ---- the time
+
+/// What the benchmark lends: all cells that a run takes, and more output places than the programs use.
+const CELLS: usize = 65536;
+const PLACES: usize = 4096;
+
+struct Options {
+    steps: u32,
+    rounds: usize,
+    lua: Option<(String, PathBuf)>,
+    images: Vec<PathBuf>,
+}
+
+fn options(words: &[String]) -> Result<Options, Failed> {
+    let mut found = Options { steps: u32::MAX, rounds: 9, lua: None, images: Vec::new() };
+    let mut words = words.iter();
+    while let Some(word) = words.next() {
+        let mut next = || words.next().ok_or(format!("{word} is the last word"));
+        match word.as_str() {
+            "--steps" => found.steps = next()?.parse()?,
+            "--rounds" => found.rounds = next()?.parse::<usize>()?.max(1),
+            "--lua" => found.lua = Some((next()?.clone(), PathBuf::from(next()?))),
+            _ => found.images.push(PathBuf::from(word)),
+        }
+    }
+    Ok(found)
+}
+
+/// Nanoseconds a step in each round, of one image: the engines', and Lua's where there is a script.
+struct Timed {
+    name: String,
+    steps: u32,
+    engines: Vec<Vec<f64>>,
+    lua: Option<Vec<f64>>,
+}
+
+fn time(words: &[String]) -> Result<bool, Failed> {
+    let options = options(words)?;
+    let mut rows = Vec::new();
+    let mut same = true;
+    heading(&options);
+    for path in &options.images {
+        match timed(path, &options)? {
+            Some(row) => {
+                show(&row);
+                rows.push(row);
+            }
+            None => same = false,
+        }
+    }
+    println!(
+        "(nanoseconds a step, best and median of {} rounds, all taking turns; ratios: medians of the rounds' ratios)",
+        options.rounds
+    );
+    growth(&rows);
+    Ok(same)
+}
+
+fn heading(options: &Options) {
+    print!("{:<18} {:>10}", "program", "steps");
+    for (engine, _) in ENGINES {
+        print!("   {engine:>7} {:>7}", "median");
+    }
+    if ENGINES.len() > 1 {
+        print!("   {:>12}", "proved/plain");
+    }
+    if options.lua.is_some() {
+        print!("   {:>7} {:>7}   {:>10}", "Lua", "median", "plain/Lua");
+        if ENGINES.len() > 1 {
+            print!(" {:>10}", "proved/Lua");
+        }
+    }
+    println!();
+}
+
+fn show(row: &Timed) {
+    print!("{:<18} {:>10}", row.name, row.steps);
+    for times in &row.engines {
+        print!("   {:>7.1} {:>7.1}", best(times), median(times.clone()));
+    }
+    if ENGINES.len() > 1 {
+        print!("   {:>12.2}", ratio(&row.engines[0], &row.engines[PLAIN]));
+    }
+    if let Some(lua) = &row.lua {
+        print!("   {:>7.1} {:>7.1}   {:>10.2}", best(lua), median(lua.clone()), ratio(&row.engines[PLAIN], lua));
+        if ENGINES.len() > 1 {
+            print!(" {:>10.2}", ratio(&row.engines[0], lua));
+        }
+    }
+    println!();
+}
+
+/// Of a program and its -large twin: how much longer a step takes in the twin.
+fn growth(rows: &[Timed]) {
+    for large in rows {
+        let Some(name) = large.name.strip_suffix("-large") else { continue };
+        let Some(small) = rows.iter().find(|row| row.name == name) else { continue };
+        print!("growth of {name}:");
+        for (who, (engine, _)) in ENGINES.iter().enumerate() {
+            print!(" {engine} {:.2}", best(&large.engines[who]) / best(&small.engines[who]));
+        }
+        println!(" (time for a step of {} / {name}, best rounds)", large.name);
+    }
+}
+
+/// Compares the answers of all, then times them; nothing where the answers differ.
+fn timed(path: &Path, options: &Options) -> Result<Option<Timed>, Failed> {
+    let name = path.file_stem().ok_or("an image without a name")?.to_string_lossy().into_owned();
+    let image = std::fs::read(path)?;
+    let mut answers = Vec::new();
+    for (_, run) in ENGINES {
+        let mut store = vec![0; CELLS];
+        let mut output = vec![OUTPUT_FILL; PLACES];
+        let result = run(&image, &[], &mut store, &mut output, options.steps);
+        answers.push((result, store, output));
+    }
+    let (result, _, output) = &answers[PLAIN];
+    if answers[0] != answers[PLAIN] {
+        println!("{name}: proved {:?}, plain {:?}", nine(answers[0].0), nine(*result));
+        if answers[0].1 != answers[PLAIN].1 || answers[0].2 != answers[PLAIN].2 {
+            println!("{name}: store or outputs differ");
+        }
+        return Ok(None);
+    }
+    if result.refusal != 0 || result.steps == 0 {
+        println!("{name}: it does not run: {:?}", nine(*result));
+        return Ok(None);
+    }
+    let steps = result.steps;
+    let script = options
+        .lua
+        .as_ref()
+        .map(|(lua, folder)| (lua.as_str(), folder.join(format!("{name}.lua"))))
+        .filter(|(_, script)| script.exists());
+    if script.is_some() && result.outcome != 1 {
+        return Err(format!("{name} does not finish, so that Lua has no work of the same size").into());
+    }
+    let mut row = Timed { name, steps, engines: vec![Vec::new(); ENGINES.len()], lua: script.as_ref().map(|_| vec![]) };
+    let mut store = vec![0; CELLS];
+    let mut places = vec![OUTPUT_FILL; PLACES];
+    for round in 0..options.rounds {
+        for turn in 0..ENGINES.len() {
+            // either goes first every other round
+            let who = (turn + round) % ENGINES.len();
+            let start = Instant::now();
+            black_box(ENGINES[who].1(black_box(&image), &[], &mut store, &mut places, options.steps));
+            row.engines[who].push(start.elapsed().as_nanos() as f64 / steps as f64);
+        }
+        if let (Some((lua, script)), Some(times)) = (&script, &mut row.lua) {
+            let (seconds, written) = by_lua(lua, script)?;
+            if written[..] != output[..result.written as usize] {
+                println!("{}: Lua's outputs differ", row.name);
+                return Ok(None);
+            }
+            times.push(seconds * 1e9 / steps as f64);
+        }
+    }
+    Ok(Some(row))
+}
+
+/// Seconds that a script took, by its own clock, and its outputs.
+fn by_lua(lua: &str, script: &Path) -> Result<(f64, Vec<i32>), Failed> {
+    let done = Command::new(lua).arg(script).output()?;
+    let text = String::from_utf8(done.stdout)?;
+    let fault = || format!("{}: {}", script.display(), String::from_utf8_lossy(&done.stderr));
+    let (seconds, output) = text.split_once('\n').ok_or_else(fault)?;
+    if !done.status.success() {
+        return Err(fault().into());
+    }
+    Ok((seconds.trim().parse()?, numbers(output)?))
+}
+
+fn best(numbers: &[f64]) -> f64 {
+    numbers.iter().copied().fold(f64::INFINITY, f64::min)
+}
+
+fn median(mut numbers: Vec<f64>) -> f64 {
+    numbers.sort_by(f64::total_cmp);
+    numbers[numbers.len() / 2]
+}
+
+fn ratio(a: &[f64], b: &[f64]) -> f64 {
+    median(a.iter().zip(b).map(|(a, b)| a / b).collect())
+}
