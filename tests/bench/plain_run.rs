@@ -39,6 +39,7 @@ enum Trap {
     Halt,
 }
 
+#[repr(C)]
 #[derive(Clone, Copy)]
 enum Value {
     Bool(bool),
@@ -89,30 +90,30 @@ enum Step {
 
 /// A row's eight bytes, the first the highest.
 #[derive(Clone, Copy)]
-struct Row(u64);
+struct Row<'a>(&'a [u8; 8]);
 
-impl Row {
+impl Row<'_> {
     fn kind(self) -> u8 {
-        (self.0 >> 56) as u8
+        self.0[0]
     }
 
     fn a(self) -> usize {
-        (self.0 >> 32) as u16 as usize
+        u16::from_be_bytes([self.0[2], self.0[3]]) as usize
     }
 
     fn b(self) -> usize {
-        (self.0 >> 16) as u16 as usize
+        u16::from_be_bytes([self.0[4], self.0[5]]) as usize
     }
 
     fn c(self) -> usize {
-        self.0 as u16 as usize
+        u16::from_be_bytes([self.0[6], self.0[7]]) as usize
     }
 }
 
 type Table<'a> = &'a [[u8; 8]];
 
-fn row(table: Table, i: usize) -> Row {
-    Row(u64::from_be_bytes(table[i]))
+fn row<'a>(table: Table<'a>, i: usize) -> Row<'a> {
+    Row(&table[i])
 }
 
 // ---- the program
@@ -197,6 +198,7 @@ impl<'a> Program<'a> {
 
     // ---- designators
 
+    #[inline(always)]
     fn variable_place(&self, store: &[i64], base: u32, v: usize) -> Place {
         let variable = row(self.variables, v);
         let declared = variable.a() as u8;
@@ -252,10 +254,17 @@ impl<'a> Program<'a> {
     }
 
     /// The object that node row r designates.
+    #[inline(always)]
     fn find(&self, store: &[i64], base: u32, r: usize) -> Found {
         let node = row(self.nodes, r);
         match node.kind() {
             1 => Found::At(self.variable_place(store, base, node.a())),
+            _ => self.find_part(store, base, node),
+        }
+    }
+
+    fn find_part(&self, store: &[i64], base: u32, node: Row) -> Found {
+        match node.kind() {
             2 => {
                 let found = self.find(store, base, node.a());
                 let Found::At(whole) = found else { return found };
@@ -271,11 +280,18 @@ impl<'a> Program<'a> {
     // ---- expressions
 
     /// The value of node row r.
+    #[inline(always)]
     fn eval(&self, store: &[i64], base: u32, r: usize) -> Answer {
         let node = row(self.nodes, r);
         match node.kind() {
-            0 => Answer::Val(value(node.a() as u8, node.0 as u32 as i64)),
+            0 => Answer::Val(value(node.a() as u8, (node.b() * 65536 + node.c()) as u32 as i64)),
             1 => load(store, self.variable_place(store, base, node.a())),
+            _ => self.eval_operation(store, base, node),
+        }
+    }
+
+    fn eval_operation(&self, store: &[i64], base: u32, node: Row) -> Answer {
+        match node.kind() {
             2 => {
                 let found = self.find(store, base, node.a());
                 let Found::At(whole) = found else { return no_value(found) };
@@ -581,6 +597,7 @@ pub fn run(image: &[u8], input: &[i32], store: &mut [i64], output: &mut [i32], s
 }
 
 /// At most n steps.
+#[inline(never)]
 fn advance(
     program: &Program,
     input: &[i32],
