@@ -1,11 +1,13 @@
 //! Compares the proved run, linked as a static library, with the plain one of plain_run.rs, and both with Lua.
 //!
-//! bench_run run-vectors DIR...   runs every image of the folders, and compares with the answers there
+//! bench_run run-vectors DIR...   runs every image of the folders, and compares nine numbers, store and outputs with
+//!                                the answers there
 //! bench_run time [OPTION...] IMAGE...
 //!                                times the runs on each image; prints a table
-//!     --steps N                  steps lent (by default 4294967295)
+//!     --steps N                  steps lent (by default 10,000,000)
 //!     --rounds N                 rounds (by default 9)
-//!     --lua LUA DIR              also times LUA on DIR/NAME.lua, where that does the work of NAME.img
+//!     --lua LUA DIR              also times LUA on DIR/NAME.lua, where that does the work of NAME.img; the steps lent
+//!                                are then those that the script stands for
 //!
 //! It links the library where it is built with --cfg proved; without, the plain run stands alone.
 use std::hint::black_box;
@@ -107,9 +109,38 @@ const OUTPUT_FILL: i32 = 7;
 /// Faults that are told in full.
 const TOLD: usize = 20;
 
+/// Starred case 10, whose run needs three cells, at the edges of questions 12 and 13.
+const SMALLEST: [u8; 57] = [
+    1, 0, 0, 0, 57, 0, 3, 0, 0, 0, 0, 0, 0, 0, 0, 1, 0, 0, 0, 0, 0, 0, 0, 2, 0, 0, 0, 0, 0, 0, 0, //
+    0, 0, 0, 0, 0, 1, 0, 0, 0, 0, 0, 0, 0, 0, 0, 0, 0, 1, 4, 0, 0, 0, 0, 0, 0, 0,
+];
+const EDGES: [(usize, u32); 6] = [(0, 13), (2, 13), (3, 0), (65536, 0), (65537, 12), (100_000, 12)];
+
+fn edges() -> impl Iterator<Item = Case> {
+    EDGES.into_iter().map(|(cells, refusal)| {
+        let mut store = vec![-5; cells];
+        let mut numbers = vec![refusal.into(), 0, 0, 0, 0, 0, 0, 0, 0];
+        if refusal == 0 {
+            store[..3].fill(0);
+            (numbers[2], numbers[6]) = (1, 1);
+        }
+        Case {
+            name: format!("case 10 in {cells} cells"),
+            image: SMALLEST.to_vec(),
+            input: Vec::new(),
+            cells,
+            fill: -5,
+            places: 2,
+            steps: 9,
+            numbers,
+            output: vec![OUTPUT_FILL; 2],
+            store: Some(store),
+        }
+    })
+}
+
 fn vectors(folders: &[String]) -> Result<bool, Failed> {
-    let (mut images, mut told) = (0, 0);
-    let mut same = vec![0; ENGINES.len()];
+    let mut all: Vec<Case> = edges().collect();
     for folder in folders {
         let folder = Path::new(folder);
         let cases = cases(folder)?;
@@ -119,48 +150,50 @@ fn vectors(folders: &[String]) -> Result<bool, Failed> {
         if there != cases.len() {
             return Err(format!("{}: {} answers for {there} images", folder.display(), cases.len()).into());
         }
-        for case in cases {
-            images += 1;
-            let mut whole: Vec<(Vec<i64>, Vec<i32>)> = Vec::new();
-            for (who, (engine, run)) in ENGINES.iter().enumerate() {
-                let mut store = vec![case.fill; case.cells];
-                let mut output = vec![OUTPUT_FILL; case.places];
-                let result = run(&case.image, &case.input, &mut store, &mut output, case.steps);
-                let mut faults = Vec::new();
-                if nine(result)[..] != case.numbers[..] {
-                    faults.push(format!("expected {:?}, not {:?}", case.numbers, nine(result)));
-                }
-                if case.output[..] != output[..case.output.len()] {
-                    faults.push("other outputs".to_string());
-                }
-                if output[case.output.len()..].iter().any(|&place| place != OUTPUT_FILL) {
-                    faults.push("output places changed behind the last".to_string());
-                }
-                if case.store.as_ref().is_some_and(|cells| *cells != store) {
-                    faults.push("another store".to_string());
-                }
-                if result.refusal != 0 && store.iter().any(|&cell| cell != case.fill) {
-                    faults.push("a refusal changed the store".to_string());
-                }
-                whole.push((store, output));
-                if whole[0] != whole[who] {
-                    faults.push("store or outputs differ between the two".to_string());
-                }
-                for fault in &faults {
-                    told += 1;
-                    if told > TOLD {
-                        break;
-                    }
-                    println!("{}/{}: {engine}: {fault}", folder.display(), case.name);
-                }
-                same[who] += usize::from(faults.is_empty());
+        all.extend(cases);
+    }
+    let mut told = 0;
+    let mut same = vec![0; ENGINES.len()];
+    for case in &all {
+        let mut whole = Vec::new();
+        for (who, (engine, run)) in ENGINES.iter().enumerate() {
+            let mut store = vec![case.fill; case.cells];
+            let mut output = vec![OUTPUT_FILL; case.places];
+            let result = run(&case.image, &case.input, &mut store, &mut output, case.steps);
+            let mut faults = Vec::new();
+            if nine(result)[..] != case.numbers[..] {
+                faults.push(format!("expected {:?}, not {:?}", case.numbers, nine(result)));
             }
+            if case.output[..] != output[..case.output.len()] {
+                faults.push("other outputs".to_string());
+            }
+            if output[case.output.len()..].iter().any(|&place| place != OUTPUT_FILL) {
+                faults.push("output places changed behind the last".to_string());
+            }
+            if case.store.as_ref().is_some_and(|cells| *cells != store) {
+                faults.push("another store".to_string());
+            }
+            if result.refusal != 0 && store.iter().any(|&cell| cell != case.fill) {
+                faults.push("a refusal changed the store".to_string());
+            }
+            whole.push((store, output));
+            if whole[0] != whole[who] {
+                faults.push("store or outputs differ between the two".to_string());
+            }
+            for fault in &faults {
+                told += 1;
+                if told <= TOLD {
+                    println!("{}: {engine}: {fault}", case.name);
+                }
+            }
+            same[who] += usize::from(faults.is_empty());
         }
     }
+    let images = all.len();
     let counts: Vec<String> =
         ENGINES.iter().zip(&same).map(|((engine, _), count)| format!("{engine} {count} the same")).collect();
-    println!("{images} images: {}", counts.join(", "));
-    Ok(images > 0 && same.iter().all(|&count| count == images))
+    println!("{images} runs: {}", counts.join(", "));
+    Ok(same.iter().all(|&count| count == images))
 }
 
 fn numbers<T: std::str::FromStr>(text: &str) -> Result<Vec<T>, Failed>
@@ -183,7 +216,7 @@ fn cases(folder: &Path) -> Result<Vec<Case>, Failed> {
                 return Err("runs.txt: a line whose first part has not five words".into());
             };
             let case = Case {
-                name: name.to_string(),
+                name: folder.join(name).display().to_string(),
                 image: std::fs::read(folder.join(name))?,
                 input: numbers(input)?,
                 cells: cells.parse()?,
@@ -213,11 +246,11 @@ fn cases(folder: &Path) -> Result<Vec<Case>, Failed> {
         let mut image = std::fs::read(folder.join(name))?;
         image.truncate(bytes);
         let case = Case {
-            name: name.to_string(),
+            name: folder.join(name).display().to_string(),
             image,
             input: Vec::new(),
             cells,
-            fill: 0,
+            fill: -5,
             places,
             steps,
             numbers: numbers(answer)?,
@@ -246,7 +279,7 @@ struct Options {
 }
 
 fn options(words: &[String]) -> Result<Options, Failed> {
-    let mut found = Options { steps: u32::MAX, rounds: 9, lua: None, images: Vec::new() };
+    let mut found = Options { steps: 10_000_000, rounds: 9, lua: None, images: Vec::new() };
     let mut words = words.iter();
     while let Some(word) = words.next() {
         let mut next = || words.next().ok_or(format!("{word} is the last word"));
@@ -341,14 +374,20 @@ fn growth(rows: &[Timed]) {
 fn timed(path: &Path, options: &Options) -> Result<Option<Timed>, Failed> {
     let name = path.file_stem().ok_or("an image without a name")?.to_string_lossy().into_owned();
     let image = std::fs::read(path)?;
+    let script = options.lua.as_ref().filter(|(_, folder)| folder.join(format!("{name}.lua")).exists());
+    let (steps, globals) = match script {
+        Some((lua, folder)) => by_lua(lua, folder, &name, "count")?,
+        None => (options.steps as f64, Vec::new()),
+    };
+    let steps = steps as u32;
     let mut answers = Vec::new();
     for (_, run) in ENGINES {
         let mut store = vec![0; CELLS];
         let mut output = vec![OUTPUT_FILL; PLACES];
-        let result = run(&image, &[], &mut store, &mut output, options.steps);
+        let result = run(&image, &[], &mut store, &mut output, steps);
         answers.push((result, store, output));
     }
-    let (result, _, output) = &answers[PLAIN];
+    let (result, store, _) = &answers[PLAIN];
     if answers[0] != answers[PLAIN] {
         println!("{name}: proved {:?}, plain {:?}", nine(answers[0].0), nine(*result));
         if answers[0].1 != answers[PLAIN].1 || answers[0].2 != answers[PLAIN].2 {
@@ -356,20 +395,15 @@ fn timed(path: &Path, options: &Options) -> Result<Option<Timed>, Failed> {
         }
         return Ok(None);
     }
-    if result.refusal != 0 || result.steps == 0 {
-        println!("{name}: it does not run: {:?}", nine(*result));
+    if result.refusal != 0 || result.steps != steps {
+        println!("{name}: it does not take {steps} steps: {:?}", nine(*result));
         return Ok(None);
     }
-    let steps = result.steps;
-    let script = options
-        .lua
-        .as_ref()
-        .map(|(lua, folder)| (lua.as_str(), folder.join(format!("{name}.lua"))))
-        .filter(|(_, script)| script.exists());
-    if script.is_some() && result.outcome != 1 {
-        return Err(format!("{name} does not finish, so that Lua has no work of the same size").into());
+    if globals[..] != store[..globals.len()] {
+        println!("{name}: after {steps} steps Lua has other globals: {globals:?}, not {:?}", &store[..globals.len()]);
+        return Ok(None);
     }
-    let mut row = Timed { name, steps, engines: vec![Vec::new(); ENGINES.len()], lua: script.as_ref().map(|_| vec![]) };
+    let mut row = Timed { name, steps, engines: vec![Vec::new(); ENGINES.len()], lua: script.map(|_| Vec::new()) };
     let mut store = vec![0; CELLS];
     let mut places = vec![OUTPUT_FILL; PLACES];
     for round in 0..options.rounds {
@@ -377,19 +411,29 @@ fn timed(path: &Path, options: &Options) -> Result<Option<Timed>, Failed> {
             // either goes first every other round
             let who = (turn + round) % ENGINES.len();
             let start = processor_seconds();
-            black_box(ENGINES[who].1(black_box(&image), &[], &mut store, &mut places, options.steps));
+            black_box(ENGINES[who].1(black_box(&image), &[], &mut store, &mut places, steps));
             row.engines[who].push((processor_seconds() - start) * 1e9 / steps as f64);
         }
-        if let (Some((lua, script)), Some(times)) = (&script, &mut row.lua) {
-            let (seconds, written) = by_lua(lua, script)?;
-            if written[..] != output[..result.written as usize] {
-                println!("{}: Lua's outputs differ", row.name);
-                return Ok(None);
+        if let (Some((lua, folder)), Some(times)) = (script, &mut row.lua) {
+            let (seconds, after) = by_lua(lua, folder, &row.name, "time")?;
+            if after != globals {
+                return Err(format!("{}: Lua's globals differ from those that it counted with", row.name).into());
             }
             times.push(seconds * 1e9 / steps as f64);
         }
     }
     Ok(Some(row))
+}
+
+/// What bench.lua prints: the steps that a script stands for, or its seconds; then the globals.
+fn by_lua(lua: &str, folder: &Path, name: &str, mode: &str) -> Result<(f64, Vec<i64>), Failed> {
+    let done = Command::new(lua).arg(folder.join("bench.lua")).args([name, mode]).output()?;
+    if !done.status.success() {
+        return Err(format!("{name}.lua: {}", String::from_utf8_lossy(&done.stderr)).into());
+    }
+    let text = String::from_utf8(done.stdout)?;
+    let (first, globals) = text.split_once('\n').ok_or(format!("{name}.lua: it prints nothing"))?;
+    Ok((first.trim().parse()?, numbers(globals)?))
 }
 
 /// Seconds of the processor that this process has used: what others do on the machine counts for little. The scripts'
@@ -409,18 +453,6 @@ fn processor_seconds() -> f64 {
     let status = unsafe { clock_gettime(PROCESS, &mut time) };
     assert_eq!(status, 0, "no clock");
     time.seconds as f64 + time.nanoseconds as f64 / 1e9
-}
-
-/// Seconds that a script took, by its own clock, and its outputs.
-fn by_lua(lua: &str, script: &Path) -> Result<(f64, Vec<i32>), Failed> {
-    let done = Command::new(lua).arg(script).output()?;
-    let text = String::from_utf8(done.stdout)?;
-    let fault = || format!("{}: {}", script.display(), String::from_utf8_lossy(&done.stderr));
-    let (seconds, output) = text.split_once('\n').ok_or_else(fault)?;
-    if !done.status.success() {
-        return Err(fault().into());
-    }
-    Ok((seconds.trim().parse()?, numbers(output)?))
 }
 
 fn best(numbers: &[f64]) -> f64 {

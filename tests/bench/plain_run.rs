@@ -25,6 +25,9 @@ pub struct RunResult {
     pub written: u32,
 }
 
+// Traps and values are 32 bits wide, so that an answer is two registers.
+
+#[repr(u32)]
 #[derive(Clone, Copy)]
 enum Trap {
     Index = 1,
@@ -39,10 +42,10 @@ enum Trap {
     Halt,
 }
 
-#[repr(C)]
 #[derive(Clone, Copy)]
 enum Value {
-    Bool(bool),
+    /// 0 or 1
+    Bool(u32),
     Int(i32),
     Set(u32),
 }
@@ -88,7 +91,7 @@ enum Step {
 
 // ---- rows
 
-/// A row's eight bytes, the first the highest.
+/// A row where it stands in the image; a number is read when it is asked for.
 #[derive(Clone, Copy)]
 struct Row<'a>(&'a [u8; 8]);
 
@@ -213,6 +216,7 @@ impl<'a> Program<'a> {
         }
     }
 
+    #[inline(always)]
     fn field_place(&self, whole: Place, field: usize) -> Place {
         let mut record = whole.declared as usize;
         while field < self.inherited[record] as usize {
@@ -240,7 +244,8 @@ impl<'a> Program<'a> {
         Found::At(Place { declared: t as u8, ..object })
     }
 
-    /// The element that node r, of kind 3, designates.
+    /// The element that a node of kind 3 designates.
+    #[inline(always)]
     fn indexed(&self, store: &[i64], base: u32, node: Row) -> Found {
         let whole = match self.find(store, base, node.a()) {
             Found::At(whole) => whole,
@@ -253,6 +258,8 @@ impl<'a> Program<'a> {
         }
     }
 
+    // A variable or a constant takes no call of its own: most nodes are one.
+
     /// The object that node row r designates.
     #[inline(always)]
     fn find(&self, store: &[i64], base: u32, r: usize) -> Found {
@@ -263,6 +270,7 @@ impl<'a> Program<'a> {
         }
     }
 
+    /// The object that a node designates which is no variable.
     fn find_part(&self, store: &[i64], base: u32, node: Row) -> Found {
         match node.kind() {
             2 => {
@@ -290,6 +298,7 @@ impl<'a> Program<'a> {
         }
     }
 
+    /// The value of a node that is neither constant nor variable.
     fn eval_operation(&self, store: &[i64], base: u32, node: Row) -> Answer {
         match node.kind() {
             2 => {
@@ -306,7 +315,7 @@ impl<'a> Program<'a> {
                 let left = self.eval(store, base, node.a());
                 let Answer::Val(x) = left else { return left };
                 match (node.c(), x) {
-                    (13, Value::Bool(false)) | (14, Value::Bool(true)) => return left,
+                    (13, Value::Bool(0)) | (14, Value::Bool(1)) => return left,
                     _ => {}
                 }
                 let right = self.eval(store, base, node.b());
@@ -320,7 +329,7 @@ impl<'a> Program<'a> {
             }
             7 => {
                 let object = self.variable_place(store, base, node.a());
-                Answer::Val(Value::Bool(self.extends(object.dynamic, node.b())))
+                boolean(self.extends(object.dynamic, node.b()))
             }
             8 => self.eval(store, base, node.a()),
             // a guarded record has no value
@@ -332,7 +341,7 @@ impl<'a> Program<'a> {
 /// A cell's number, or a constant's 32 bits, as a value of a scalar type.
 fn value(t: u8, number: i64) -> Value {
     match t {
-        0 => Value::Bool(number != 0),
+        0 => Value::Bool((number != 0) as u32),
         1 => Value::Int(number as i32),
         _ => Value::Set(number as u32),
     }
@@ -363,8 +372,8 @@ fn dyadic(operator: usize, left: Value, right: Value) -> Answer {
     match (left, right) {
         (Value::Int(x), Value::Int(y)) => integers(operator, x, y),
         (Value::Set(s), Value::Set(t)) => sets(operator, s, t),
-        (Value::Bool(p), Value::Bool(q)) => booleans(operator, p, q),
-        (Value::Int(x), Value::Set(s)) => Answer::Val(Value::Bool((0..32).contains(&x) && s >> x & 1 == 1)),
+        (Value::Bool(p), Value::Bool(q)) => booleans(operator, p != 0, q != 0),
+        (Value::Int(x), Value::Set(s)) => boolean((0..32).contains(&x) && s >> x & 1 == 1),
         _ => unreachable!(),
     }
 }
@@ -391,7 +400,7 @@ fn integers(operator: usize, x: i32, y: i32) -> Answer {
 }
 
 fn boolean(x: bool) -> Answer {
-    Answer::Val(Value::Bool(x))
+    Answer::Val(Value::Bool(x as u32))
 }
 
 fn range(x: i32, y: i32) -> Answer {
@@ -430,7 +439,7 @@ fn monadic(operator: usize, x: Value) -> Answer {
             None => Answer::Trap(Trap::Overflow),
         },
         (1, Value::Set(s)) => Answer::Val(Value::Set(!s)),
-        (2, Value::Bool(p)) => boolean(!p),
+        (2, Value::Bool(p)) => boolean(p == 0),
         _ => unreachable!(),
     }
 }
@@ -454,8 +463,8 @@ impl Program<'_> {
                 }
             }
             2 => match self.eval(store, s.base, statement.a()) {
-                Answer::Val(Value::Bool(true)) => s.row += 1,
-                Answer::Val(Value::Bool(false)) => s.row = statement.b() as u32,
+                Answer::Val(Value::Bool(1)) => s.row += 1,
+                Answer::Val(Value::Bool(_)) => s.row = statement.b() as u32,
                 Answer::Trap(trap) => return Step::Trapped(trap, 0),
                 _ => unreachable!(),
             },
