@@ -5,64 +5,76 @@ const BOOLEAN: u8 = 0;
 const INTEGER: u8 = 1;
 const SET: u8 = 2;
 const ARRAY: u8 = 3;
-const RECORD: u8 = 4;
+pub const RECORD: u8 = 4;
 
 /// The fewest and the most rows of the six tables.
 const COUNTS: [(usize, usize); 6] = [(3, 64), (0, 256), (0, 256), (1, 64), (0, 2048), (1, 1024)];
 
 /// The first "no": the question and the row.
-type No = (u32, usize);
+pub type No = (u32, usize);
 
 /// Refusal * 65,536 + row; 0 is acceptance.
+#[allow(dead_code)] // the run takes more from the questions
 pub fn check(image: &[u8]) -> u32 {
-    match questions(image) {
-        Ok(()) => 0,
+    match accept(image) {
+        Ok(_) => 0,
         Err((question, row)) => question * 65536 + row as u32,
     }
 }
 
 #[derive(Clone, Copy)]
-struct Row {
-    kind: u8,
+pub struct Row {
+    pub kind: u8,
     zero: u8,
-    a: usize,
-    b: usize,
-    c: usize,
+    pub a: usize,
+    pub b: usize,
+    pub c: usize,
 }
 
 #[derive(Clone, Copy)]
-struct Table<'a>(&'a [[u8; 8]]);
+pub struct Table<'a>(pub &'a [[u8; 8]]);
 
 impl<'a> Table<'a> {
-    fn len(self) -> usize {
+    pub fn len(self) -> usize {
         self.0.len()
     }
 
-    fn row(self, i: usize) -> Row {
+    pub fn row(self, i: usize) -> Row {
         let r = &self.0[i];
         let number = |at: usize| u16::from_be_bytes([r[at], r[at + 1]]) as usize;
         Row { kind: r[0], zero: r[1], a: number(2), b: number(4), c: number(6) }
     }
 
-    fn kind(self, i: usize) -> u8 {
+    pub fn kind(self, i: usize) -> u8 {
         self.0[i][0]
     }
 
-    fn rows(self) -> impl Iterator<Item = (usize, Row)> + 'a {
+    pub fn rows(self) -> impl Iterator<Item = (usize, Row)> + 'a {
         (0..self.len()).map(move |i| (i, self.row(i)))
     }
 }
 
-struct Image<'a> {
-    types: Table<'a>,
-    fields: Table<'a>,
-    variables: Table<'a>,
-    procedures: Table<'a>,
-    nodes: Table<'a>,
-    statements: Table<'a>,
+pub struct Image<'a> {
+    pub types: Table<'a>,
+    pub fields: Table<'a>,
+    pub variables: Table<'a>,
+    pub procedures: Table<'a>,
+    pub nodes: Table<'a>,
+    pub statements: Table<'a>,
 }
 
-fn questions(image: &[u8]) -> Result<(), No> {
+/// An accepted image, and what the questions found that a run needs too.
+#[allow(dead_code)] // the check alone reads none of it
+pub struct Accepted<'a> {
+    pub image: Image<'a>,
+    pub types: Types,
+    pub globals: usize,
+    pub frames: Frames,
+}
+
+/// Questions 1 to 11.
+#[inline]
+pub fn accept(image: &[u8]) -> Result<Accepted<'_>, No> {
     let image = header(image)?;
     let types = question4(&image)?;
     let globals = question5(&image)?;
@@ -71,7 +83,8 @@ fn questions(image: &[u8]) -> Result<(), No> {
     question8(&image)?;
     question9(&image)?;
     let nodes = question10(&image, &types, globals)?;
-    question11(&image, &types, &frames, &nodes)
+    question11(&image, &types, &frames, &nodes)?;
+    Ok(Accepted { image, types, globals, frames })
 }
 
 /// Questions 1 to 3.
@@ -102,12 +115,12 @@ fn header(image: &[u8]) -> Result<Image<'_>, No> {
 }
 
 /// What later questions ask of types.
-struct Types {
-    size: [usize; 64],
+pub struct Types {
+    pub size: [usize; 64],
     /// Bit u of row t: t extends u. Of a type that is no record, only its own bit.
-    above: [u64; 64],
+    pub above: [u64; 64],
     /// Fields of the bases.
-    inherited: [usize; 64],
+    pub inherited: [usize; 64],
 }
 
 impl Types {
@@ -194,7 +207,7 @@ fn question5(image: &Image) -> Result<usize, No> {
 }
 
 /// The first own variable of each procedure.
-type Frames = [usize; 64];
+pub type Frames = [usize; 64];
 
 fn question6(image: &Image, globals: usize) -> Result<Frames, No> {
     let mut first = [0; 64];
@@ -223,7 +236,7 @@ fn question6(image: &Image, globals: usize) -> Result<Frames, No> {
 }
 
 /// A body ends where the next begins, the last with the table.
-fn body_end(image: &Image, p: usize) -> usize {
+pub fn body_end(image: &Image, p: usize) -> usize {
     if p + 1 < image.procedures.len() { image.procedures.row(p + 1).a } else { image.statements.len() }
 }
 

@@ -1,0 +1,469 @@
+//! Compares the proved run, linked as a static library, with the plain one of plain_run.rs, and both with Lua.
+//!
+//! bench_run run-vectors DIR...   runs every image of the folders, and compares nine numbers, store and outputs with
+//!                                the answers there
+//! bench_run time [OPTION...] IMAGE...
+//!                                times the runs on each image; prints a table
+//!     --steps N                  steps lent (by default 10,000,000)
+//!     --rounds N                 rounds (by default 9)
+//!     --lua LUA DIR              also times LUA on DIR/NAME.lua, where that does the work of NAME.img; the steps lent
+//!                                are then those that the script stands for
+//!
+//! It links the library where it is built with --cfg proved; without, the plain run stands alone.
+use std::hint::black_box;
+use std::path::{Path, PathBuf};
+use std::process::{Command, ExitCode};
+
+mod plain;
+mod plain_run;
+use plain_run::RunResult;
+
+type Failed = Box<dyn std::error::Error>;
+type Run = fn(&[u8], &[i32], &mut [i64], &mut [i32], u32) -> RunResult;
+
+#[cfg(proved)]
+const ENGINES: &[(&str, Run)] = &[("proved", proved), ("plain", plain_run::run)];
+#[cfg(not(proved))]
+const ENGINES: &[(&str, Run)] = &[("plain", plain_run::run)];
+
+/// Where the plain run stands among the engines.
+const PLAIN: usize = ENGINES.len() - 1;
+
+#[cfg(proved)]
+extern "C" {
+    fn door_run(
+        image: *const u8,
+        image_len: usize,
+        input: *const i32,
+        input_len: usize,
+        store: *mut i64,
+        store_len: usize,
+        output: *mut i32,
+        output_len: usize,
+        steps: u32,
+    ) -> RunResult;
+}
+
+#[cfg(proved)]
+fn proved(image: &[u8], input: &[i32], store: &mut [i64], output: &mut [i32], steps: u32) -> RunResult {
+    // SAFETY: each pointer comes with the length of its slice, and no two slices that are written overlap.
+    unsafe {
+        door_run(
+            image.as_ptr(),
+            image.len(),
+            input.as_ptr(),
+            input.len(),
+            store.as_mut_ptr(),
+            store.len(),
+            output.as_mut_ptr(),
+            output.len(),
+            steps,
+        )
+    }
+}
+
+fn main() -> ExitCode {
+    let words: Vec<String> = std::env::args().skip(1).collect();
+    let done = match words.split_first() {
+        Some((mode, rest)) if mode == "run-vectors" && !rest.is_empty() => vectors(rest),
+        Some((mode, rest)) if mode == "time" && !rest.is_empty() => time(rest),
+        _ => Err("usage: bench_run run-vectors DIR... | bench_run time [OPTION...] IMAGE...".into()),
+    };
+    match done {
+        Ok(true) => ExitCode::SUCCESS,
+        Ok(false) => ExitCode::from(1),
+        Err(error) => {
+            eprintln!("bench_run: {error}");
+            ExitCode::from(2)
+        }
+    }
+}
+
+fn nine(r: RunResult) -> [i64; 9] {
+    let [refusal, fault, outcome, trap] = [r.refusal, r.fault, r.outcome, r.trap].map(i64::from);
+    let [row, steps, read, written] = [r.row, r.steps, r.read, r.written].map(i64::from);
+    [refusal, fault, outcome, trap, r.halt.into(), row, steps, read, written]
+}
+
+// ---- the answers
+
+/// What is lent to a run, and what it should come to. An answer in expect.txt has no store, and no output places but
+/// those that were written.
+struct Case {
+    name: String,
+    image: Vec<u8>,
+    input: Vec<i32>,
+    cells: usize,
+    fill: i64,
+    places: usize,
+    steps: u32,
+    numbers: Vec<i64>,
+    output: Vec<i32>,
+    store: Option<Vec<i64>>,
+}
+
+/// What doorrun lends: no more of its input as the image, cells, output places, steps.
+const LENT: (usize, usize, usize, u32) = (29714, 8192, 4096, 100_000);
+/// What an output place holds before a run.
+const OUTPUT_FILL: i32 = 7;
+/// Faults that are told in full.
+const TOLD: usize = 20;
+
+/// Starred case 10, whose run needs three cells, at the edges of questions 12 and 13.
+const SMALLEST: [u8; 57] = [
+    1, 0, 0, 0, 57, 0, 3, 0, 0, 0, 0, 0, 0, 0, 0, 1, 0, 0, 0, 0, 0, 0, 0, 2, 0, 0, 0, 0, 0, 0, 0, //
+    0, 0, 0, 0, 0, 1, 0, 0, 0, 0, 0, 0, 0, 0, 0, 0, 0, 1, 4, 0, 0, 0, 0, 0, 0, 0,
+];
+const EDGES: [(usize, u32); 6] = [(0, 13), (2, 13), (3, 0), (65536, 0), (65537, 12), (100_000, 12)];
+
+fn edges() -> impl Iterator<Item = Case> {
+    EDGES.into_iter().map(|(cells, refusal)| {
+        let mut store = vec![-5; cells];
+        let mut numbers = vec![refusal.into(), 0, 0, 0, 0, 0, 0, 0, 0];
+        if refusal == 0 {
+            store[..3].fill(0);
+            (numbers[2], numbers[6]) = (1, 1);
+        }
+        Case {
+            name: format!("case 10 in {cells} cells"),
+            image: SMALLEST.to_vec(),
+            input: Vec::new(),
+            cells,
+            fill: -5,
+            places: 2,
+            steps: 9,
+            numbers,
+            output: vec![OUTPUT_FILL; 2],
+            store: Some(store),
+        }
+    })
+}
+
+fn vectors(folders: &[String]) -> Result<bool, Failed> {
+    let mut all: Vec<Case> = edges().collect();
+    for folder in folders {
+        let folder = Path::new(folder);
+        let cases = cases(folder)?;
+        let there = std::fs::read_dir(folder)?
+            .filter(|entry| entry.as_ref().is_ok_and(|e| e.path().extension().is_some_and(|x| x == "img")))
+            .count();
+        if there != cases.len() {
+            return Err(format!("{}: {} answers for {there} images", folder.display(), cases.len()).into());
+        }
+        all.extend(cases);
+    }
+    let mut told = 0;
+    let mut same = vec![0; ENGINES.len()];
+    for case in &all {
+        let mut whole = Vec::new();
+        for (who, (engine, run)) in ENGINES.iter().enumerate() {
+            let mut store = vec![case.fill; case.cells];
+            let mut output = vec![OUTPUT_FILL; case.places];
+            let result = run(&case.image, &case.input, &mut store, &mut output, case.steps);
+            let mut faults = Vec::new();
+            if nine(result)[..] != case.numbers[..] {
+                faults.push(format!("expected {:?}, not {:?}", case.numbers, nine(result)));
+            }
+            if case.output[..] != output[..case.output.len()] {
+                faults.push("other outputs".to_string());
+            }
+            if output[case.output.len()..].iter().any(|&place| place != OUTPUT_FILL) {
+                faults.push("output places changed behind the last".to_string());
+            }
+            if case.store.as_ref().is_some_and(|cells| *cells != store) {
+                faults.push("another store".to_string());
+            }
+            if result.refusal != 0 && store.iter().any(|&cell| cell != case.fill) {
+                faults.push("a refusal changed the store".to_string());
+            }
+            whole.push((store, output));
+            if whole[0] != whole[who] {
+                faults.push("store or outputs differ between the two".to_string());
+            }
+            for fault in &faults {
+                told += 1;
+                if told <= TOLD {
+                    println!("{}: {engine}: {fault}", case.name);
+                }
+            }
+            same[who] += usize::from(faults.is_empty());
+        }
+    }
+    let images = all.len();
+    let counts: Vec<String> =
+        ENGINES.iter().zip(&same).map(|((engine, _), count)| format!("{engine} {count} the same")).collect();
+    println!("{images} runs: {}", counts.join(", "));
+    Ok(same.iter().all(|&count| count == images))
+}
+
+fn numbers<T: std::str::FromStr>(text: &str) -> Result<Vec<T>, Failed>
+where
+    T::Err: std::error::Error + 'static,
+{
+    text.split_whitespace().map(|word| Ok(word.parse()?)).collect()
+}
+
+fn cases(folder: &Path) -> Result<Vec<Case>, Failed> {
+    let mut found = Vec::new();
+    if let Ok(text) = std::fs::read_to_string(folder.join("runs.txt")) {
+        for line in text.lines().filter(|line| !line.starts_with('#')) {
+            let parts: Vec<&str> = line.split('|').collect();
+            let [lent, input, answer, output, store] = parts[..] else {
+                return Err("runs.txt: a line without its five parts".into());
+            };
+            let words: Vec<&str> = lent.split_whitespace().collect();
+            let [name, cells, fill, places, steps] = words[..] else {
+                return Err("runs.txt: a line whose first part has not five words".into());
+            };
+            let case = Case {
+                name: folder.join(name).display().to_string(),
+                image: std::fs::read(folder.join(name))?,
+                input: numbers(input)?,
+                cells: cells.parse()?,
+                fill: fill.parse()?,
+                places: places.parse()?,
+                steps: steps.parse()?,
+                numbers: numbers(answer)?,
+                output: numbers(output)?,
+                store: Some(numbers(store)?),
+            };
+            if case.output.len() != case.places || case.store.as_ref().is_some_and(|s| s.len() != case.cells) {
+                return Err(format!("runs.txt: {name} has not every output place and cell").into());
+            }
+            found.push(case);
+        }
+        return Ok(found);
+    }
+    let text = std::fs::read_to_string(folder.join("expect.txt"))?;
+    let (bytes, cells, places, steps) = LENT;
+    let mut lines = text.lines().peekable();
+    while let Some(name) = lines.next() {
+        let answer = lines.next().ok_or("expect.txt: a name without numbers")?;
+        let mut output = Vec::new();
+        while let Some(line) = lines.next_if(|line| !line.ends_with(".img")) {
+            output.push(line.parse()?);
+        }
+        let mut image = std::fs::read(folder.join(name))?;
+        image.truncate(bytes);
+        let case = Case {
+            name: folder.join(name).display().to_string(),
+            image,
+            input: Vec::new(),
+            cells,
+            fill: -5,
+            places,
+            steps,
+            numbers: numbers(answer)?,
+            output,
+            store: None,
+        };
+        if case.numbers.get(8) != Some(&(case.output.len() as i64)) {
+            return Err(format!("expect.txt: {name} has not as many outputs as it says").into());
+        }
+        found.push(case);
+    }
+    Ok(found)
+}
+
+// ---- the time
+
+/// What the benchmark lends: all cells that a run takes, and more output places than the programs use.
+const CELLS: usize = 65536;
+const PLACES: usize = 4096;
+
+struct Options {
+    steps: u32,
+    rounds: usize,
+    lua: Option<(String, PathBuf)>,
+    images: Vec<PathBuf>,
+}
+
+fn options(words: &[String]) -> Result<Options, Failed> {
+    let mut found = Options { steps: 10_000_000, rounds: 9, lua: None, images: Vec::new() };
+    let mut words = words.iter();
+    while let Some(word) = words.next() {
+        let mut next = || words.next().ok_or(format!("{word} is the last word"));
+        match word.as_str() {
+            "--steps" => found.steps = next()?.parse()?,
+            "--rounds" => found.rounds = next()?.parse::<usize>()?.max(1),
+            "--lua" => found.lua = Some((next()?.clone(), PathBuf::from(next()?))),
+            _ => found.images.push(PathBuf::from(word)),
+        }
+    }
+    Ok(found)
+}
+
+/// Nanoseconds a step in each round, of one image: the engines', and Lua's where there is a script.
+struct Timed {
+    name: String,
+    steps: u32,
+    engines: Vec<Vec<f64>>,
+    lua: Option<Vec<f64>>,
+}
+
+fn time(words: &[String]) -> Result<bool, Failed> {
+    let options = options(words)?;
+    let mut rows = Vec::new();
+    let mut same = true;
+    heading(&options);
+    for path in &options.images {
+        match timed(path, &options)? {
+            Some(row) => {
+                show(&row);
+                rows.push(row);
+            }
+            None => same = false,
+        }
+    }
+    println!(
+        "(nanoseconds of the processor a step, best and median of {} rounds, all taking turns; ratios: medians)",
+        options.rounds
+    );
+    growth(&rows);
+    Ok(same)
+}
+
+fn heading(options: &Options) {
+    print!("{:<18} {:>10}", "program", "steps");
+    for (engine, _) in ENGINES {
+        print!("   {engine:>7} {:>7}", "median");
+    }
+    if ENGINES.len() > 1 {
+        print!("   {:>12}", "proved/plain");
+    }
+    if options.lua.is_some() {
+        print!("   {:>7} {:>7}   {:>10}", "Lua", "median", "plain/Lua");
+        if ENGINES.len() > 1 {
+            print!(" {:>10}", "proved/Lua");
+        }
+    }
+    println!();
+}
+
+fn show(row: &Timed) {
+    print!("{:<18} {:>10}", row.name, row.steps);
+    for times in &row.engines {
+        print!("   {:>7.1} {:>7.1}", best(times), median(times.clone()));
+    }
+    if ENGINES.len() > 1 {
+        print!("   {:>12.2}", ratio(&row.engines[0], &row.engines[PLAIN]));
+    }
+    if let Some(lua) = &row.lua {
+        print!("   {:>7.1} {:>7.1}   {:>10.2}", best(lua), median(lua.clone()), ratio(&row.engines[PLAIN], lua));
+        if ENGINES.len() > 1 {
+            print!(" {:>10.2}", ratio(&row.engines[0], lua));
+        }
+    }
+    println!();
+}
+
+/// Of a program and its -large twin: how much longer a step takes in the twin.
+fn growth(rows: &[Timed]) {
+    for large in rows {
+        let Some(name) = large.name.strip_suffix("-large") else { continue };
+        let Some(small) = rows.iter().find(|row| row.name == name) else { continue };
+        print!("growth of {name}:");
+        for (who, (engine, _)) in ENGINES.iter().enumerate() {
+            print!(" {engine} {:.2}", best(&large.engines[who]) / best(&small.engines[who]));
+        }
+        println!(" (time for a step of {} / {name}, best rounds)", large.name);
+    }
+}
+
+/// Compares the answers of all, then times them; nothing where the answers differ.
+fn timed(path: &Path, options: &Options) -> Result<Option<Timed>, Failed> {
+    let name = path.file_stem().ok_or("an image without a name")?.to_string_lossy().into_owned();
+    let image = std::fs::read(path)?;
+    let script = options.lua.as_ref().filter(|(_, folder)| folder.join(format!("{name}.lua")).exists());
+    let (steps, globals) = match script {
+        Some((lua, folder)) => by_lua(lua, folder, &name, "count")?,
+        None => (options.steps as f64, Vec::new()),
+    };
+    let steps = steps as u32;
+    let mut answers = Vec::new();
+    for (_, run) in ENGINES {
+        let mut store = vec![0; CELLS];
+        let mut output = vec![OUTPUT_FILL; PLACES];
+        let result = run(&image, &[], &mut store, &mut output, steps);
+        answers.push((result, store, output));
+    }
+    let (result, store, _) = &answers[PLAIN];
+    if answers[0] != answers[PLAIN] {
+        println!("{name}: proved {:?}, plain {:?}", nine(answers[0].0), nine(*result));
+        if answers[0].1 != answers[PLAIN].1 || answers[0].2 != answers[PLAIN].2 {
+            println!("{name}: store or outputs differ");
+        }
+        return Ok(None);
+    }
+    if result.refusal != 0 || result.steps != steps {
+        println!("{name}: it does not take {steps} steps: {:?}", nine(*result));
+        return Ok(None);
+    }
+    if globals[..] != store[..globals.len()] {
+        println!("{name}: after {steps} steps Lua has other globals: {globals:?}, not {:?}", &store[..globals.len()]);
+        return Ok(None);
+    }
+    let mut row = Timed { name, steps, engines: vec![Vec::new(); ENGINES.len()], lua: script.map(|_| Vec::new()) };
+    let mut store = vec![0; CELLS];
+    let mut places = vec![OUTPUT_FILL; PLACES];
+    for round in 0..options.rounds {
+        for turn in 0..ENGINES.len() {
+            // either goes first every other round
+            let who = (turn + round) % ENGINES.len();
+            let start = processor_seconds();
+            black_box(ENGINES[who].1(black_box(&image), &[], &mut store, &mut places, steps));
+            row.engines[who].push((processor_seconds() - start) * 1e9 / steps as f64);
+        }
+        if let (Some((lua, folder)), Some(times)) = (script, &mut row.lua) {
+            let (seconds, after) = by_lua(lua, folder, &row.name, "time")?;
+            if after != globals {
+                return Err(format!("{}: Lua's globals differ from those that it counted with", row.name).into());
+            }
+            times.push(seconds * 1e9 / steps as f64);
+        }
+    }
+    Ok(Some(row))
+}
+
+/// What bench.lua prints: the steps that a script stands for, or its seconds; then the globals.
+fn by_lua(lua: &str, folder: &Path, name: &str, mode: &str) -> Result<(f64, Vec<i64>), Failed> {
+    let done = Command::new(lua).arg(folder.join("bench.lua")).args([name, mode]).output()?;
+    if !done.status.success() {
+        return Err(format!("{name}.lua: {}", String::from_utf8_lossy(&done.stderr)).into());
+    }
+    let text = String::from_utf8(done.stdout)?;
+    let (first, globals) = text.split_once('\n').ok_or(format!("{name}.lua: it prints nothing"))?;
+    Ok((first.trim().parse()?, numbers(globals)?))
+}
+
+/// Seconds of the processor that this process has used: what others do on the machine counts for little. The scripts'
+/// os.clock is the same clock.
+fn processor_seconds() -> f64 {
+    #[repr(C)]
+    struct Time {
+        seconds: i64,
+        nanoseconds: i64,
+    }
+    extern "C" {
+        fn clock_gettime(clock: i32, time: *mut Time) -> i32;
+    }
+    const PROCESS: i32 = 2;
+    let mut time = Time { seconds: 0, nanoseconds: 0 };
+    // SAFETY: on 64-bit Linux `Time` is the C library's timespec, and the call writes nothing else.
+    let status = unsafe { clock_gettime(PROCESS, &mut time) };
+    assert_eq!(status, 0, "no clock");
+    time.seconds as f64 + time.nanoseconds as f64 / 1e9
+}
+
+fn best(numbers: &[f64]) -> f64 {
+    numbers.iter().copied().fold(f64::INFINITY, f64::min)
+}
+
+fn median(mut numbers: Vec<f64>) -> f64 {
+    numbers.sort_by(f64::total_cmp);
+    numbers[numbers.len() / 2]
+}
+
+fn ratio(a: &[f64], b: &[f64]) -> f64 {
+    median(a.iter().zip(b).map(|(a, b)| a / b).collect())
+}

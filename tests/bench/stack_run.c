@@ -1,0 +1,277 @@
+/* How much stack door_run uses: stack_run [-s BYTES] [IMAGE...]
+ *
+ * The evaluator calls itself, no deeper than an expression has nodes. So it is run on the deepest expressions that the
+ * check accepts, 2,048 nodes of which as many as can be lie in one chain, and on the images given. Each run is on a
+ * thread of its own with a stack of BYTES (by default 4 MiB), painted beforehand, twice with different paint; a page
+ * that cannot be touched lies below it. What is reported is the distance from the caller's frame down to the lowest
+ * byte that has changed. It fails where that exceeds DOOR_RUN_STACK of door.h, as far as that is known. */
+#define _GNU_SOURCE
+#include <pthread.h>
+#include <stdint.h>
+#include <stdio.h>
+#include <stdlib.h>
+#include <string.h>
+#include <sys/mman.h>
+#include <unistd.h>
+
+#include "door.h"
+
+#ifndef DOOR_RUN_STACK
+#define DOOR_RUN_STACK 0 /* not known yet */
+struct door_result {
+    uint32_t refusal, fault, outcome, trap;
+    int32_t halt;
+    uint32_t row, steps, read, written;
+};
+struct door_result door_run(const uint8_t *image, size_t image_len, const int32_t *input, size_t input_len,
+                            int64_t *store, size_t store_len, int32_t *output, size_t output_len, uint32_t steps);
+#endif
+
+#define CELLS 65536
+#define PLACES 16
+#define STEPS 1000
+#define LONGEST 29713
+
+static const unsigned char paints[] = {0xa5, 0x5a};
+static int64_t store[CELLS];
+static int32_t output[PLACES];
+static const int32_t input[1];
+
+static void fail(const char *what) {
+    perror(what);
+    exit(2);
+}
+
+/* ---- an image in the making: rows are appended table by table, and bytes() puts the tables together */
+
+enum { TYPES, FIELDS, VARIABLES, PROCEDURES, NODES, STATEMENTS, TABLES };
+enum { MOST_NODES = 2048 };
+
+struct builder {
+    uint8_t rows[TABLES][8 * MOST_NODES];
+    unsigned count[TABLES];
+};
+
+static unsigned add(struct builder *b, int table, unsigned kind, unsigned x, unsigned y, unsigned z) {
+    const unsigned row = b->count[table]++;
+    const uint8_t bytes[8] = {(uint8_t)kind,     0,           (uint8_t)(x >> 8), (uint8_t)x,
+                              (uint8_t)(y >> 8), (uint8_t)y, (uint8_t)(z >> 8), (uint8_t)z};
+    memcpy(b->rows[table] + 8 * row, bytes, 8);
+    return row;
+}
+
+static size_t bytes(const struct builder *b, uint8_t *image) {
+    size_t at = 5;
+    for (int t = 0; t < TABLES; t++) {
+        image[at] = (uint8_t)(b->count[t] >> 8);
+        image[at + 1] = (uint8_t)b->count[t];
+        memcpy(image + at + 2, b->rows[t], 8 * b->count[t]);
+        at += 2 + 8 * b->count[t];
+    }
+    image[0] = 1;
+    for (int i = 0; i < 4; i++)
+        image[1 + i] = (uint8_t)(at >> (24 - 8 * i));
+    return at;
+}
+
+/* Kinds of nodes and statements; operators 1 are + and -. */
+enum { CONSTANT, VARIABLE, FIELD, ELEMENT, GUARD, DYADIC, MONADIC, TEST, ARGUMENT };
+enum { ASSIGN, CALL, UNLESS, GO, RETURN, READ, WRITE, HALT };
+enum { GLOBAL, LOCAL, VALUE, VAR };
+
+static unsigned constant(struct builder *b, unsigned number) { return add(b, NODES, CONSTANT, 1, 0, number); }
+
+/* -(-(... 5)), of n nodes: n - 1 is to be even, so that it is 5. */
+static unsigned negations(struct builder *b, unsigned n) {
+    unsigned node = constant(b, 5);
+    while (--n > 0)
+        node = add(b, NODES, MONADIC, node, 0, 1);
+    return node;
+}
+
+/* write -(-(... 5)) */
+static void shape_negations(struct builder *b) {
+    unsigned node = negations(b, 2047);
+    node = add(b, NODES, MONADIC, node, 0, 1);
+    add(b, STATEMENTS, WRITE, node, 0, 0);
+    add(b, STATEMENTS, RETURN, 0, 0, 0);
+}
+
+/* P(-(-(... 5))), which writes it */
+static void shape_argument(struct builder *b) {
+    const unsigned v = add(b, VARIABLES, VALUE, 1, 0, 0), node = negations(b, 2045);
+    add(b, STATEMENTS, CALL, 1, add(b, NODES, ARGUMENT, add(b, NODES, MONADIC, node, 0, 1), 0, 0), 0);
+    add(b, STATEMENTS, RETURN, 0, 0, 0);
+    add(b, PROCEDURES, 0, 2, 1, 0);
+    add(b, STATEMENTS, WRITE, add(b, NODES, VARIABLE, v, 0, 0), 0, 0);
+    add(b, STATEMENTS, RETURN, 0, 0, 0);
+}
+
+/* write ((5 + 0) + 0) + .. , or 0 + (0 + (.. + 5)) */
+static void shape_sums(struct builder *b, int right) {
+    unsigned node = constant(b, 5);
+    while (b->count[NODES] + 2 <= MOST_NODES) {
+        const unsigned zero = constant(b, 0);
+        node = right ? add(b, NODES, DYADIC, zero, node, 1) : add(b, NODES, DYADIC, node, zero, 1);
+    }
+    add(b, STATEMENTS, WRITE, node, 0, 0);
+    add(b, STATEMENTS, RETURN, 0, 0, 0);
+}
+
+static void shape_left(struct builder *b) { shape_sums(b, 0); }
+static void shape_right(struct builder *b) { shape_sums(b, 1); }
+
+/* a[a[.. a[0]]] := 5, then write a[0] */
+static void shape_index(struct builder *b) {
+    const unsigned t = add(b, TYPES, 3, 1, 2, 0), a = add(b, VARIABLES, GLOBAL, t, 0, 0);
+    const unsigned zero = constant(b, 0), first = add(b, NODES, VARIABLE, a, 0, 0);
+    const unsigned written = add(b, NODES, ELEMENT, first, zero, 0);
+    unsigned node = constant(b, 0);
+    const unsigned five = constant(b, 5);
+    while (b->count[NODES] + 2 <= MOST_NODES)
+        node = add(b, NODES, ELEMENT, add(b, NODES, VARIABLE, a, 0, 0), node, 0);
+    add(b, STATEMENTS, ASSIGN, node, five, 0);
+    add(b, STATEMENTS, WRITE, written, 0, 0);
+    add(b, STATEMENTS, RETURN, 0, 0, 0);
+}
+
+/* write 5 + a[a[.. a[0].f].f].f: evaluating and finding take turns */
+static void shape_fields(struct builder *b) {
+    const unsigned r = add(b, TYPES, 4, 0, add(b, FIELDS, 0, 1, 0, 0), 1), t = add(b, TYPES, 3, r, 2, 0);
+    const unsigned a = add(b, VARIABLES, GLOBAL, t, 0, 0), five = constant(b, 5);
+    unsigned node = constant(b, 0);
+    while (b->count[NODES] + 4 <= MOST_NODES) {
+        node = add(b, NODES, ELEMENT, add(b, NODES, VARIABLE, a, 0, 0), node, 0);
+        node = add(b, NODES, FIELD, node, 0, 0);
+    }
+    add(b, STATEMENTS, WRITE, add(b, NODES, DYADIC, five, node, 1), 0, 0);
+    add(b, STATEMENTS, RETURN, 0, 0, 0);
+}
+
+static const struct {
+    const char *name;
+    void (*make)(struct builder *b);
+} shapes[] = {
+    {"negations", shape_negations}, {"an argument", shape_argument}, {"sums, left", shape_left},
+    {"sums, right", shape_right},   {"indices", shape_index},        {"indices and fields", shape_fields},
+};
+
+static size_t build(void (*make)(struct builder *b), uint8_t *image) {
+    static struct builder b;
+    memset(&b, 0, sizeof b);
+    for (unsigned scalar = 0; scalar < 3; scalar++)
+        add(&b, TYPES, scalar, 0, 0, 0);
+    add(&b, PROCEDURES, 0, 0, 0, 0);
+    make(&b);
+    return bytes(&b, image);
+}
+
+/* ---- the stack */
+
+struct task {
+    const unsigned char *bottom;
+    unsigned char paint;
+    const uint8_t *image;
+    size_t length;
+    struct door_result result;
+    size_t used;
+};
+
+static void *on_its_stack(void *given) {
+    struct task *task = given;
+    const unsigned char *frame = __builtin_frame_address(0);
+    const volatile unsigned char *at = task->bottom;
+    task->result = door_run(task->image, task->length, input, 0, store, CELLS, output, PLACES, STEPS);
+    while (*at == task->paint)
+        at++;
+    task->used = (size_t)(frame - (const unsigned char *)at);
+    return NULL;
+}
+
+static size_t measure(unsigned char *stack, size_t size, const uint8_t *image, size_t length,
+                      struct door_result *result) {
+    size_t most = 0;
+    for (size_t i = 0; i < sizeof paints; i++) {
+        struct task task = {.bottom = stack, .paint = paints[i], .image = image, .length = length};
+        pthread_attr_t attributes;
+        pthread_t thread;
+        memset(stack, paints[i], size);
+        if (pthread_attr_init(&attributes) != 0 || pthread_attr_setstack(&attributes, stack, size) != 0 ||
+            pthread_create(&thread, &attributes, on_its_stack, &task) != 0 || pthread_join(thread, NULL) != 0)
+            fail("a thread");
+        pthread_attr_destroy(&attributes);
+        if (task.used > most)
+            most = task.used;
+        *result = task.result;
+    }
+    return most;
+}
+
+static uint8_t *read_file(const char *name, size_t *length) {
+    FILE *file = fopen(name, "rb");
+    uint8_t *read;
+    long size;
+    if (!file || fseek(file, 0, SEEK_END) != 0 || (size = ftell(file)) < 0 || fseek(file, 0, SEEK_SET) != 0)
+        fail(name);
+    *length = (size_t)size;
+    read = malloc(*length + 1);
+    if (!read || fread(read, 1, *length, file) != *length)
+        fail(name);
+    fclose(file);
+    return read;
+}
+
+int main(int count, char **words) {
+    static uint8_t image[LONGEST];
+    const size_t page = (size_t)sysconf(_SC_PAGESIZE);
+    size_t size = (size_t)4 << 20, most = 0;
+    const char *most_of = "";
+    struct door_result result;
+    unsigned char *room;
+    int at = 1;
+    if (count > 2 && strcmp(words[1], "-s") == 0) {
+        size = (strtoul(words[2], NULL, 10) + page - 1) / page * page;
+        at = 3;
+    }
+    if (size == 0) {
+        fprintf(stderr, "usage: stack_run [-s BYTES] [IMAGE...]\n");
+        return 2;
+    }
+    room = mmap(NULL, page + size, PROT_READ | PROT_WRITE, MAP_PRIVATE | MAP_ANONYMOUS | MAP_STACK, -1, 0);
+    if (room == MAP_FAILED || mprotect(room, page, PROT_NONE) != 0)
+        fail("memory for a stack");
+    printf("stack of door_run, in bytes:\n");
+    for (size_t i = 0; i < sizeof shapes / sizeof shapes[0]; i++) {
+        const size_t length = build(shapes[i].make, image);
+        const size_t used = measure(room + page, size, image, length, &result);
+        printf("  %-20s %7zu\n", shapes[i].name, used);
+        if (result.refusal != 0 || result.outcome != 1 || result.written != 1 || abs(output[0]) != 5) {
+            printf("stack_run: %s: refusal %u %u, outcome %u, trap %u, %u written, the first %d\n", shapes[i].name,
+                   (unsigned)result.refusal, (unsigned)result.fault, (unsigned)result.outcome, (unsigned)result.trap,
+                   (unsigned)result.written, (int)output[0]);
+            return 1;
+        }
+        if (used > most) {
+            most = used;
+            most_of = shapes[i].name;
+        }
+    }
+    for (; at < count; at++) {
+        size_t length, used;
+        uint8_t *given = read_file(words[at], &length);
+        used = measure(room + page, size, given, length, &result);
+        free(given);
+        if (used > most) {
+            most = used;
+            most_of = words[at];
+        }
+    }
+    printf("  the most: %zu, for %s\n", most, most_of);
+    if (DOOR_RUN_STACK == 0) {
+        printf("door.h has no DOOR_RUN_STACK yet to hold it to\n");
+    } else if (most > DOOR_RUN_STACK) {
+        printf("stack_run: that exceeds DOOR_RUN_STACK, %zu\n", (size_t)DOOR_RUN_STACK);
+        return 1;
+    }
+    return 0;
+}
