@@ -82,11 +82,11 @@ struct door_result {
  *
  * The result is returned by value, so that no fifth memory need be lent.
  *
- * Stack: DOOR_RUN_STACK bytes. `bash tests/bench/run-machine` measures it, by painting the stack, for expressions of
- * 2,048 nodes, the deepest that an accepted image can have, and a test runs them in a thread with just this stack. It
- * is no proven bound, and holds for the library that this kit builds. There is no heap and no state between calls, so
+ * Stack: DOOR_RUN_STACK bytes. `bash tests/stack` measures it, by painting the stack, for expressions of 2,048 nodes,
+ * the deepest that an accepted image can have, in a thread with this stack and four pages more for the thread itself.
+ * It is no proven bound, and holds for the library that this kit builds. There is no heap and no state between calls, so
  * several threads may run programs at once, each with its own store and output. */
-#define DOOR_RUN_STACK 1048576
+#define DOOR_RUN_STACK 573440
 
 struct door_result door_run(const uint8_t *image, size_t image_length, const int32_t *input, size_t input_length,
                             int64_t *store, size_t store_length, int32_t *output, size_t output_length,

@@ -4,7 +4,7 @@
  * check accepts, 2,048 nodes of which as many as can be lie in one chain, and on the images given. Each run is on a
  * thread of its own with a stack of BYTES (by default 4 MiB), painted beforehand, twice with different paint; a page
  * that cannot be touched lies below it. What is reported is the distance from the caller's frame down to the lowest
- * byte that has changed. It fails where that exceeds DOOR_RUN_STACK of door.h, as far as that is known. */
+ * byte that has changed. It fails where that exceeds DOOR_RUN_STACK of door.h. */
 #define _GNU_SOURCE
 #include <pthread.h>
 #include <stdint.h>
@@ -15,17 +15,6 @@
 #include <unistd.h>
 
 #include "door.h"
-
-#ifndef DOOR_RUN_STACK
-#define DOOR_RUN_STACK 0 /* not known yet */
-struct door_result {
-    uint32_t refusal, fault, outcome, trap;
-    int32_t halt;
-    uint32_t row, steps, read, written;
-};
-struct door_result door_run(const uint8_t *image, size_t image_len, const int32_t *input, size_t input_len,
-                            int64_t *store, size_t store_len, int32_t *output, size_t output_len, uint32_t steps);
-#endif
 
 #define CELLS 65536
 #define PLACES 16
@@ -267,9 +256,7 @@ int main(int count, char **words) {
         }
     }
     printf("  the most: %zu, for %s\n", most, most_of);
-    if (DOOR_RUN_STACK == 0) {
-        printf("door.h has no DOOR_RUN_STACK yet to hold it to\n");
-    } else if (most > DOOR_RUN_STACK) {
+    if (most > DOOR_RUN_STACK) {
         printf("stack_run: that exceeds DOOR_RUN_STACK, %zu\n", (size_t)DOOR_RUN_STACK);
         return 1;
     }
