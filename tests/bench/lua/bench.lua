@@ -9,7 +9,7 @@ local file <close> = assert(io.open(folder .. name .. ".lua"))
 local text = file:read("a")
 
 if mode == "count" then
-  -- a counter of its own in each function would not add up, so it is one of the chunk's
+  -- one counter for the chunk and all its functions
   text = "local steps = 0 " .. text:gsub("%-%-%+(%d+)", "steps = steps + %1 "):gsub("\nreturn ", "\nreturn steps, ")
   local steps, globals = assert(load(text, "=" .. name))()
   print(steps)

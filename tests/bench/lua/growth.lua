@@ -5,8 +5,9 @@ Place[Place] = true
 Member[Member], Member[Place] = true, true
 
 local function copy_place(from, to)
-  to.floor, to.wing, to.room, to.shelf, to.row, to.box = from.floor, from.wing, from.room, from.shelf, from.row, from.box
-  to.wet, to.dark, to.doors, to.keys, to.days, to.hours = from.wet, from.dark, from.doors, from.keys, from.days, from.hours
+  to.floor, to.wing, to.room, to.shelf = from.floor, from.wing, from.room, from.shelf
+  to.row, to.box, to.wet, to.dark = from.row, from.box, from.wet, from.dark
+  to.doors, to.keys, to.days, to.hours = from.doors, from.keys, from.days, from.hours
 end
 
 local function copy_member(from, to)
@@ -114,5 +115,6 @@ for j = 0, 3 do
 end
 put(one, MEMBER)
 put(place, PLACE)
-table.move({seed, i, k, sum, limit, day, hits, misses, rounds, some, all, open and 1 or 0}, 1, 12, #globals + 1, globals)
+local rest = {seed, i, k, sum, limit, day, hits, misses, rounds, some, all, open and 1 or 0}
+table.move(rest, 1, #rest, #globals + 1, globals)
 return globals
