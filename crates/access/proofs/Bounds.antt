@@ -7,7 +7,7 @@ use native.Mathlib.Omega.{arith}
 use native.Mathlib.Decide.{decLt}
 use Rattle.prelude.specs.Choice.{choose}
 use Rattle.image.specs.Rows.{rowAt, rowsOf}
-use Rattle.image.proofs.Bytes.{row-missing}
+use Rattle.image.proofs.Bytes.{row-there}
 use Rattle.shapes.specs.Forms.{form}
 use Rattle.shapes.specs.Sizes.{sizeOf}
 use Rattle.shapes.proofs.Rows.{form-array}
@@ -36,14 +36,6 @@ use Rattle.semantics.proofs.FieldRows.{field-nth}
 use Rattle.semantics.proofs.Objects.{place-own}
 use Rattle.access.specs.Ready.{Planned}
 
--- a row of a kind that has a rule is there
-there : (t : List ℕ) (r k : ℕ) → rowAt t r .kind ≡ k → k < 255 → r < rowsOf t
-there t r k kind low = go (decLt r (rowsOf t))
-  where
-    go : Dec (r < rowsOf t) → r < rowsOf t
-    go (yes h) = h
-    go (no h) = absurd (omega (arith, kind, ap (λ x. x .kind) (row-missing t r (omega arith))))
-
 -- a choice of two numbers that are not large
 either : (b : Bool) {x y m : ℕ} → x ≤ m → y ≤ m → choose b x y ≤ m
 unfolding choose
@@ -71,7 +63,7 @@ module _ {image plan : List ℕ} (p : Planned image plan) where
       go (yes h) = h
       go (no h) =
           let other : rowAt (g .types) r .kind ≡ 4 → ⊥ =
-          λ kind. absurd (h (there (g .types) r 4 kind (omega arith))) in
+          λ kind. absurd (h (row-there (g .types) r (omega arith))) in
           let none = planned-other (g .types) (g .fields) plan n r refl other in
           let same : Missing ≡ Field offset x = sym none ∙ p .field r n ∙ e in
           let z : _≡_ {A = ℕ} 0 1 = cc in
@@ -91,14 +83,14 @@ module _ {image plan : List ℕ} (p : Planned image plan) where
   -- an array's element type, and an element's offset
   pub element-typed : (r : ℕ) → rowAt (g .types) r .kind ≡ 3 → rowAt (g .types) r .a < rowsOf (g .types)
   element-typed r kind =
-      let low = there (g .types) r 3 kind (omega arith) in
+      let low = row-there (g .types) r (omega arith) in
       element-row (g .types) (g .fields) (ok .types) r low kind
 
   pub element-low : (r i : ℕ) → rowAt (g .types) r .kind ≡ 3 → i < rowAt (g .types) r .b
       → i * sizeOf (g .types) (g .fields) (rowAt (g .types) r .a) ≤ 4096
   unfolding form
   element-low r i kind h =
-      let low = there (g .types) r 3 kind (omega arith) in
+      let low = row-there (g .types) r (omega arith) in
       let row = rowAt (g .types) r in
       let is = form-array row kind in
       let inner = element-layout (g .types) (g .fields) (ok .types) r (row .a) (row .b) i low is h .within in
@@ -179,7 +171,7 @@ module _ {image plan : List ℕ} (p : Planned image plan) where
   -- a guard's type is there
   pub guard-typed : (r : ℕ) → rowAt (g .nodes) r .kind ≡ 4 → rowAt (g .nodes) r .b < rowsOf (g .types)
   guard-typed r kind =
-      let here = there (g .nodes) r 4 kind (omega arith) in
+      let here = row-there (g .nodes) r (omega arith) in
       guard-is (g .types) (g .variables) (g .nodes) (ok .questions .nodes) r here kind .typed
 
   -- how many rows a table has
@@ -204,5 +196,5 @@ module _ {image plan : List ℕ} (p : Planned image plan) where
   -- "1 call procedure a": there is one
   pub call-there : (r : ℕ) → rowAt (g .statements) r .kind ≡ 1 → rowAt (g .statements) r .a < rowsOf (g .procedures)
   call-there r kind =
-      let here = there (g .statements) r 1 kind (omega arith) in
+      let here = row-there (g .statements) r (omega arith) in
       call-is (g .nodes) (g .procedures) (g .statements) (ok .questions .statements) r here kind .procedure

@@ -18,6 +18,7 @@ use Rattle.semantics.specs.Memory.{bare, overwrite}
 use Rattle.semantics.specs.Layout.{Program, placeOf, kindsFrom}
 use Rattle.semantics.specs.Running.{programOf}
 use Rattle.semantics.specs.Stepping.{Next.goes, entered}
+use Rattle.semantics.proofs.Agreeing.{blank-zeros}
 use Rattle.semantics.proofs.Objects.{kinds-room}
 use Rattle.cells.proofs.Overwriting.{overwrite-one, overwrite-length, overwrite-above, lent-is, lent-back, set-behind}
 use Rattle.access.specs.Ready.{Planned}
@@ -85,12 +86,6 @@ module _ {image plan : List ℕ} (p : Planned image plan) (q : ℕ) (exists : q 
     local-place =
         let more = rw this at some in
         rw (begins, this) (place-in p q (parameters (programOf image) q) exists (omega arith))
-
--- blank numbers are zero
-blank-zeros : (kinds : List ℕ) → map (bare .blank) kinds ≡ replicate (length kinds) (pos 0)
-unfolding bare
-blank-zeros [] = refl
-blank-zeros (k ∷ kinds) = ap (λ (l : List ℤ). pos 0 ∷ l) (blank-zeros kinds)
 
 -- so are the blanks of a procedure's locals
 locals-zero : (g : Program) (q : ℕ)

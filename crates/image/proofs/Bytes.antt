@@ -1,5 +1,5 @@
 -- Bytes, and what rows of bytes can hold.
-use mathlib.Core.Path.{_≡_}
+use mathlib.Core.Path.{_≡_, ap}
 use mathlib.Core.List.{List}
 use mathlib.Core.Bool.{Bool, true, false}
 use Prim.Native.Nat.{ℕ, _+_, _*_, _≤_, _<_}
@@ -32,6 +32,14 @@ number-small s h j = omega (arith, h .each j, h .each (j + 1))
 pub row-missing : (t : List ℕ) (i : ℕ) → rowsOf t ≤ i → rowAt t i ≡ noRow
 unfolding rowAt
 row-missing t i h = choose-no _ _ _ (le-ltb i (rowsOf t) h)
+
+-- a row of a kind that there is stands in its table
+pub row-there : (t : List ℕ) (i : ℕ) → rowAt t i .kind < 255 → i < rowsOf t
+row-there t i h = go (decLt i (rowsOf t))
+  where
+    go : Dec (i < rowsOf t) → i < rowsOf t
+    go (yes l) = l
+    go (no l) = absurd (omega (arith, ap (λ (r : Row). r .kind) (row-missing t i (omega arith))))
 
 pub row-small : (t : List ℕ) → Bytes t → (i : ℕ) → Small (rowAt t i)
 unfolding rowAt choose

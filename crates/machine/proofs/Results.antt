@@ -26,6 +26,7 @@ use Rattle.semantics.specs.Stepping.{State}
 use Rattle.semantics.specs.Running.{programOf, globalRoom, firstTop, freshCells, fresh, Ended, runFrom, refusal, ranOf}
 use Rattle.semantics.specs.Running.{numbersOf, refusedWith, resultOf, storeAfter, outputAfter}
 use Rattle.semantics.proofs.Simulation.{eraseEnded}
+use Rattle.semantics.proofs.Agreeing.{blank-zeros}
 use Rattle.semantics.proofs.Objects.{kinds-room}
 use Rattle.semantics.proofs.Outcomes.{never-stuck, ran-bare}
 use Rattle.calling.specs.Showing.{stateOf, Stands}
@@ -33,11 +34,6 @@ use Rattle.machine.specs.declared.Stop.{Stop}
 use Rattle.machine.specs.Stopping.{stopOf, Stops, numbersAt}
 
 -- ---- the fresh state
-
-blank-zeros : (kinds : List ℕ) → map (bare .blank) kinds ≡ replicate (length kinds) (pos 0)
-unfolding bare
-blank-zeros [] = refl
-blank-zeros (k ∷ kinds) = ap (λ (l : List ℤ). pos 0 ∷ l) (blank-zeros kinds)
 
 zeros-more : (m n : ℕ) (rest : List ℤ)
     → replicate m (pos 0) ++ (replicate n (pos 0) ++ rest) ≡ replicate (m + n) (pos 0) ++ rest

@@ -5,7 +5,6 @@ use mathlib.Core.List.{List}
 use mathlib.Core.Logic.{⊎-elim}
 use Prim.Native.Nat.{ℕ, _+_, _≤_, _<_}
 use native.Mathlib.Omega.{arith}
-use native.Mathlib.Decide.{decLt}
 use borrow.Author.Tests.{ltb-true, leb-true, eqb-true, eqb-false, eq-eqb, not-true}
 use lib.Dec.{ltb, leb, eqb}
 use Rattle.prelude.specs.Choice.{choose, _also_}
@@ -13,7 +12,7 @@ use Rattle.prelude.proofs.Choice.{choose-yes, choose-cases, also-true, clash}
 use Rattle.image.specs.declared.Row.{Row}
 use Rattle.image.specs.declared.Verdict.the-variants.{Kept}
 use Rattle.image.specs.Rows.{rowAt, rowsOf}
-use Rattle.image.proofs.Bytes.{row-missing}
+use Rattle.image.proofs.Bytes.{row-there}
 use Rattle.image.proofs.Faults.{verdict-kept}
 use Rattle.nodes.specs.Nodes.{isDesignator, isArgument, childKept, designatorKept, constantKept, variableKept}
 use Rattle.nodes.specs.Nodes.{fieldKept, elementKept, guardKept, dyadicKept, monadicKept, argumentKept}
@@ -35,20 +34,12 @@ pub record Designator (n : List ℕ) (k : ℕ) : Type 0 where
 pub designator-plain : (n : List ℕ) (k : ℕ) → Designator n k → Plain n k
 designator-plain n k d = let most = d .most in record { within = d .within; plain = λ e. absurd (omega arith) }
 
--- a row with a rule is there
-there : (n : List ℕ) (k : ℕ) → rowAt n k .kind ≤ 8 → k < rowsOf n
-there n k h = go (decLt k (rowsOf n))
-  where
-    go : Dec (k < rowsOf n) → k < rowsOf n
-    go (yes l) = l
-    go (no l) = absurd (omega (arith, ap (λ x. x .kind) (row-missing n k (omega arith))))
-
 pub argument-kind : (n : List ℕ) (k : ℕ) → isArgument n k ≡ true → rowAt n k .kind ≡ 8
 unfolding isArgument
 argument-kind n k e = eqb-true _ _ e
 
 pub argument-within : (n : List ℕ) (k : ℕ) → isArgument n k ≡ true → k < rowsOf n
-argument-within n k e = let kind = argument-kind n k e in there n k (omega arith)
+argument-within n k e = let kind = argument-kind n k e in row-there n k (omega arith)
 
 pub argument-not : (n : List ℕ) (k : ℕ) → isArgument n k ≡ false → rowAt n k .kind ≡ 8 → ⊥
 unfolding isArgument
@@ -60,7 +51,7 @@ designator-is n k e =
     let (low, high) = also-true _ _ e in
     let least = leb-true 1 (rowAt n k .kind) low in
     let most = leb-true (rowAt n k .kind) 4 high in
-    record { within = there n k (omega arith); least = least; most = most }
+    record { within = row-there n k (omega arith); least = least; most = most }
 
 -- ---- a row of each kind
 

@@ -6,7 +6,7 @@ use Prim.Native.Nat.{ℕ, zero, suc, _+_, _<_, _≤_}
 use native.Mathlib.Omega.{arith}
 use native.Mathlib.Decide.{decLt}
 use lib.IntN.{ℤ, pos}
-use lib.ListN.{length, take, drop, List·getD-map, length-map}
+use lib.ListN.{length, take, drop, replicate, List·getD-map, length-map}
 use Rattle.prelude.specs.Choice.{choose}
 use Rattle.prelude.proofs.Rec.{rec-rel}
 use Rattle.prelude.proofs.Parts.{take-map, map-append}
@@ -165,6 +165,12 @@ mark-number kind n = refl
 pub blank-numbers : (kinds : List ℕ) → map (bare .blank) kinds ≡ numbers (map (tagged .blank) kinds)
 unfolding tagged bare
 blank-numbers kinds = sym (map-map (tagged .number) (tagged .blank) kinds)
+
+-- blank numbers are zero
+pub blank-zeros : (kinds : List ℕ) → map (bare .blank) kinds ≡ replicate (length kinds) (pos 0)
+unfolding bare
+blank-zeros [] = refl
+blank-zeros (k ∷ kinds) = ap (λ (l : List ℤ). pos 0 ∷ l) (blank-zeros kinds)
 
 pub loose-numbers : (l : List ℤ) → map (bare .loose) l ≡ numbers (map (tagged .loose) l)
 unfolding tagged bare

@@ -3,7 +3,6 @@ use mathlib.Core.Path.{_≡_, refl, sym, subst, ap, _∙_}
 use mathlib.Core.List.{List}
 use Prim.Native.Nat.{ℕ, _≤_, _<_}
 use native.Mathlib.Omega.{arith}
-use native.Mathlib.Decide.{decLt}
 use borrow.Author.Tests.{ne-eqb}
 use borrow.Author.Needs.{needs}
 use denote.Ref.{now}
@@ -11,7 +10,7 @@ use lib.IntN.{ℤ}
 use Rattle.prelude.specs.Choice.{choose}
 use Rattle.image.specs.declared.Row.{Row}
 use Rattle.image.specs.Rows.{rowAt, rowsOf}
-use Rattle.image.proofs.Bytes.{row-missing}
+use Rattle.image.proofs.Bytes.{row-there}
 use Rattle.semantics.specs.Memory.{bare}
 use Rattle.semantics.specs.Layout.{Program}
 use Rattle.semantics.specs.Running.{programOf}
@@ -21,14 +20,6 @@ use Rattle.calling.specs.Showing.{stateOf, Shows.shows-stuck}
 use Rattle.stepping.proofs.Showing.{shows-by, shows-row}
 use Rattle.stepping.proofs.step.Statement.{statement}
 use Rattle.stepping.proofs.step.Tie as tie
-
--- a row of a kind that there is stands in its table
-row-there : (t : List ℕ) (i : ℕ) → rowAt t i .kind < 255 → i < rowsOf t
-row-there t i h = go (decLt i (rowsOf t))
-  where
-    go : Dec (i < rowsOf t) → i < rowsOf t
-    go (yes l) = l
-    go (no l) = absurd (omega (arith, ap (λ (r : Row). r .kind) (row-missing t i (omega arith))))
 
 -- ---- place by place: what is known behind the statement's row
 
