@@ -1,5 +1,5 @@
 /* The check and the run of a door program's image, as document 01 asks for them. Link libdoor.a, which
- * `rt staticlib door` writes to target/staticlib/, for x86-64; of other libraries it needs memset and memcpy alone. */
+ * `rt staticlib door` writes to target/staticlib/, for x86-64; of other libraries it needs memset alone. */
 #ifndef DOOR_H
 #define DOOR_H
 
