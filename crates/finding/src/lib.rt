@@ -371,3 +371,17 @@ pub fn eval(image: &[u8], plan: &[u32], store: &[i64], base: u32, top: u32, r: u
         _ => Answer::Stuck,
     }
 }
+
+// The same as find, where most objects are variables: such a one takes no call.
+pub fn locate(image: &[u8], plan: &[u32], store: &[i64], base: u32, top: u32, r: u32) -> Found
+    requires { ⌜ Standing (now image) (now plan) base top (now store) ⌝ }
+    ensures { λ x. ⌜ x ≡ findOf bare (programOf (now (image .entry))) base top (now (store .entry)) r ⌝ }
+{
+    let node = access::node_at(image, plan, r);
+    let kind = node.kind;
+    let a = node.a;
+    if kind == 1 {
+        return variable_place(image, plan, store, base, top, a);
+    }
+    fresh_place(find(image, plan, store, base, top, r))
+}

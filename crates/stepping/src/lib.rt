@@ -112,7 +112,7 @@ fn assign(image: &[u8], plan: &[u32], store: &mut [i64], s: Registers, statement
     let top = s.top;
     let a = statement.a as u32;
     let b = statement.b as u32;
-    let found = finding::fresh_place(finding::find(image, plan, store, base, top, a));
+    let found = finding::locate(image, plan, store, base, top, a);
     let Found::At(target) = found else {
         return calling::ended_by(calling::lost_place(found));
     };
