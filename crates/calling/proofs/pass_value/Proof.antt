@@ -59,7 +59,8 @@ unfolding bare
 returns-2 c =
     let q = c .before .before .before .before .before in
     let first = q .before .before .before .before .before .before .before in
-    let found = sym (q .before .before .fresh .ensures ∙ q .before .before .before .eval .ensures) ∙ q .answer .given .1 in
+    let found = sym (q .before .before .fresh .ensures ∙ q .before .before .before .eval .ensures)
+    ∙ q .answer .given .1 in
     let n = c .before .before .before .number-of in
     let e = rw (plain64 (n .result) (search needs), n .ensures) at (c .before .put .ensures) in
     λ output.

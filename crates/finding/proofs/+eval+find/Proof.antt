@@ -174,7 +174,8 @@ module _ (t : ℕ) where
   unfolding meaningBy designator choose
   at-whole c =
       at-row (c .before .before .before .before) 2 (c .before .before .before .match .keys3)
-      ∙ rw (find-lower _ _ _ _ _ _ _ (c .before .before .if1 .left) (c .fresh-place .ensures ∙ c .before .find .ensures))
+      ∙ rw (find-lower _ _ _ _ _ _ _ (c .before .before .if1 .left)
+      (c .fresh-place .ensures ∙ c .before .find .ensures))
 
   at-record : (c : eval-lts.After-whole (eval-claims t) (eval-at t) eval.Post) →
       let m = c .before .before .before .before .before .before in worth m ≡ held m (field m (c .whole .given .0 .0))
@@ -186,8 +187,11 @@ module _ (t : ℕ) where
       let a = c .before .before .before .before .before .before .before .before .before .args in
       Planned (now (a .image)) (now (a .plan)) × Within (now (a .image)) (c .whole .given .0 .0)
   at-record-within c =
-      let s = c .before .before .before .before .before .before .before .before .before .pre .1 in
-      (s .planned, find-within s _ _ (sym (c .before .before .fresh-place .ensures ∙ c .before .before .before .find .ensures) ∙ c .whole .given .1))
+      let s = c .before .before .before .before .before .before .before .before .before .pre .1 in (
+        s .planned,
+        find-within s _ _ (sym (c .before .before .fresh-place .ensures
+            ∙ c .before .before .before .find .ensures) ∙ c .whole .given .1),
+      )
 
   -- an element: the array, and then the index
   at-list : (c : eval-lts.After-fresh-place3 (eval-claims t) (eval-at t) eval.Post) →
@@ -196,7 +200,8 @@ module _ (t : ℕ) where
   unfolding meaningBy designator choose
   at-list c =
       at-row (c .before .before .before .before) 3 (c .before .before .before .match .keys4)
-      ∙ rw (find-lower _ _ _ _ _ _ _ (c .before .before .if2 .left) (c .fresh-place3 .ensures ∙ c .before .find2 .ensures))
+      ∙ rw (find-lower _ _ _ _ _ _ _ (c .before .before .if2 .left)
+      (c .fresh-place3 .ensures ∙ c .before .find2 .ensures))
 
   at-array : (c : eval-lts.After-list (eval-claims t) (eval-at t) eval.Post) →
       let m = c .before .before .before .before .before .before in
@@ -209,15 +214,19 @@ module _ (t : ℕ) where
       let a = c .before .before .before .before .before .before .before .before .before .args in
       Planned (now (a .image)) (now (a .plan)) × Within (now (a .image)) (c .list .given .0 .0)
   at-array-within c =
-      let s = c .before .before .before .before .before .before .before .before .before .pre .1 in
-      (s .planned, find-within s _ _ (sym (c .before .before .fresh-place3 .ensures ∙ c .before .before .before .find2 .ensures) ∙ c .list .given .1))
+      let s = c .before .before .before .before .before .before .before .before .before .pre .1 in (
+        s .planned,
+        find-within s _ _ (sym (c .before .before .fresh-place3 .ensures
+            ∙ c .before .before .before .find2 .ensures) ∙ c .list .given .1),
+      )
 
   at-index : (c : eval-lts.After-fresh3 (eval-claims t) (eval-at t) eval.Post) →
       let l = c .before .before .before .before in
       let m = l .before .before .before .before .before .before in
       worth m ≡ held m (element m (c .fresh3 .result) (l .list .given .0 .0))
   at-index c =
-      at-array (c .before .before .before .before) ∙ rw (eval-lower _ _ _ _ _ _ _ (c .before .before .if3 .left) (c .fresh3 .ensures ∙ c .before .eval .ensures))
+      at-array (c .before .before .before .before) ∙ rw (eval-lower _ _ _ _ _ _ _ (c .before .before .if3 .left)
+      (c .fresh3 .ensures ∙ c .before .eval .ensures))
 
   -- a dyadic operator: the left operand, and then the right one
   at-left : (c : eval-lts.After-fresh6 (eval-claims t) (eval-at t) eval.Post) →
@@ -234,7 +243,8 @@ module _ (t : ℕ) where
   at-operator c = at-left (c .before .before) ∙ bind-value (c .left .given .1) _
 
   at-right : (c : eval-lts.After-fresh7 (eval-claims t) (eval-at t) eval.Post) →
-      let l = c .before .before .before .before .before .before in let m = l .before .before .before .before .before .before in
+      let l = c .before .before .before .before .before .before in
+      let m = l .before .before .before .before .before .before in
       worth m ≡ bind (c .fresh7 .result) (λ right. dyadicOf (row m .c) (l .left .given .0 .0) right)
   unfolding appliedTo choose
   at-right c =
@@ -247,7 +257,8 @@ module _ (t : ℕ) where
 
   -- a monadic operator
   at-operand : (c : eval-lts.After-fresh9 (eval-claims t) (eval-at t) eval.Post) →
-      let m = c .before .before .before .before in worth m ≡ bind (c .fresh9 .result) (λ operand. monadicOf (row m .c) operand)
+      let m = c .before .before .before .before in
+      worth m ≡ bind (c .fresh9 .result) (λ operand. monadicOf (row m .c) operand)
   unfolding meaningBy choose
   at-operand c =
       at-row (c .before .before .before .before) 6 (c .before .before .before .match .keys7)
@@ -595,7 +606,8 @@ module _ (t : ℕ) where
   unfolding meaningBy designator choose
   f-whole c =
       f-row (c .before .before .before .before) 2 (c .before .before .before .match .keys2)
-      ∙ rw (find-lower _ _ _ _ _ _ _ (c .before .before .if1 .left) (c .fresh-place .ensures ∙ c .before .find .ensures))
+      ∙ rw (find-lower _ _ _ _ _ _ _ (c .before .before .if1 .left)
+      (c .fresh-place .ensures ∙ c .before .find .ensures))
 
   f-record : (c : find-lts.After-whole (find-claims t) (find-at t) find.Post) →
       let m = c .before .before .before .before .before .before in found m ≡ fieldF m (c .whole .given .0 .0)
@@ -607,16 +619,21 @@ module _ (t : ℕ) where
       let a = c .before .before .before .before .before .before .before .before .before .args in
       Planned (now (a .image)) (now (a .plan)) × Within (now (a .image)) (c .whole .given .0 .0)
   f-record-within c =
-      let s = c .before .before .before .before .before .before .before .before .before .pre .1 in
-      (s .planned, find-within s _ _ (sym (c .before .before .fresh-place .ensures ∙ c .before .before .before .find .ensures) ∙ c .whole .given .1))
+      let s = c .before .before .before .before .before .before .before .before .before .pre .1 in (
+        s .planned,
+        find-within s _ _ (sym (c .before .before .fresh-place .ensures
+            ∙ c .before .before .before .find .ensures) ∙ c .whole .given .1),
+      )
 
   -- an element: the array, and then the index
   f-list : (c : find-lts.After-fresh-place3 (find-claims t) (find-at t) find.Post) →
-      let m = c .before .before .before .before in found m ≡ reach (c .fresh-place3 .result) (elementF m (lowF m (rowF m .b) .value))
+      let m = c .before .before .before .before in
+      found m ≡ reach (c .fresh-place3 .result) (elementF m (lowF m (rowF m .b) .value))
   unfolding meaningBy designator choose
   f-list c =
       f-row (c .before .before .before .before) 3 (c .before .before .before .match .keys3)
-      ∙ rw (find-lower _ _ _ _ _ _ _ (c .before .before .if2 .left) (c .fresh-place3 .ensures ∙ c .before .find2 .ensures))
+      ∙ rw (find-lower _ _ _ _ _ _ _ (c .before .before .if2 .left)
+      (c .fresh-place3 .ensures ∙ c .before .find2 .ensures))
 
   f-array : (c : find-lts.After-list (find-claims t) (find-at t) find.Post) →
       let m = c .before .before .before .before .before .before in
@@ -629,15 +646,19 @@ module _ (t : ℕ) where
       let a = c .before .before .before .before .before .before .before .before .before .args in
       Planned (now (a .image)) (now (a .plan)) × Within (now (a .image)) (c .list .given .0 .0)
   f-array-within c =
-      let s = c .before .before .before .before .before .before .before .before .before .pre .1 in
-      (s .planned, find-within s _ _ (sym (c .before .before .fresh-place3 .ensures ∙ c .before .before .before .find2 .ensures) ∙ c .list .given .1))
+      let s = c .before .before .before .before .before .before .before .before .before .pre .1 in (
+        s .planned,
+        find-within s _ _ (sym (c .before .before .fresh-place3 .ensures
+            ∙ c .before .before .before .find2 .ensures) ∙ c .list .given .1),
+      )
 
   f-index : (c : find-lts.After-fresh (find-claims t) (find-at t) find.Post) →
       let l = c .before .before .before .before in
       let m = l .before .before .before .before .before .before in
       found m ≡ elementF m (c .fresh .result) (l .list .given .0 .0)
   f-index c =
-      f-array (c .before .before .before .before) ∙ rw (eval-lower _ _ _ _ _ _ _ (c .before .before .if3 .left) (c .fresh .ensures ∙ c .before .eval .ensures))
+      f-array (c .before .before .before .before) ∙ rw (eval-lower _ _ _ _ _ _ _ (c .before .before .if3 .left)
+      (c .fresh .ensures ∙ c .before .eval .ensures))
 
 find-node-at-requires : (t : ℕ) → find-lts.Need-node-at-requires (find-claims t) (find-at t) find.Post
 find-node-at-requires t c κs = search needs

@@ -66,7 +66,8 @@ returns-2 c = λ output.
     let before = c .before .before .before .before .before .before in
     shows-place _ (before .before .before .before .before .locate .ensures) (before .before .before .found .given .1)
     (shows-yes _ (le-leb _ 2 (before .if1 .taken))
-    (shows-lost-value _ (c .before .before .before .fresh .ensures ∙ c .before .before .before .before .eval .ensures) (c .before .before .match2 .keys2)
+    (shows-lost-value _ (c .before .before .before .fresh .ensures ∙ c .before .before .before .before .eval .ensures)
+    (c .before .before .match2 .keys2)
     (c .before .lost-value .ensures) (c .ended-by2 .ensures)))
 
 number-of-requires : tie.Need-number-of-requires
@@ -86,7 +87,8 @@ returns-3 c = λ output.
     let fits : SFits w64 (number .number-of .result) = search needs in
     shows-place _ (before .before .before .before .before .locate .ensures) (before .before .before .found .given .1)
     (shows-yes _ (le-leb _ 2 (before .if1 .taken))
-    (shows-value _ (number .before .before .before .before .fresh .ensures ∙ number .before .before .before .before .before .eval .ensures) (number .before .before .answer .given .1)
+    (shows-value _ (number .before .before .before .before .fresh .ensures
+    ∙ number .before .before .before .before .before .eval .ensures) (number .before .before .answer .given .1)
     (rw (plain64 _ fits, number .number-of .ensures) at (c .before .write-cell .ensures output))))
 
 find-requires : tie.Need-find-requires
@@ -113,7 +115,9 @@ returns-4 c = λ output.
     let before = c .before .before .before .before .before .before in
     shows-place _ (before .before .before .before .before .locate .ensures) (before .before .before .found .given .1)
     (shows-no _ (lt-leb _ 2 (before .if1 .left))
-    (shows-lost-place _ (c .before .before .before .fresh-place .ensures ∙ c .before .before .before .before .find .ensures) (c .before .before .match3 .keys2)
+    (shows-lost-place _ (c .before .before .before .fresh-place .ensures
+    ∙ c .before .before .before .before .find .ensures)
+    (c .before .before .match3 .keys2)
     (c .before .lost-place2 .ensures) (c .ended-by3 .ensures)))
 
 copy-object-requires : tie.Need-copy-object-requires
@@ -129,7 +133,8 @@ copy-object-requires c κs =
       start .pre .2,
       find-within stands _ _ (sym (first .locate .ensures)
           ∙ second .before .before .before .before .before .found .given .1),
-      find-within stands _ _ (sym (second .fresh-place .ensures ∙ second .before .find .ensures) ∙ c .before .before .origin .given .1),
+      find-within stands _ _ (sym (second .fresh-place .ensures ∙ second .before .find .ensures)
+          ∙ c .before .before .origin .given .1),
     )
 
 same-length-5 : tie.Need-same-length-5
