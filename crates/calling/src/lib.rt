@@ -112,7 +112,7 @@ fn pass_value(
 {
     let base = s.base;
     let top = s.top;
-    let answer = finding::eval(image, plan, store, base, top, k);
+    let answer = finding::fresh(finding::eval(image, plan, store, base, top, k));
     let Answer::Val(value) = answer else {
         return lost_value(answer);
     };

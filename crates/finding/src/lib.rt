@@ -20,6 +20,39 @@ ghost use Rattle.access.specs.Ready.{Planned};
 ghost use Rattle.finding.specs.Standing.{Standing, Within};
 ghost use Rattle.finding.specs.Missed.{noPlace, noValue};
 
+// ---- answers of calls
+
+// A call leaves its answer in memory, byte by byte. These two read it as it was written and put it together again: a
+// copy that reads wider than was written would wait for memory.
+
+pub fn fresh(x: Answer) -> Answer
+    ensures { λ r. ⌜ r ≡ x ⌝ }
+{
+    match x {
+        Answer::Val(v) => match v {
+            Value::Bool(p) => Answer::Val(Value::Bool(p)),
+            Value::Int(z) => Answer::Val(Value::Int(z)),
+            Value::Set(s) => Answer::Val(Value::Set(s)),
+        },
+        Answer::Trap(t) => Answer::Trap(t),
+        Answer::Stuck => Answer::Stuck,
+    }
+}
+
+pub fn fresh_place(x: Found) -> Found
+    ensures { λ r. ⌜ r ≡ x ⌝ }
+{
+    match x {
+        Found::At(place) => Found::At(Place {
+            address: place.address,
+            declared: place.declared,
+            dynamic: place.dynamic,
+        }),
+        Found::Trap(t) => Found::Trap(t),
+        Found::Stuck => Found::Stuck,
+    }
+}
+
 // ---- a trap in an operand
 
 // A value's trap, where an object was sought.
@@ -212,25 +245,25 @@ pub fn find(image: &[u8], plan: &[u32], store: &[i64], base: u32, top: u32, r: u
             if r <= first {
                 return Found::Stuck;
             }
-            let whole = find(image, plan, store, base, top, first);
+            let whole = fresh_place(find(image, plan, store, base, top, first));
             let Found::At(owner) = whole else {
                 return whole;
             };
-            field_place(image, plan, owner, b)
+            fresh_place(field_place(image, plan, owner, b))
         }
         3 => {
             if r <= first {
                 return Found::Stuck;
             }
-            let list = find(image, plan, store, base, top, first);
+            let list = fresh_place(find(image, plan, store, base, top, first));
             let Found::At(array) = list else {
                 return list;
             };
             if r <= second {
                 return Found::Stuck;
             }
-            let index = eval(image, plan, store, base, top, second);
-            array_place(image, plan, array, index)
+            let index = fresh(eval(image, plan, store, base, top, second));
+            fresh_place(array_place(image, plan, array, index))
         }
         4 => {
             let guarded = variable_place(image, plan, store, base, top, a);
@@ -240,7 +273,7 @@ pub fn find(image: &[u8], plan: &[u32], store: &[i64], base: u32, top: u32, r: u
             if r <= first {
                 return Found::Stuck;
             }
-            find(image, plan, store, base, top, first)
+            fresh_place(find(image, plan, store, base, top, first))
         }
         _ => Found::Stuck,
     }
@@ -262,44 +295,44 @@ pub fn eval(image: &[u8], plan: &[u32], store: &[i64], base: u32, top: u32, r: u
         0 => values::constant(a, b, c),
         1 => {
             let variable = variable_place(image, plan, store, base, top, a);
-            load(store, top, variable)
+            fresh(load(store, top, variable))
         }
         2 => {
             if r <= first {
                 return Answer::Stuck;
             }
-            let whole = find(image, plan, store, base, top, first);
+            let whole = fresh_place(find(image, plan, store, base, top, first));
             let Found::At(owner) = whole else {
                 return no_value(whole);
             };
-            let part = field_place(image, plan, owner, b);
-            load(store, top, part)
+            let part = fresh_place(field_place(image, plan, owner, b));
+            fresh(load(store, top, part))
         }
         3 => {
             if r <= first {
                 return Answer::Stuck;
             }
-            let list = find(image, plan, store, base, top, first);
+            let list = fresh_place(find(image, plan, store, base, top, first));
             let Found::At(array) = list else {
                 return no_value(list);
             };
             if r <= second {
                 return Answer::Stuck;
             }
-            let index = eval(image, plan, store, base, top, second);
-            let element = array_place(image, plan, array, index);
-            load(store, top, element)
+            let index = fresh(eval(image, plan, store, base, top, second));
+            let element = fresh_place(array_place(image, plan, array, index));
+            fresh(load(store, top, element))
         }
         4 => {
             let guarded = variable_place(image, plan, store, base, top, a);
             let narrowed = guard_place(image, plan, guarded, b);
-            load(store, top, narrowed)
+            fresh(load(store, top, narrowed))
         }
         5 => {
             if r <= first {
                 return Answer::Stuck;
             }
-            let left = eval(image, plan, store, base, top, first);
+            let left = fresh(eval(image, plan, store, base, top, first));
             let Answer::Val(x) = left else {
                 return left;
             };
@@ -309,21 +342,21 @@ pub fn eval(image: &[u8], plan: &[u32], store: &[i64], base: u32, top: u32, r: u
             if r <= second {
                 return Answer::Stuck;
             }
-            let right = eval(image, plan, store, base, top, second);
+            let right = fresh(eval(image, plan, store, base, top, second));
             let Answer::Val(y) = right else {
                 return right;
             };
-            operators::dyadic(c, x, y)
+            fresh(operators::dyadic(c, x, y))
         }
         6 => {
             if r <= first {
                 return Answer::Stuck;
             }
-            let operand = eval(image, plan, store, base, top, first);
+            let operand = fresh(eval(image, plan, store, base, top, first));
             let Answer::Val(z) = operand else {
                 return operand;
             };
-            operators::monadic(c, z)
+            fresh(operators::monadic(c, z))
         }
         7 => {
             let tested = variable_place(image, plan, store, base, top, a);
@@ -333,8 +366,22 @@ pub fn eval(image: &[u8], plan: &[u32], store: &[i64], base: u32, top: u32, r: u
             if r <= first {
                 return Answer::Stuck;
             }
-            eval(image, plan, store, base, top, first)
+            fresh(eval(image, plan, store, base, top, first))
         }
         _ => Answer::Stuck,
     }
+}
+
+// The same as find, where most objects are variables: such a one takes no call.
+pub fn locate(image: &[u8], plan: &[u32], store: &[i64], base: u32, top: u32, r: u32) -> Found
+    requires { ⌜ Standing (now image) (now plan) base top (now store) ⌝ }
+    ensures { λ x. ⌜ x ≡ findOf bare (programOf (now (image .entry))) base top (now (store .entry)) r ⌝ }
+{
+    let node = access::node_at(image, plan, r);
+    let kind = node.kind;
+    let a = node.a;
+    if kind == 1 {
+        return variable_place(image, plan, store, base, top, a);
+    }
+    fresh_place(find(image, plan, store, base, top, r))
 }

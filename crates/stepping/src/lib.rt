@@ -112,21 +112,21 @@ fn assign(image: &[u8], plan: &[u32], store: &mut [i64], s: Registers, statement
     let top = s.top;
     let a = statement.a as u32;
     let b = statement.b as u32;
-    let found = finding::find(image, plan, store, base, top, a);
+    let found = finding::locate(image, plan, store, base, top, a);
     let Found::At(target) = found else {
         return calling::ended_by(calling::lost_place(found));
     };
     let address = target.address;
     let declared = target.declared;
     if declared <= 2 {
-        let answer = finding::eval(image, plan, store, base, top, b);
+        let answer = finding::fresh(finding::eval(image, plan, store, base, top, b));
         let Answer::Val(value) = answer else {
             return calling::ended_by(calling::lost_value(answer));
         };
         let number = values::number_of(value);
         return write_cell(store, s, address, number);
     }
-    let origin = finding::find(image, plan, store, base, top, b);
+    let origin = finding::fresh_place(finding::find(image, plan, store, base, top, b));
     let Found::At(source) = origin else {
         return calling::ended_by(calling::lost_place(origin));
     };

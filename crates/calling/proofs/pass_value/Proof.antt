@@ -13,6 +13,9 @@ use Rattle.calling.proofs.pass_value.Tie as tie
 eval-requires : tie.Need-eval-requires
 eval-requires c κs = let first = c .before .before .before in standing (first .pre .0) (first .pre .1)
 
+fresh-requires : tie.Need-fresh-requires
+fresh-requires c κs = search needs
+
 enum-known-answer : tie.Need-enum-known-answer
 enum-known-answer c = search needs
 
@@ -24,7 +27,7 @@ same-length c = search needs
 
 returns : tie.Need-returns
 returns c = λ output.
-    rw (c .lost-value .ensures, ← c .before .before .eval .ensures)
+    rw (c .lost-value .ensures, ← (c .before .before .fresh .ensures ∙ c .before .before .before .eval .ensures))
     (value-lost _ _ _ (c .before .match .keys2))
 
 number-of-requires : tie.Need-number-of-requires
@@ -55,8 +58,9 @@ returns-2 : tie.Need-returns-2
 unfolding bare
 returns-2 c =
     let q = c .before .before .before .before .before in
-    let first = q .before .before .before .before .before .before in
-    let found = sym (q .before .before .eval .ensures) ∙ q .answer .given .1 in
+    let first = q .before .before .before .before .before .before .before in
+    let found = sym (q .before .before .fresh .ensures ∙ q .before .before .before .eval .ensures)
+    ∙ q .answer .given .1 in
     let n = c .before .before .before .number-of in
     let e = rw (plain64 (n .result) (search needs), n .ensures) at (c .before .put .ensures) in
     λ output.
@@ -68,6 +72,7 @@ pass-value-spec =
     tie.close
     (tie.spec
     eval-requires
+    fresh-requires
     enum-known-answer
     lost-value-requires
     same-length

@@ -34,6 +34,8 @@ use Rattle.finding.proofs.+eval+find.Lts-find as find-lts
 use Rattle.access.proofs.node_at.Reads as node-at-reads
 use Rattle.finding.proofs.array_place.Reads as array-place-reads
 use Rattle.finding.proofs.field_place.Reads as field-place-reads
+use Rattle.finding.proofs.fresh.Reads as fresh-reads
+use Rattle.finding.proofs.fresh_place.Reads as fresh-place-reads
 use Rattle.finding.proofs.guard_place.Reads as guard-place-reads
 use Rattle.finding.proofs.load.Reads as load-reads
 use Rattle.finding.proofs.no_value.Reads as no-value-reads
@@ -74,8 +76,12 @@ eval-claims t = (
   variable-place-reads.Learnt,
   load-reads.Asked,
   load-reads.Learnt,
+  fresh-reads.Asked,
+  fresh-reads.Learnt,
   below-find t,
   find.Post,
+  fresh-place-reads.Asked,
+  fresh-place-reads.Learnt,
   no-value-reads.Asked,
   no-value-reads.Learnt,
   field-place-reads.Asked,
@@ -104,10 +110,14 @@ find-claims t = (
   variable-place-reads.Learnt,
   below-find t,
   find.Post,
+  fresh-place-reads.Asked,
+  fresh-place-reads.Learnt,
   field-place-reads.Asked,
   field-place-reads.Learnt,
   below-eval t,
   eval.Post,
+  fresh-reads.Asked,
+  fresh-reads.Learnt,
   array-place-reads.Asked,
   array-place-reads.Learnt,
   guard-place-reads.Asked,
@@ -159,89 +169,100 @@ module _ (t : ℕ) where
   at-row m kind e = eval-row _ _ _ _ _ _ (row m) (m .node-at .ensures) kind e
 
   -- a field: the record
-  at-whole : (c : eval-lts.After-find (eval-claims t) (eval-at t) eval.Post) →
-      let m = c .before .before .before in worth m ≡ held m (reach (c .find .result) (field m))
+  at-whole : (c : eval-lts.After-fresh-place (eval-claims t) (eval-at t) eval.Post) →
+      let m = c .before .before .before .before in worth m ≡ held m (reach (c .fresh-place .result) (field m))
   unfolding meaningBy designator choose
   at-whole c =
-      at-row (c .before .before .before) 2 (c .before .before .match .keys3)
-      ∙ rw (find-lower _ _ _ _ _ _ _ (c .before .if1 .left) (c .find .ensures))
+      at-row (c .before .before .before .before) 2 (c .before .before .before .match .keys3)
+      ∙ rw (find-lower _ _ _ _ _ _ _ (c .before .before .if1 .left)
+      (c .fresh-place .ensures ∙ c .before .find .ensures))
 
   at-record : (c : eval-lts.After-whole (eval-claims t) (eval-at t) eval.Post) →
-      let m = c .before .before .before .before .before in worth m ≡ held m (field m (c .whole .given .0 .0))
+      let m = c .before .before .before .before .before .before in worth m ≡ held m (field m (c .whole .given .0 .0))
   unfolding reach
   at-record c =
       at-whole (c .before .before) ∙ rw (c .whole .given .1)
 
   at-record-within : (c : eval-lts.After-whole (eval-claims t) (eval-at t) eval.Post) →
-      let a = c .before .before .before .before .before .before .before .before .args in
+      let a = c .before .before .before .before .before .before .before .before .before .args in
       Planned (now (a .image)) (now (a .plan)) × Within (now (a .image)) (c .whole .given .0 .0)
   at-record-within c =
-      let s = c .before .before .before .before .before .before .before .before .pre .1 in
-      (s .planned, find-within s _ _ (sym (c .before .before .find .ensures) ∙ c .whole .given .1))
+      let s = c .before .before .before .before .before .before .before .before .before .pre .1 in (
+        s .planned,
+        find-within s _ _ (sym (c .before .before .fresh-place .ensures
+            ∙ c .before .before .before .find .ensures) ∙ c .whole .given .1),
+      )
 
   -- an element: the array, and then the index
-  at-list : (c : eval-lts.After-find2 (eval-claims t) (eval-at t) eval.Post) →
-      let m = c .before .before .before in
-      worth m ≡ held m (reach (c .find2 .result) (element m (low m (row m .b) .value)))
+  at-list : (c : eval-lts.After-fresh-place3 (eval-claims t) (eval-at t) eval.Post) →
+      let m = c .before .before .before .before in
+      worth m ≡ held m (reach (c .fresh-place3 .result) (element m (low m (row m .b) .value)))
   unfolding meaningBy designator choose
   at-list c =
-      at-row (c .before .before .before) 3 (c .before .before .match .keys4)
-      ∙ rw (find-lower _ _ _ _ _ _ _ (c .before .if2 .left) (c .find2 .ensures))
+      at-row (c .before .before .before .before) 3 (c .before .before .before .match .keys4)
+      ∙ rw (find-lower _ _ _ _ _ _ _ (c .before .before .if2 .left)
+      (c .fresh-place3 .ensures ∙ c .before .find2 .ensures))
 
   at-array : (c : eval-lts.After-list (eval-claims t) (eval-at t) eval.Post) →
-      let m = c .before .before .before .before .before in
+      let m = c .before .before .before .before .before .before in
       worth m ≡ held m (element m (low m (row m .b) .value) (c .list .given .0 .0))
   unfolding reach
   at-array c =
       at-list (c .before .before) ∙ rw (c .list .given .1)
 
   at-array-within : (c : eval-lts.After-list (eval-claims t) (eval-at t) eval.Post) →
-      let a = c .before .before .before .before .before .before .before .before .args in
+      let a = c .before .before .before .before .before .before .before .before .before .args in
       Planned (now (a .image)) (now (a .plan)) × Within (now (a .image)) (c .list .given .0 .0)
   at-array-within c =
-      let s = c .before .before .before .before .before .before .before .before .pre .1 in
-      (s .planned, find-within s _ _ (sym (c .before .before .find2 .ensures) ∙ c .list .given .1))
+      let s = c .before .before .before .before .before .before .before .before .before .pre .1 in (
+        s .planned,
+        find-within s _ _ (sym (c .before .before .fresh-place3 .ensures
+            ∙ c .before .before .before .find2 .ensures) ∙ c .list .given .1),
+      )
 
-  at-index : (c : eval-lts.After-eval (eval-claims t) (eval-at t) eval.Post) →
-      let l = c .before .before .before in
-      let m = l .before .before .before .before .before in
-      worth m ≡ held m (element m (c .eval .result) (l .list .given .0 .0))
+  at-index : (c : eval-lts.After-fresh3 (eval-claims t) (eval-at t) eval.Post) →
+      let l = c .before .before .before .before in
+      let m = l .before .before .before .before .before .before in
+      worth m ≡ held m (element m (c .fresh3 .result) (l .list .given .0 .0))
   at-index c =
-      at-array (c .before .before .before) ∙ rw (eval-lower _ _ _ _ _ _ _ (c .before .if3 .left) (c .eval .ensures))
+      at-array (c .before .before .before .before) ∙ rw (eval-lower _ _ _ _ _ _ _ (c .before .before .if3 .left)
+      (c .fresh3 .ensures ∙ c .before .eval .ensures))
 
   -- a dyadic operator: the left operand, and then the right one
-  at-left : (c : eval-lts.After-eval2 (eval-claims t) (eval-at t) eval.Post) →
-      let m = c .before .before .before in
-      worth m ≡ bind (c .eval2 .result) (λ left. appliedTo (row m .c) left (low m (row m .b) .value))
+  at-left : (c : eval-lts.After-fresh6 (eval-claims t) (eval-at t) eval.Post) →
+      let m = c .before .before .before .before in
+      worth m ≡ bind (c .fresh6 .result) (λ left. appliedTo (row m .c) left (low m (row m .b) .value))
   unfolding meaningBy choose
   at-left c =
-      at-row (c .before .before .before) 5 (c .before .before .match .keys6)
-      ∙ rw (eval-lower _ _ _ _ _ _ _ (c .before .if4 .left) (c .eval2 .ensures))
+      at-row (c .before .before .before .before) 5 (c .before .before .before .match .keys6)
+      ∙ rw (eval-lower _ _ _ _ _ _ _ (c .before .before .if4 .left) (c .fresh6 .ensures ∙ c .before .eval2 .ensures))
 
   at-operator : (c : eval-lts.After-left (eval-claims t) (eval-at t) eval.Post) →
-      let m = c .before .before .before .before .before in
+      let m = c .before .before .before .before .before .before in
       worth m ≡ appliedTo (row m .c) (c .left .given .0 .0) (low m (row m .b) .value)
   at-operator c = at-left (c .before .before) ∙ bind-value (c .left .given .1) _
 
-  at-right : (c : eval-lts.After-eval3 (eval-claims t) (eval-at t) eval.Post) →
-      let l = c .before .before .before .before .before in let m = l .before .before .before .before .before in
-      worth m ≡ bind (c .eval3 .result) (λ right. dyadicOf (row m .c) (l .left .given .0 .0) right)
+  at-right : (c : eval-lts.After-fresh7 (eval-claims t) (eval-at t) eval.Post) →
+      let l = c .before .before .before .before .before .before in
+      let m = l .before .before .before .before .before .before in
+      worth m ≡ bind (c .fresh7 .result) (λ right. dyadicOf (row m .c) (l .left .given .0 .0) right)
   unfolding appliedTo choose
   at-right c =
-      at-operator (c .before .before .before .before .before)
+      at-operator (c .before .before .before .before .before .before)
       ∙ rw (
-        ← c .before .before .before .decides .ensures,
-        c .before .before .if5 .left,
-        eval-lower _ _ _ _ _ _ _ (c .before .if6 .left) (c .eval3 .ensures),
+        ← c .before .before .before .before .decides .ensures,
+        c .before .before .before .if5 .left,
+        eval-lower _ _ _ _ _ _ _ (c .before .before .if6 .left) (c .fresh7 .ensures ∙ c .before .eval3 .ensures),
       )
 
   -- a monadic operator
-  at-operand : (c : eval-lts.After-eval4 (eval-claims t) (eval-at t) eval.Post) →
-      let m = c .before .before .before in worth m ≡ bind (c .eval4 .result) (λ operand. monadicOf (row m .c) operand)
+  at-operand : (c : eval-lts.After-fresh9 (eval-claims t) (eval-at t) eval.Post) →
+      let m = c .before .before .before .before in
+      worth m ≡ bind (c .fresh9 .result) (λ operand. monadicOf (row m .c) operand)
   unfolding meaningBy choose
   at-operand c =
-      at-row (c .before .before .before) 6 (c .before .before .match .keys7)
-      ∙ rw (eval-lower _ _ _ _ _ _ _ (c .before .if7 .left) (c .eval4 .ensures))
+      at-row (c .before .before .before .before) 6 (c .before .before .before .match .keys7)
+      ∙ rw (eval-lower _ _ _ _ _ _ _ (c .before .before .if7 .left) (c .fresh9 .ensures ∙ c .before .eval4 .ensures))
 
 eval-node-at-requires : (t : ℕ) → eval-lts.Need-node-at-requires (eval-claims t) (eval-at t) eval.Post
 eval-node-at-requires t c κs = search needs
@@ -261,6 +282,9 @@ eval-variable-place-requires t c κs = search needs
 eval-load-requires : (t : ℕ) → eval-lts.Need-load-requires (eval-claims t) (eval-at t) eval.Post
 eval-load-requires t c κs = search needs
 
+eval-fresh-requires : (t : ℕ) → eval-lts.Need-fresh-requires (eval-claims t) (eval-at t) eval.Post
+eval-fresh-requires t c κs = search needs
+
 eval-returns : (t : ℕ) → eval-lts.Need-returns (eval-claims t) (eval-at t) eval.Post
 unfolding meaningBy designator choose content reach
 eval-returns t c =
@@ -268,6 +292,9 @@ eval-returns t c =
 
 eval-find-requires : (t : ℕ) → eval-lts.Need-find-requires (eval-claims t) (eval-at t) eval.Post
 eval-find-requires t c κs = search needs
+
+eval-fresh-place-requires : (t : ℕ) → eval-lts.Need-fresh-place-requires (eval-claims t) (eval-at t) eval.Post
+eval-fresh-place-requires t c κs = search needs
 
 eval-enum-known-whole : (t : ℕ) → eval-lts.Need-enum-known-whole (eval-claims t) (eval-at t) eval.Post
 eval-enum-known-whole t c = search needs
@@ -279,7 +306,7 @@ eval-returns-2 : (t : ℕ) → eval-lts.Need-returns-2 (eval-claims t) (eval-at 
 eval-returns-2 t c =
     c .no-value .ensures
     ∙ sym (at-whole t (c .before .before)
-    ∙ ap (λ (x : Found). held t (c .before .before .before .before .before) x)
+    ∙ ap (λ (x : Found). held t (c .before .before .before .before .before .before) x)
     (reach-other _ (c .before .match2 .keys2) _)
     ∙ content-other _ (c .before .match2 .keys2) _)
 
@@ -287,8 +314,14 @@ eval-field-place-requires : (t : ℕ) → eval-lts.Need-field-place-requires (ev
 eval-field-place-requires t c κs =
     at-record-within t (c .before)
 
+eval-fresh-place-requires-2 : (t : ℕ) → eval-lts.Need-fresh-place-requires-2 (eval-claims t) (eval-at t) eval.Post
+eval-fresh-place-requires-2 t c κs = search needs
+
 eval-load-requires-2 : (t : ℕ) → eval-lts.Need-load-requires-2 (eval-claims t) (eval-at t) eval.Post
 eval-load-requires-2 t c κs = search needs
+
+eval-fresh-requires-2 : (t : ℕ) → eval-lts.Need-fresh-requires-2 (eval-claims t) (eval-at t) eval.Post
+eval-fresh-requires-2 t c κs = search needs
 
 eval-returns-3 : (t : ℕ) → eval-lts.Need-returns-3 (eval-claims t) (eval-at t) eval.Post
 unfolding meaningBy designator choose content reach
@@ -297,6 +330,9 @@ eval-returns-3 t c =
 
 eval-find-requires-2 : (t : ℕ) → eval-lts.Need-find-requires-2 (eval-claims t) (eval-at t) eval.Post
 eval-find-requires-2 t c κs = search needs
+
+eval-fresh-place-requires-3 : (t : ℕ) → eval-lts.Need-fresh-place-requires-3 (eval-claims t) (eval-at t) eval.Post
+eval-fresh-place-requires-3 t c κs = search needs
 
 eval-enum-known-list : (t : ℕ) → eval-lts.Need-enum-known-list (eval-claims t) (eval-at t) eval.Post
 eval-enum-known-list t c = search needs
@@ -308,7 +344,7 @@ eval-returns-4 : (t : ℕ) → eval-lts.Need-returns-4 (eval-claims t) (eval-at 
 eval-returns-4 t c =
     c .no-value2 .ensures
     ∙ sym (at-list t (c .before .before)
-    ∙ ap (λ (x : Found). held t (c .before .before .before .before .before) x)
+    ∙ ap (λ (x : Found). held t (c .before .before .before .before .before .before) x)
     (reach-other _ (c .before .match3 .keys2) _)
     ∙ content-other _ (c .before .match3 .keys2) _)
 
@@ -320,12 +356,23 @@ eval-returns-5 t c =
 eval-eval-requires : (t : ℕ) → eval-lts.Need-eval-requires (eval-claims t) (eval-at t) eval.Post
 eval-eval-requires t c κs = search needs
 
+eval-fresh-requires-3 : (t : ℕ) → eval-lts.Need-fresh-requires-3 (eval-claims t) (eval-at t) eval.Post
+eval-fresh-requires-3 t c κs = search needs
+
 eval-array-place-requires : (t : ℕ) → eval-lts.Need-array-place-requires (eval-claims t) (eval-at t) eval.Post
 eval-array-place-requires t c κs =
-    at-array-within t (c .before .before .before)
+    at-array-within t (c .before .before .before .before)
+
+eval-fresh-place-requires-4 : (t : ℕ) → eval-lts.Need-fresh-place-requires-4 (eval-claims t) (eval-at t) eval.Post
+eval-fresh-place-requires-4 t c κs = search needs
 
 eval-load-requires-3 : (t : ℕ) → eval-lts.Need-load-requires-3 (eval-claims t) (eval-at t) eval.Post
-eval-load-requires-3 t c κs = search needs
+eval-load-requires-3 t c κs =
+    let l = c .before .before .before .before .before .before in
+    l .before .before .before .before .before .before .before .before .before .pre .1 .stored
+
+eval-fresh-requires-4 : (t : ℕ) → eval-lts.Need-fresh-requires-4 (eval-claims t) (eval-at t) eval.Post
+eval-fresh-requires-4 t c κs = search needs
 
 eval-variable-place-requires-2 : (t : ℕ) → eval-lts.Need-variable-place-requires-2 (eval-claims t) (eval-at t) eval.Post
 eval-variable-place-requires-2 t c κs = search needs
@@ -336,6 +383,9 @@ eval-guard-place-requires t c κs = search needs
 eval-load-requires-4 : (t : ℕ) → eval-lts.Need-load-requires-4 (eval-claims t) (eval-at t) eval.Post
 eval-load-requires-4 t c κs = search needs
 
+eval-fresh-requires-5 : (t : ℕ) → eval-lts.Need-fresh-requires-5 (eval-claims t) (eval-at t) eval.Post
+eval-fresh-requires-5 t c κs = search needs
+
 eval-returns-6 : (t : ℕ) → eval-lts.Need-returns-6 (eval-claims t) (eval-at t) eval.Post
 unfolding meaningBy choose bind
 eval-returns-6 t c =
@@ -343,6 +393,9 @@ eval-returns-6 t c =
 
 eval-eval-requires-2 : (t : ℕ) → eval-lts.Need-eval-requires-2 (eval-claims t) (eval-at t) eval.Post
 eval-eval-requires-2 t c κs = search needs
+
+eval-fresh-requires-6 : (t : ℕ) → eval-lts.Need-fresh-requires-6 (eval-claims t) (eval-at t) eval.Post
+eval-fresh-requires-6 t c κs = search needs
 
 eval-enum-known-left : (t : ℕ) → eval-lts.Need-enum-known-left (eval-claims t) (eval-at t) eval.Post
 eval-enum-known-left t c = search needs
@@ -371,6 +424,9 @@ eval-returns-9 t c =
 eval-eval-requires-3 : (t : ℕ) → eval-lts.Need-eval-requires-3 (eval-claims t) (eval-at t) eval.Post
 eval-eval-requires-3 t c κs = search needs
 
+eval-fresh-requires-7 : (t : ℕ) → eval-lts.Need-fresh-requires-7 (eval-claims t) (eval-at t) eval.Post
+eval-fresh-requires-7 t c κs = search needs
+
 eval-enum-known-right : (t : ℕ) → eval-lts.Need-enum-known-right (eval-claims t) (eval-at t) eval.Post
 eval-enum-known-right t c = search needs
 
@@ -381,6 +437,9 @@ eval-returns-10 t c =
 eval-dyadic-requires : (t : ℕ) → eval-lts.Need-dyadic-requires (eval-claims t) (eval-at t) eval.Post
 eval-dyadic-requires t c κs = search needs
 
+eval-fresh-requires-8 : (t : ℕ) → eval-lts.Need-fresh-requires-8 (eval-claims t) (eval-at t) eval.Post
+eval-fresh-requires-8 t c κs = search needs
+
 eval-returns-11 : (t : ℕ) → eval-lts.Need-returns-11 (eval-claims t) (eval-at t) eval.Post
 unfolding meaningBy choose bind
 eval-returns-11 t c =
@@ -388,6 +447,9 @@ eval-returns-11 t c =
 
 eval-eval-requires-4 : (t : ℕ) → eval-lts.Need-eval-requires-4 (eval-claims t) (eval-at t) eval.Post
 eval-eval-requires-4 t c κs = search needs
+
+eval-fresh-requires-9 : (t : ℕ) → eval-lts.Need-fresh-requires-9 (eval-claims t) (eval-at t) eval.Post
+eval-fresh-requires-9 t c κs = search needs
 
 eval-enum-known-operand : (t : ℕ) → eval-lts.Need-enum-known-operand (eval-claims t) (eval-at t) eval.Post
 eval-enum-known-operand t c = search needs
@@ -398,6 +460,9 @@ eval-returns-12 t c =
 
 eval-monadic-requires : (t : ℕ) → eval-lts.Need-monadic-requires (eval-claims t) (eval-at t) eval.Post
 eval-monadic-requires t c κs = search needs
+
+eval-fresh-requires-10 : (t : ℕ) → eval-lts.Need-fresh-requires-10 (eval-claims t) (eval-at t) eval.Post
+eval-fresh-requires-10 t c κs = search needs
 
 eval-variable-place-requires-3 : (t : ℕ) → eval-lts.Need-variable-place-requires-3 (eval-claims t) (eval-at t) eval.Post
 eval-variable-place-requires-3 t c κs = search needs
@@ -413,6 +478,9 @@ eval-returns-13 t c =
 eval-eval-requires-5 : (t : ℕ) → eval-lts.Need-eval-requires-5 (eval-claims t) (eval-at t) eval.Post
 eval-eval-requires-5 t c κs = search needs
 
+eval-fresh-requires-11 : (t : ℕ) → eval-lts.Need-fresh-requires-11 (eval-claims t) (eval-at t) eval.Post
+eval-fresh-requires-11 t c κs = search needs
+
 eval-returns-14 : (t : ℕ) → eval-lts.Need-returns-14 (eval-claims t) (eval-at t) eval.Post
 unfolding meaningBy choose
 eval-returns-14 t c =
@@ -421,36 +489,46 @@ eval-returns-14 t c =
 eval-returns-15 : (t : ℕ) → eval-lts.Need-returns-15 (eval-claims t) (eval-at t) eval.Post
 unfolding meaningBy designator choose
 eval-returns-15 t c =
-    c .load .ensures
-    ∙ rw (c .before .variable-place .ensures)
-    (sym (at-row t (c .before .before .before) 1 (c .before .before .match .keys2)))
+    c .fresh .ensures
+    ∙ c .before .load .ensures
+    ∙ rw (c .before .before .variable-place .ensures)
+    (sym (at-row t (c .before .before .before .before) 1 (c .before .before .before .match .keys2)))
 
 eval-returns-16 : (t : ℕ) → eval-lts.Need-returns-16 (eval-claims t) (eval-at t) eval.Post
 eval-returns-16 t c =
-    c .load2 .ensures ∙ rw (c .before .field-place .ensures) (sym (at-record t (c .before .before .before)))
+    c .fresh2 .ensures
+    ∙ c .before .load2 .ensures
+    ∙ rw (c .before .before .fresh-place2 .ensures, c .before .before .before .field-place .ensures)
+    (sym (at-record t (c .before .before .before .before .before)))
 
 eval-returns-17 : (t : ℕ) → eval-lts.Need-returns-17 (eval-claims t) (eval-at t) eval.Post
 eval-returns-17 t c =
-    c .load3 .ensures ∙ rw (c .before .array-place .ensures) (sym (at-index t (c .before .before)))
+    c .fresh4 .ensures
+    ∙ c .before .load3 .ensures
+    ∙ rw (c .before .before .fresh-place4 .ensures, c .before .before .before .array-place .ensures)
+    (sym (at-index t (c .before .before .before .before)))
 
 eval-returns-18 : (t : ℕ) → eval-lts.Need-returns-18 (eval-claims t) (eval-at t) eval.Post
 unfolding meaningBy designator choose
 eval-returns-18 t c =
-    c .load4 .ensures
-    ∙ rw (c .before .guard-place .ensures, c .before .before .variable-place2 .ensures)
-    (sym (at-row t (c .before .before .before .before) 4 (c .before .before .before .match .keys5)))
+    c .fresh5 .ensures
+    ∙ c .before .load4 .ensures
+    ∙ rw (c .before .before .guard-place .ensures, c .before .before .before .variable-place2 .ensures)
+    (sym (at-row t (c .before .before .before .before .before) 4 (c .before .before .before .before .match .keys5)))
 
 eval-returns-19 : (t : ℕ) → eval-lts.Need-returns-19 (eval-claims t) (eval-at t) eval.Post
 eval-returns-19 t c =
-    c .dyadic .ensures
-    ∙ sym (at-right t (c .before .before .before .before)
-    ∙ bind-value (c .before .before .right .given .1) _)
+    c .fresh8 .ensures
+    ∙ c .before .dyadic .ensures
+    ∙ sym (at-right t (c .before .before .before .before .before)
+    ∙ bind-value (c .before .before .before .right .given .1) _)
 
 eval-returns-20 : (t : ℕ) → eval-lts.Need-returns-20 (eval-claims t) (eval-at t) eval.Post
 eval-returns-20 t c =
-    c .monadic .ensures
-    ∙ sym (at-operand t (c .before .before .before .before)
-    ∙ bind-value (c .before .before .operand .given .1) _)
+    c .fresh10 .ensures
+    ∙ c .before .monadic .ensures
+    ∙ sym (at-operand t (c .before .before .before .before .before)
+    ∙ bind-value (c .before .before .before .operand .given .1) _)
 
 eval-returns-21 : (t : ℕ) → eval-lts.Need-returns-21 (eval-claims t) (eval-at t) eval.Post
 unfolding meaningBy choose
@@ -463,8 +541,8 @@ eval-returns-22 : (t : ℕ) → eval-lts.Need-returns-22 (eval-claims t) (eval-a
 unfolding meaningBy choose
 eval-returns-22 t c =
     sym
-    (at-row t (c .before .before .before) 8 (c .before .before .match .keys9)
-    ∙ eval-lower _ _ _ _ _ _ _ (c .before .if8 .left) (c .eval5 .ensures))
+    (at-row t (c .before .before .before .before) 8 (c .before .before .before .match .keys9)
+    ∙ eval-lower _ _ _ _ _ _ _ (c .before .before .if8 .left) (c .fresh11 .ensures ∙ c .before .eval5 .ensures))
 
 eval-returns-23 : (t : ℕ) → eval-lts.Need-returns-23 (eval-claims t) (eval-at t) eval.Post
 unfolding meaningBy choose
@@ -523,54 +601,64 @@ module _ (t : ℕ) where
   f-row m kind e = find-row _ _ _ _ _ _ (rowF m) (m .node-at .ensures) kind e
 
   -- a field: the record
-  f-whole : (c : find-lts.After-find (find-claims t) (find-at t) find.Post) →
-      let m = c .before .before .before in found m ≡ reach (c .find .result) (fieldF m)
+  f-whole : (c : find-lts.After-fresh-place (find-claims t) (find-at t) find.Post) →
+      let m = c .before .before .before .before in found m ≡ reach (c .fresh-place .result) (fieldF m)
   unfolding meaningBy designator choose
   f-whole c =
-      f-row (c .before .before .before) 2 (c .before .before .match .keys2)
-      ∙ rw (find-lower _ _ _ _ _ _ _ (c .before .if1 .left) (c .find .ensures))
+      f-row (c .before .before .before .before) 2 (c .before .before .before .match .keys2)
+      ∙ rw (find-lower _ _ _ _ _ _ _ (c .before .before .if1 .left)
+      (c .fresh-place .ensures ∙ c .before .find .ensures))
 
   f-record : (c : find-lts.After-whole (find-claims t) (find-at t) find.Post) →
-      let m = c .before .before .before .before .before in found m ≡ fieldF m (c .whole .given .0 .0)
+      let m = c .before .before .before .before .before .before in found m ≡ fieldF m (c .whole .given .0 .0)
   unfolding reach
   f-record c =
       f-whole (c .before .before) ∙ rw (c .whole .given .1)
 
   f-record-within : (c : find-lts.After-whole (find-claims t) (find-at t) find.Post) →
-      let a = c .before .before .before .before .before .before .before .before .args in
+      let a = c .before .before .before .before .before .before .before .before .before .args in
       Planned (now (a .image)) (now (a .plan)) × Within (now (a .image)) (c .whole .given .0 .0)
   f-record-within c =
-      let s = c .before .before .before .before .before .before .before .before .pre .1 in
-      (s .planned, find-within s _ _ (sym (c .before .before .find .ensures) ∙ c .whole .given .1))
+      let s = c .before .before .before .before .before .before .before .before .before .pre .1 in (
+        s .planned,
+        find-within s _ _ (sym (c .before .before .fresh-place .ensures
+            ∙ c .before .before .before .find .ensures) ∙ c .whole .given .1),
+      )
 
   -- an element: the array, and then the index
-  f-list : (c : find-lts.After-find2 (find-claims t) (find-at t) find.Post) →
-      let m = c .before .before .before in found m ≡ reach (c .find2 .result) (elementF m (lowF m (rowF m .b) .value))
+  f-list : (c : find-lts.After-fresh-place3 (find-claims t) (find-at t) find.Post) →
+      let m = c .before .before .before .before in
+      found m ≡ reach (c .fresh-place3 .result) (elementF m (lowF m (rowF m .b) .value))
   unfolding meaningBy designator choose
   f-list c =
-      f-row (c .before .before .before) 3 (c .before .before .match .keys3)
-      ∙ rw (find-lower _ _ _ _ _ _ _ (c .before .if2 .left) (c .find2 .ensures))
+      f-row (c .before .before .before .before) 3 (c .before .before .before .match .keys3)
+      ∙ rw (find-lower _ _ _ _ _ _ _ (c .before .before .if2 .left)
+      (c .fresh-place3 .ensures ∙ c .before .find2 .ensures))
 
   f-array : (c : find-lts.After-list (find-claims t) (find-at t) find.Post) →
-      let m = c .before .before .before .before .before in
+      let m = c .before .before .before .before .before .before in
       found m ≡ elementF m (lowF m (rowF m .b) .value) (c .list .given .0 .0)
   unfolding reach
   f-array c =
       f-list (c .before .before) ∙ rw (c .list .given .1)
 
   f-array-within : (c : find-lts.After-list (find-claims t) (find-at t) find.Post) →
-      let a = c .before .before .before .before .before .before .before .before .args in
+      let a = c .before .before .before .before .before .before .before .before .before .args in
       Planned (now (a .image)) (now (a .plan)) × Within (now (a .image)) (c .list .given .0 .0)
   f-array-within c =
-      let s = c .before .before .before .before .before .before .before .before .pre .1 in
-      (s .planned, find-within s _ _ (sym (c .before .before .find2 .ensures) ∙ c .list .given .1))
+      let s = c .before .before .before .before .before .before .before .before .before .pre .1 in (
+        s .planned,
+        find-within s _ _ (sym (c .before .before .fresh-place3 .ensures
+            ∙ c .before .before .before .find2 .ensures) ∙ c .list .given .1),
+      )
 
-  f-index : (c : find-lts.After-eval (find-claims t) (find-at t) find.Post) →
-      let l = c .before .before .before in
-      let m = l .before .before .before .before .before in
-      found m ≡ elementF m (c .eval .result) (l .list .given .0 .0)
+  f-index : (c : find-lts.After-fresh (find-claims t) (find-at t) find.Post) →
+      let l = c .before .before .before .before in
+      let m = l .before .before .before .before .before .before in
+      found m ≡ elementF m (c .fresh .result) (l .list .given .0 .0)
   f-index c =
-      f-array (c .before .before .before) ∙ rw (eval-lower _ _ _ _ _ _ _ (c .before .if3 .left) (c .eval .ensures))
+      f-array (c .before .before .before .before) ∙ rw (eval-lower _ _ _ _ _ _ _ (c .before .before .if3 .left)
+      (c .fresh .ensures ∙ c .before .eval .ensures))
 
 find-node-at-requires : (t : ℕ) → find-lts.Need-node-at-requires (find-claims t) (find-at t) find.Post
 find-node-at-requires t c κs = search needs
@@ -592,6 +680,9 @@ find-returns t c =
 find-find-requires : (t : ℕ) → find-lts.Need-find-requires (find-claims t) (find-at t) find.Post
 find-find-requires t c κs = search needs
 
+find-fresh-place-requires : (t : ℕ) → find-lts.Need-fresh-place-requires (find-claims t) (find-at t) find.Post
+find-fresh-place-requires t c κs = search needs
+
 find-enum-known-whole : (t : ℕ) → find-lts.Need-enum-known-whole (find-claims t) (find-at t) find.Post
 find-enum-known-whole t c = search needs
 
@@ -603,6 +694,9 @@ find-field-place-requires : (t : ℕ) → find-lts.Need-field-place-requires (fi
 find-field-place-requires t c κs =
     f-record-within t (c .before)
 
+find-fresh-place-requires-2 : (t : ℕ) → find-lts.Need-fresh-place-requires-2 (find-claims t) (find-at t) find.Post
+find-fresh-place-requires-2 t c κs = search needs
+
 find-returns-3 : (t : ℕ) → find-lts.Need-returns-3 (find-claims t) (find-at t) find.Post
 unfolding meaningBy designator choose reach
 find-returns-3 t c =
@@ -610,6 +704,9 @@ find-returns-3 t c =
 
 find-find-requires-2 : (t : ℕ) → find-lts.Need-find-requires-2 (find-claims t) (find-at t) find.Post
 find-find-requires-2 t c κs = search needs
+
+find-fresh-place-requires-3 : (t : ℕ) → find-lts.Need-fresh-place-requires-3 (find-claims t) (find-at t) find.Post
+find-fresh-place-requires-3 t c κs = search needs
 
 find-enum-known-list : (t : ℕ) → find-lts.Need-enum-known-list (find-claims t) (find-at t) find.Post
 find-enum-known-list t c = search needs
@@ -625,9 +722,15 @@ find-returns-5 t c =
 find-eval-requires : (t : ℕ) → find-lts.Need-eval-requires (find-claims t) (find-at t) find.Post
 find-eval-requires t c κs = search needs
 
+find-fresh-requires : (t : ℕ) → find-lts.Need-fresh-requires (find-claims t) (find-at t) find.Post
+find-fresh-requires t c κs = search needs
+
 find-array-place-requires : (t : ℕ) → find-lts.Need-array-place-requires (find-claims t) (find-at t) find.Post
 find-array-place-requires t c κs =
-    f-array-within t (c .before .before .before)
+    f-array-within t (c .before .before .before .before)
+
+find-fresh-place-requires-4 : (t : ℕ) → find-lts.Need-fresh-place-requires-4 (find-claims t) (find-at t) find.Post
+find-fresh-place-requires-4 t c κs = search needs
 
 find-variable-place-requires-2 : (t : ℕ) → find-lts.Need-variable-place-requires-2 (find-claims t) (find-at t) find.Post
 find-variable-place-requires-2 t c κs = search needs
@@ -643,6 +746,9 @@ find-returns-6 t c =
 find-find-requires-3 : (t : ℕ) → find-lts.Need-find-requires-3 (find-claims t) (find-at t) find.Post
 find-find-requires-3 t c κs = search needs
 
+find-fresh-place-requires-5 : (t : ℕ) → find-lts.Need-fresh-place-requires-5 (find-claims t) (find-at t) find.Post
+find-fresh-place-requires-5 t c κs = search needs
+
 find-returns-7 : (t : ℕ) → find-lts.Need-returns-7 (find-claims t) (find-at t) find.Post
 unfolding meaningBy designator choose
 find-returns-7 t c =
@@ -650,11 +756,11 @@ find-returns-7 t c =
 
 find-returns-8 : (t : ℕ) → find-lts.Need-returns-8 (find-claims t) (find-at t) find.Post
 find-returns-8 t c =
-    c .field-place .ensures ∙ sym (f-record t (c .before .before))
+    c .fresh-place2 .ensures ∙ c .before .field-place .ensures ∙ sym (f-record t (c .before .before .before))
 
 find-returns-9 : (t : ℕ) → find-lts.Need-returns-9 (find-claims t) (find-at t) find.Post
 find-returns-9 t c =
-    c .array-place .ensures ∙ sym (f-index t (c .before))
+    c .fresh-place4 .ensures ∙ c .before .array-place .ensures ∙ sym (f-index t (c .before .before))
 
 find-returns-10 : (t : ℕ) → find-lts.Need-returns-10 (find-claims t) (find-at t) find.Post
 unfolding meaningBy designator choose
@@ -667,8 +773,8 @@ find-returns-11 : (t : ℕ) → find-lts.Need-returns-11 (find-claims t) (find-a
 unfolding meaningBy choose
 find-returns-11 t c =
     sym
-    (f-row t (c .before .before .before) 8 (c .before .before .match .keys5)
-    ∙ find-lower _ _ _ _ _ _ _ (c .before .if4 .left) (c .find3 .ensures))
+    (f-row t (c .before .before .before .before) 8 (c .before .before .before .match .keys5)
+    ∙ find-lower _ _ _ _ _ _ _ (c .before .before .if4 .left) (c .fresh-place5 .ensures ∙ c .before .find3 .ensures))
 
 find-returns-12 : (t : ℕ) → find-lts.Need-returns-12 (find-claims t) (find-at t) find.Post
 find-returns-12 t c =
@@ -684,45 +790,60 @@ pub +eval+find-spec : {M : Type 1} → statement M
     (eval-constant-requires t)
     (eval-variable-place-requires t)
     (eval-load-requires t)
+    (eval-fresh-requires t)
     (eval-returns t)
     (eval-find-requires t)
+    (eval-fresh-place-requires t)
     (eval-enum-known-whole t)
     (eval-no-value-requires t)
     (eval-returns-2 t)
     (eval-field-place-requires t)
+    (eval-fresh-place-requires-2 t)
     (eval-load-requires-2 t)
+    (eval-fresh-requires-2 t)
     (eval-returns-3 t)
     (eval-find-requires-2 t)
+    (eval-fresh-place-requires-3 t)
     (eval-enum-known-list t)
     (eval-no-value-requires-2 t)
     (eval-returns-4 t)
     (eval-returns-5 t)
     (eval-eval-requires t)
+    (eval-fresh-requires-3 t)
     (eval-array-place-requires t)
+    (eval-fresh-place-requires-4 t)
     (eval-load-requires-3 t)
+    (eval-fresh-requires-4 t)
     (eval-variable-place-requires-2 t)
     (eval-guard-place-requires t)
     (eval-load-requires-4 t)
+    (eval-fresh-requires-5 t)
     (eval-returns-6 t)
     (eval-eval-requires-2 t)
+    (eval-fresh-requires-6 t)
     (eval-enum-known-left t)
     (eval-returns-7 t)
     (eval-decides-requires t)
     (eval-returns-8 t)
     (eval-returns-9 t)
     (eval-eval-requires-3 t)
+    (eval-fresh-requires-7 t)
     (eval-enum-known-right t)
     (eval-returns-10 t)
     (eval-dyadic-requires t)
+    (eval-fresh-requires-8 t)
     (eval-returns-11 t)
     (eval-eval-requires-4 t)
+    (eval-fresh-requires-9 t)
     (eval-enum-known-operand t)
     (eval-returns-12 t)
     (eval-monadic-requires t)
+    (eval-fresh-requires-10 t)
     (eval-variable-place-requires-3 t)
     (eval-type-test-requires t)
     (eval-returns-13 t)
     (eval-eval-requires-5 t)
+    (eval-fresh-requires-11 t)
     (eval-returns-14 t)
     (eval-returns-15 t)
     (eval-returns-16 t)
@@ -740,20 +861,26 @@ pub +eval+find-spec : {M : Type 1} → statement M
     (find-variable-place-requires t)
     (find-returns t)
     (find-find-requires t)
+    (find-fresh-place-requires t)
     (find-enum-known-whole t)
     (find-returns-2 t)
     (find-field-place-requires t)
+    (find-fresh-place-requires-2 t)
     (find-returns-3 t)
     (find-find-requires-2 t)
+    (find-fresh-place-requires-3 t)
     (find-enum-known-list t)
     (find-returns-4 t)
     (find-returns-5 t)
     (find-eval-requires t)
+    (find-fresh-requires t)
     (find-array-place-requires t)
+    (find-fresh-place-requires-4 t)
     (find-variable-place-requires-2 t)
     (find-guard-place-requires t)
     (find-returns-6 t)
     (find-find-requires-3 t)
+    (find-fresh-place-requires-5 t)
     (find-returns-7 t)
     (find-returns-8 t)
     (find-returns-9 t)

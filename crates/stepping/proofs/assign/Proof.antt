@@ -21,8 +21,8 @@ cast-a c = search needs
 cast-b : tie.Need-cast-b
 cast-b c = search needs
 
-find-requires : tie.Need-find-requires
-find-requires c κs = search needs
+locate-requires : tie.Need-locate-requires
+locate-requires c κs = search needs
 
 enum-known-found : tie.Need-enum-known-found
 enum-known-found c = search needs
@@ -39,11 +39,14 @@ same-length c = search needs
 returns : tie.Need-returns
 unfolding assigned
 returns c = λ output.
-    shows-lost-place _ (c .before .before .before .find .ensures) (c .before .before .match .keys2)
+    shows-lost-place _ (c .before .before .before .locate .ensures) (c .before .before .match .keys2)
     (c .before .lost-place .ensures) (c .ended-by .ensures)
 
 eval-requires : tie.Need-eval-requires
 eval-requires c κs = search needs
+
+fresh-requires : tie.Need-fresh-requires
+fresh-requires c κs = search needs
 
 enum-known-answer : tie.Need-enum-known-answer
 enum-known-answer c = search needs
@@ -60,10 +63,11 @@ same-length-2 c = search needs
 returns-2 : tie.Need-returns-2
 unfolding assigned
 returns-2 c = λ output.
-    let before = c .before .before .before .before .before in
-    shows-place _ (before .before .before .before .before .find .ensures) (before .before .before .found .given .1)
+    let before = c .before .before .before .before .before .before in
+    shows-place _ (before .before .before .before .before .locate .ensures) (before .before .before .found .given .1)
     (shows-yes _ (le-leb _ 2 (before .if1 .taken))
-    (shows-lost-value _ (c .before .before .before .eval .ensures) (c .before .before .match2 .keys2)
+    (shows-lost-value _ (c .before .before .before .fresh .ensures ∙ c .before .before .before .before .eval .ensures)
+    (c .before .before .match2 .keys2)
     (c .before .lost-value .ensures) (c .ended-by2 .ensures)))
 
 number-of-requires : tie.Need-number-of-requires
@@ -79,15 +83,19 @@ returns-3 : tie.Need-returns-3
 unfolding assigned bare
 returns-3 c = λ output.
     let number = c .before .before .before in
-    let before = number .before .before .before .before .before .before in
+    let before = number .before .before .before .before .before .before .before in
     let fits : SFits w64 (number .number-of .result) = search needs in
-    shows-place _ (before .before .before .before .before .find .ensures) (before .before .before .found .given .1)
+    shows-place _ (before .before .before .before .before .locate .ensures) (before .before .before .found .given .1)
     (shows-yes _ (le-leb _ 2 (before .if1 .taken))
-    (shows-value _ (number .before .before .before .before .eval .ensures) (number .before .before .answer .given .1)
+    (shows-value _ (number .before .before .before .before .fresh .ensures
+    ∙ number .before .before .before .before .before .eval .ensures) (number .before .before .answer .given .1)
     (rw (plain64 _ fits, number .number-of .ensures) at (c .before .write-cell .ensures output))))
 
-find-requires-2 : tie.Need-find-requires-2
-find-requires-2 c κs = search needs
+find-requires : tie.Need-find-requires
+find-requires c κs = search needs
+
+fresh-place-requires : tie.Need-fresh-place-requires
+fresh-place-requires c κs = search needs
 
 enum-known-origin : tie.Need-enum-known-origin
 enum-known-origin c = search needs
@@ -104,16 +112,18 @@ same-length-4 c = search needs
 returns-4 : tie.Need-returns-4
 unfolding assigned
 returns-4 c = λ output.
-    let before = c .before .before .before .before .before in
-    shows-place _ (before .before .before .before .before .find .ensures) (before .before .before .found .given .1)
+    let before = c .before .before .before .before .before .before in
+    shows-place _ (before .before .before .before .before .locate .ensures) (before .before .before .found .given .1)
     (shows-no _ (lt-leb _ 2 (before .if1 .left))
-    (shows-lost-place _ (c .before .before .before .find2 .ensures) (c .before .before .match3 .keys2)
+    (shows-lost-place _ (c .before .before .before .fresh-place .ensures
+    ∙ c .before .before .before .before .find .ensures)
+    (c .before .before .match3 .keys2)
     (c .before .lost-place2 .ensures) (c .ended-by3 .ensures)))
 
 copy-object-requires : tie.Need-copy-object-requires
 copy-object-requires c κs =
     let second = c .before .before .before .before in
-    let first = second .before .before .before .before .before .before in
+    let first = second .before .before .before .before .before .before .before in
     let start = first .before .before .before .before .before .before in
     let stands : Standing (now (start .args .image)) (now (start .args .plan)) (start .args .s .base)
     (start .args .s .top) (now (start .args .store)) =
@@ -121,8 +131,10 @@ copy-object-requires c κs =
       start .pre .0,
       start .pre .1,
       start .pre .2,
-      find-within stands _ _ (sym (first .find .ensures) ∙ second .before .before .before .before .found .given .1),
-      find-within stands _ _ (sym (second .find2 .ensures) ∙ c .before .before .origin .given .1),
+      find-within stands _ _ (sym (first .locate .ensures)
+          ∙ second .before .before .before .before .before .found .given .1),
+      find-within stands _ _ (sym (second .fresh-place .ensures ∙ second .before .find .ensures)
+          ∙ c .before .before .origin .given .1),
     )
 
 same-length-5 : tie.Need-same-length-5
@@ -131,10 +143,11 @@ same-length-5 c = search needs
 returns-5 : tie.Need-returns-5
 unfolding assigned
 returns-5 c = λ output.
-    let before = c .before .before .before .before .before .before .before .before in
-    shows-place _ (before .before .before .before .before .find .ensures) (before .before .before .found .given .1)
+    let before = c .before .before .before .before .before .before .before .before .before in
+    shows-place _ (before .before .before .before .before .locate .ensures) (before .before .before .found .given .1)
     (shows-no _ (lt-leb _ 2 (before .if1 .left))
-    (shows-place _ (c .before .before .before .before .before .before .find2 .ensures)
+    (shows-place _ (c .before .before .before .before .before .before .fresh-place .ensures
+    ∙ c .before .before .before .before .before .before .before .find .ensures)
     (c .before .before .before .before .origin .given .1) (c .before .copy-object .ensures output)))
 
 pub assign-spec : {M : Type 1} → statement M
@@ -143,13 +156,14 @@ assign-spec =
     (tie.spec
     cast-a
     cast-b
-    find-requires
+    locate-requires
     enum-known-found
     lost-place-requires
     ended-by-requires
     same-length
     returns
     eval-requires
+    fresh-requires
     enum-known-answer
     lost-value-requires
     ended-by-requires-2
@@ -159,7 +173,8 @@ assign-spec =
     write-cell-requires
     same-length-3
     returns-3
-    find-requires-2
+    find-requires
+    fresh-place-requires
     enum-known-origin
     lost-place-requires-2
     ended-by-requires-3
