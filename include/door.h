@@ -86,7 +86,7 @@ struct door_result {
  * the deepest that an accepted image can have, in a thread with this stack and four pages more for the thread itself.
  * It is no proven bound, and holds for the library that this kit builds. There is no heap and no state between calls, so
  * several threads may run programs at once, each with its own store and output. */
-#define DOOR_RUN_STACK 573440
+#define DOOR_RUN_STACK 606208
 
 struct door_result door_run(const uint8_t *image, size_t image_length, const int32_t *input, size_t input_length,
                             int64_t *store, size_t store_length, int32_t *output, size_t output_length,

@@ -1,15 +1,13 @@
 -- `finding::variable_place` meets its contract: its row is there, and its place is low.
 use mathlib.Core.List.{List}
-use mathlib.Core.Path.{ap, _∙_}
+use mathlib.Core.Path.{_∙_}
 use Prim.Native.Nat.{ℕ, _<_, _≤_}
-use native.Mathlib.Decide.{decLt}
 use native.Mathlib.Omega.{arith}
 use denote.Ref.{now}
 use borrow.Author.Tests.{lt-leb, le-leb, ne-eqb, eq-eqb}
 use Rattle.prelude.specs.Choice.{choose}
-use Rattle.image.specs.declared.Row.{Row}
-use Rattle.image.specs.Rows.{rowAt, rowsOf}
-use Rattle.image.proofs.Bytes.{row-missing}
+use Rattle.image.specs.Rows.{rowsOf}
+use Rattle.image.proofs.Bytes.{row-there}
 use Rattle.semantics.specs.Running.{programOf}
 use Rattle.semantics.specs.Finding.{variablePlace}
 use Rattle.access.proofs.Bounds.{place-low}
@@ -22,14 +20,6 @@ use Rattle.access.proofs.place_of.Reads as place-of-reads
 use Rattle.access.proofs.variable_at.Reads as variable-at-reads
 use Rattle.finding.proofs.parameter_place.Reads as parameter-place-reads
 use Rattle.finding.proofs.plain.Reads as plain-reads
-
--- a row of a kind that there is stands in its table
-row-there : (t : List ℕ) (i : ℕ) → rowAt t i .kind < 255 → i < rowsOf t
-row-there t i h = go (decLt i (rowsOf t))
-  where
-    go : Dec (i < rowsOf t) → i < rowsOf t
-    go (yes l) = l
-    go (no l) = absurd (omega (arith, ap (λ (r : Row). r .kind) (row-missing t i (omega arith))))
 
 abbrev claims : lts.Claims
 claims = (
