@@ -5,19 +5,9 @@
 #include <string.h>
 
 #include "door.h"
+#include "smallest.h"
 
 #define LONGEST 29713
-
-/* Document 01's starred case 10: three types, a procedure, a RETURN. */
-static const uint8_t smallest[57] = {
-    1, 0, 0, 0, 57,                                                                 /* version, length */
-    0, 3, 0, 0, 0, 0, 0, 0, 0, 0, 1, 0, 0, 0, 0, 0, 0, 0, 2, 0, 0, 0, 0, 0, 0, 0, /* types */
-    0, 0,                                                                           /* fields */
-    0, 0,                                                                           /* variables */
-    0, 1, 0, 0, 0, 0, 0, 0, 0, 0,                                                   /* procedures */
-    0, 0,                                                                           /* nodes */
-    0, 1, 4, 0, 0, 0, 0, 0, 0, 0,                                                   /* statements */
-};
 
 /* One byte of an image is changed, and then it is handed over with this length. */
 struct damage {

@@ -5,20 +5,10 @@
 #include <string.h>
 
 #include "door.h"
+#include "smallest.h"
 
 #define CELLS 8192
 #define PLACES 16
-
-/* Document 01's starred case 10: three types, a procedure, a RETURN. */
-static const uint8_t smallest[57] = {
-    1, 0, 0, 0, 57,                                                                 /* version, length */
-    0, 3, 0, 0, 0, 0, 0, 0, 0, 0, 1, 0, 0, 0, 0, 0, 0, 0, 2, 0, 0, 0, 0, 0, 0, 0, /* types */
-    0, 0,                                                                           /* fields */
-    0, 0,                                                                           /* variables */
-    0, 1, 0, 0, 0, 0, 0, 0, 0, 0,                                                   /* procedures */
-    0, 0,                                                                           /* nodes */
-    0, 1, 4, 0, 0, 0, 0, 0, 0, 0,                                                   /* statements */
-};
 
 static int64_t store[CELLS];
 static int32_t output[PLACES];

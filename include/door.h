@@ -34,7 +34,7 @@ extern "C" {
  * of any length; the longest that is accepted has 29,713 bytes.
  *
  * Stack: 20,992 bytes. `bash tests/bench/run` measures it, by painting the stack, for the longest image and all of
- * vectors/: 20,552 bytes at most. No function calls itself. It is no proven bound, and holds for the library that this
+ * vectors/: 20,536 bytes at most. No function calls itself. It is no proven bound, and holds for the library that this
  * kit builds. There is no heap and no state between calls, so several threads may check at once. */
 uint32_t door_check(const uint8_t *image, size_t length);
 

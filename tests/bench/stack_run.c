@@ -6,30 +6,17 @@
  * that cannot be touched lies below it. What is reported is the distance from the caller's frame down to the lowest
  * byte that has changed. It fails where that exceeds DOOR_RUN_STACK of door.h. */
 #define _GNU_SOURCE
-#include <pthread.h>
-#include <stdint.h>
-#include <stdio.h>
-#include <stdlib.h>
-#include <string.h>
-#include <sys/mman.h>
-#include <unistd.h>
-
 #include "door.h"
+#include "painted.h"
 
 #define CELLS 65536
 #define PLACES 16
 #define STEPS 1000
 #define LONGEST 29713
 
-static const unsigned char paints[] = {0xa5, 0x5a};
 static int64_t store[CELLS];
 static int32_t output[PLACES];
 static const int32_t input[1];
-
-static void fail(const char *what) {
-    perror(what);
-    exit(2);
-}
 
 /* ---- an image in the making: rows are appended table by table, and bytes() puts the tables together */
 
@@ -157,82 +144,38 @@ static size_t build(void (*make)(struct builder *b), uint8_t *image) {
 
 /* ---- the stack */
 
-struct task {
-    const unsigned char *bottom;
-    unsigned char paint;
+struct program {
     const uint8_t *image;
     size_t length;
     struct door_result result;
-    size_t used;
 };
 
-static void *on_its_stack(void *given) {
-    struct task *task = given;
-    const unsigned char *frame = __builtin_frame_address(0);
-    const volatile unsigned char *at = task->bottom;
-    task->result = door_run(task->image, task->length, input, 0, store, CELLS, output, PLACES, STEPS);
-    while (*at == task->paint)
-        at++;
-    task->used = (size_t)(frame - (const unsigned char *)at);
-    return NULL;
-}
-
-static size_t measure(unsigned char *stack, size_t size, const uint8_t *image, size_t length,
-                      struct door_result *result) {
-    size_t most = 0;
-    for (size_t i = 0; i < sizeof paints; i++) {
-        struct task task = {.bottom = stack, .paint = paints[i], .image = image, .length = length};
-        pthread_attr_t attributes;
-        pthread_t thread;
-        memset(stack, paints[i], size);
-        if (pthread_attr_init(&attributes) != 0 || pthread_attr_setstack(&attributes, stack, size) != 0 ||
-            pthread_create(&thread, &attributes, on_its_stack, &task) != 0 || pthread_join(thread, NULL) != 0)
-            fail("a thread");
-        pthread_attr_destroy(&attributes);
-        if (task.used > most)
-            most = task.used;
-        *result = task.result;
-    }
-    return most;
-}
-
-static uint8_t *read_file(const char *name, size_t *length) {
-    FILE *file = fopen(name, "rb");
-    uint8_t *read;
-    long size;
-    if (!file || fseek(file, 0, SEEK_END) != 0 || (size = ftell(file)) < 0 || fseek(file, 0, SEEK_SET) != 0)
-        fail(name);
-    *length = (size_t)size;
-    read = malloc(*length + 1);
-    if (!read || fread(read, 1, *length, file) != *length)
-        fail(name);
-    fclose(file);
-    return read;
+static uintptr_t run(void *given) {
+    struct program *program = given;
+    program->result = door_run(program->image, program->length, input, 0, store, CELLS, output, PLACES, STEPS);
+    return (uintptr_t)__builtin_frame_address(0);
 }
 
 int main(int count, char **words) {
     static uint8_t image[LONGEST];
-    const size_t page = (size_t)sysconf(_SC_PAGESIZE);
     size_t size = (size_t)4 << 20, most = 0;
     const char *most_of = "";
-    struct door_result result;
-    unsigned char *room;
+    struct painted stack;
     int at = 1;
     if (count > 2 && strcmp(words[1], "-s") == 0) {
-        size = (strtoul(words[2], NULL, 10) + page - 1) / page * page;
+        size = strtoul(words[2], NULL, 10);
         at = 3;
     }
     if (size == 0) {
         fprintf(stderr, "usage: stack_run [-s BYTES] [IMAGE...]\n");
         return 2;
     }
-    room = mmap(NULL, page + size, PROT_READ | PROT_WRITE, MAP_PRIVATE | MAP_ANONYMOUS | MAP_STACK, -1, 0);
-    if (room == MAP_FAILED || mprotect(room, page, PROT_NONE) != 0)
-        fail("memory for a stack");
+    stack = painted_stack(size);
     printf("stack of door_run, in bytes:\n");
     for (size_t i = 0; i < sizeof shapes / sizeof shapes[0]; i++) {
-        const size_t length = build(shapes[i].make, image);
-        const size_t used = measure(room + page, size, image, length, &result);
+        struct program program = {.image = image, .length = build(shapes[i].make, image)};
+        const size_t used = painted_bytes(&stack, run, &program);
+        const struct door_result result = program.result;
         printf("  %-20s %7zu\n", shapes[i].name, used);
         if (result.refusal != 0 || result.outcome != 1 || result.written != 1 || abs(output[0]) != 5) {
             printf("stack_run: %s: refusal %u %u, outcome %u, trap %u, %u written, the first %d\n", shapes[i].name,
@@ -246,9 +189,11 @@ int main(int count, char **words) {
         }
     }
     for (; at < count; at++) {
-        size_t length, used;
-        uint8_t *given = read_file(words[at], &length);
-        used = measure(room + page, size, given, length, &result);
+        struct program program;
+        size_t used;
+        uint8_t *given = read_file(words[at], &program.length);
+        program.image = given;
+        used = painted_bytes(&stack, run, &program);
         free(given);
         if (used > most) {
             most = used;
