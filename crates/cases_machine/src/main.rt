@@ -44,11 +44,11 @@ fn run_record(bytes: &[u8])
     if bytes.len() < 20 {
         return;
     }
-    let cells = packs::word_at(bytes, 0) as usize;
+    let cells = image::word_at(bytes, 0) as usize;
     let fill = packs::signed_at(bytes, 4) as i64;
-    let places = packs::word_at(bytes, 8) as usize;
-    let steps = packs::word_at(bytes, 12);
-    let inputs = packs::word_at(bytes, 16) as usize;
+    let places = image::word_at(bytes, 8) as usize;
+    let steps = image::word_at(bytes, 12);
+    let inputs = image::word_at(bytes, 16) as usize;
     if 4096 < cells {
         return;
     }

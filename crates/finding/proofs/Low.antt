@@ -1,6 +1,5 @@
 -- Objects that are found lie low enough to add an offset, and are of types that there are.
-use mathlib.Core.Path.{_≡_, refl, ap, subst, _∙_}
-use mathlib.Core.Bool.{Bool, true, false}
+use mathlib.Core.Path.{_≡_, refl, sym, subst}
 use mathlib.Core.List.{List}
 use Prim.Native.Nat.{ℕ, _+_, _*_, _≤_, _<_}
 use native.Mathlib.Omega.{arith}
@@ -9,7 +8,8 @@ use borrow.Author.Tests.{eqb-true, ltb-true}
 use lib.Dec.{ltb, leb, eqb}
 use lib.IntN.{ℤ, pos, negsuc}
 use Rattle.prelude.specs.Choice.{choose}
-use Rattle.prelude.proofs.Rec.{rec-eq, rec-ind}
+use Rattle.prelude.proofs.Choice.{choose-has}
+use Rattle.prelude.proofs.Rec.{rec-ind}
 use Rattle.image.specs.declared.Row.{Row}
 use Rattle.image.specs.Rows.{rowAt, rowsOf}
 use Rattle.image.proofs.Bytes.{row-missing}
@@ -36,6 +36,7 @@ use Rattle.access.specs.Ready.{Planned}
 use Rattle.access.proofs.Bounds.{field-low, element-typed, element-low, variable-typed, place-low, guard-typed}
 use Rattle.access.proofs.Bounds.{nodes-few}
 use Rattle.finding.specs.Standing.{Standing, Within}
+use Rattle.finding.proofs.Laws.{find-other}
 
 -- an object at n or below, of a type that there is; or none
 data Low (image : List ℕ) (n : ℕ) : Found → Type 0 where
@@ -45,13 +46,6 @@ data Low (image : List ℕ) (n : ℕ) : Found → Type 0 where
   low-stuck : Low image n Fs.Stuck
 
 -- ---- one law a combinator
-
--- what both branches of a choice have
-choose-has : {X : Type 0} (P : X → Type 0) (b : Bool) {x y : X} → (b ≡ true → P x) → (b ≡ false → P y)
-    → P (choose b x y)
-unfolding choose
-choose-has P true p q = p refl
-choose-has P false p q = q refl
 
 module _ {image : List ℕ} where
   -- a bound may be raised
@@ -235,12 +229,9 @@ module _ {image plan : List ℕ} (p : Planned image plan) where
 -- a row past the table designates nothing
 find-missing : (g : Program) (base top : ℕ) (cells : List ℤ) (r : ℕ) → rowsOf (g .nodes) ≤ r
     → findOf bare g base top cells r ≡ Fs.Stuck
-unfolding findOf meaningOf meaningBy choose
 find-missing g base top cells r h =
-    ap (λ (m : Meaning). m .place)
-    (rec-eq noMeaning
-    (λ child k. meaningBy bare g base top cells child (rowAt (g .nodes) k .kind) (rowAt (g .nodes) k)) r)
-    ∙ rw (row-missing (g .nodes) r h)
+    find-other bare g base top cells r _ (sym (row-missing (g .nodes) r h)) (λ e. absurd (omega arith))
+    (λ e. absurd (omega arith)) (λ e. absurd (omega arith)) (λ e. absurd (omega arith)) (λ e. absurd (omega arith))
 
 -- an object that was found, of a type that there is, and low enough
 pub find-within : {image plan : List ℕ} {base top : ℕ} {cells : List ℤ} → Standing image plan base top cells → (r : ℕ)

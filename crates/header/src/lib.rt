@@ -2,7 +2,6 @@
 ghost use mathlib.Core.Path.{_≡_};
 ghost use Prim.Native.Nat.{_+_, _≤_};
 ghost use lib.ListN.{length};
-ghost use Rattle.image.specs.Rows.{wordAt};
 ghost use Rattle.header.specs.Header.{tableFrom, tablesOf, headerOf, partOf};
 
 // Where a table's rows stand in the image.
@@ -34,15 +33,6 @@ pub enum TablesAnswer {
 pub enum HeaderAnswer {
     No(u8),
     Yes(Tables),
-}
-
-fn word_at(image: &[u8], at: usize) -> u32
-    requires { ⌜ at + 4 ≤ length (now image) ⌝ }
-    ensures { λ r. ⌜ r ≡ wordAt (now (image .entry)) at ⌝ }
-{
-    let high = image::number_at(image, at);
-    let low = image::number_at(image, at + 2);
-    (high as u32) * 65536 + (low as u32)
 }
 
 // The table whose count stands at a byte.
@@ -117,7 +107,7 @@ pub fn header(image: &[u8]) -> HeaderAnswer
     if image.len() < 5 {
         return HeaderAnswer::No(2);
     }
-    let length = word_at(image, 1) as usize;
+    let length = image::word_at(image, 1) as usize;
     if length != image.len() {
         return HeaderAnswer::No(2);
     }

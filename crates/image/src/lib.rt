@@ -2,7 +2,7 @@
 ghost use mathlib.Core.Path.{_≡_};
 ghost use Prim.Native.Nat.{_+_, _*_, _≤_};
 ghost use lib.ListN.{length};
-ghost use Rattle.image.specs.Rows.{numberAt, rowsOf, rowAt};
+ghost use Rattle.image.specs.Rows.{numberAt, wordAt, rowsOf, rowAt};
 
 // A row of a table.
 pub struct Row {
@@ -31,6 +31,16 @@ pub fn number_at(t: &[u8], at: usize) -> u16
     ensures { λ r. ⌜ r ≡ numberAt (now (t .entry)) at ⌝ }
 {
     number(t[at], t[at + 1])
+}
+
+// The 32-bit number at a byte.
+pub fn word_at(t: &[u8], at: usize) -> u32
+    requires { ⌜ at + 4 ≤ length (now t) ⌝ }
+    ensures { λ r. ⌜ r ≡ wordAt (now (t .entry)) at ⌝ }
+{
+    let high = number_at(t, at);
+    let low = number_at(t, at + 2);
+    (high as u32) * 65536 + (low as u32)
 }
 
 // How many rows a table has.

@@ -6,22 +6,12 @@ ghost use lib.ListN.{length};
 ghost use lib.IntN.{pos, _-ℤ_};
 ghost use Rattle.image.specs.Rows.{wordAt};
 
-// The 32-bit number at a byte.
-pub fn word_at(s: &[u8], at: usize) -> u32
-    requires { ⌜ at + 4 ≤ length (now s) ⌝ }
-    ensures { λ r. ⌜ r ≡ wordAt (now (s .entry)) at ⌝ }
-{
-    let high = image::number_at(s, at);
-    let low = image::number_at(s, at + 2);
-    (high as u32) * 65536 + (low as u32)
-}
-
 // The signed number at a byte, which is packed with 2,147,483,648 added to it.
 pub fn signed_at(s: &[u8], at: usize) -> i32
     requires { ⌜ at + 4 ≤ length (now s) ⌝ }
     ensures { λ r. ⌜ r ≡ pos (wordAt (now (s .entry)) at) -ℤ pos 2147483648 ⌝ }
 {
-    let n = word_at(s, at);
+    let n = image::word_at(s, at);
     ((n as i64) - 2147483648) as i32
 }
 
@@ -38,7 +28,7 @@ pub fn next_record(fd: i32, buffer: &mut [u8]) -> usize
     if got < 4 {
         return end;
     }
-    let n = word_at(&head, 0) as usize;
+    let n = image::word_at(&head, 0) as usize;
     if buffer.len() < n {
         return end;
     }

@@ -34,6 +34,13 @@ module _ {X : Type 0} where
   choose-cases true e = inl (refl, e)
   choose-cases false e = inr (refl, e)
 
+-- what both branches of a choice have
+pub choose-has : {X : Type 0} (P : X → Type 0) (b : Bool) {x y : X} → (b ≡ true → P x) → (b ≡ false → P y)
+    → P (choose b x y)
+unfolding choose
+choose-has P true p q = p refl
+choose-has P false p q = q refl
+
 pub also-true : (a b : Bool) → (a also b) ≡ true → (a ≡ true) × (b ≡ true)
 unfolding _also_
 also-true true b e = (refl, e)

@@ -13,7 +13,7 @@ use lib.IntN.{ℤ, pos, negsuc}
 use lib.ListN.{take, length, length-append}
 use Rattle.prelude.specs.Choice.{choose}
 use Rattle.prelude.specs.Parts.{Part}
-use Rattle.prelude.proofs.Choice.{choose-yes, choose-no, choose-cases, also-yes, clash}
+use Rattle.prelude.proofs.Choice.{choose-yes, choose-no, choose-cases, choose-has, also-yes, clash}
 use Rattle.prelude.proofs.Rec.{rec-ind}
 use Rattle.image.specs.declared.Row.{Row}
 use Rattle.image.specs.Rows.{rowAt, rowsOf}
@@ -120,12 +120,6 @@ module _ {g : Program} {fs : List Frame} where
   object-ok : {at r : ℕ} → Object g fs at r → FoundOk g fs r (object at r)
   object-ok {at} {r} o =
       found-ok {place = record { address = at; declared = r; dynamic = r }} refl (extends-refl (g .types) r) o
-
-  choose-ok : {x : ℕ} (b : Bool) {m n : Found} → (b ≡ true → FoundOk g fs x m) → (b ≡ false → FoundOk g fs x n)
-      → FoundOk g fs x (choose b m n)
-  unfolding choose
-  choose-ok true yes-case no-case = yes-case refl
-  choose-ok false yes-case no-case = no-case refl
 
 bind-ok : {x y : ℕ} {m : Answer} (k : Value → Answer) → Gives x m
     → ((v : Value) → kindOf v ≡ x → InRange v → Gives y (k v)) → Gives y (bind m k)
@@ -384,7 +378,7 @@ module _ (g : Program)
   unfolding guardPlace
   guard-ok b x is =
       reach-ok (guardPlace g b) is (λ place declared extended object.
-      choose-ok (extends (g .types) (place .dynamic) b)
+      choose-has (FoundOk g frames b) (extends (g .types) (place .dynamic) b)
       (λ e. found-ok {place = record { address = place .address; declared = b; dynamic = place .dynamic }}
       refl e object)
       (λ e. found-trap))
@@ -410,7 +404,8 @@ module _ (g : Program)
       let other : rowAt (g .types) (place .declared) .kind ≡ 4 → ⊥ = λ e. absurd (omega arith) in
       let same = extends-other (g .types) (g .fields) (ok .types) (place .dynamic) (place .declared) extended
       (object-typed g ok thing) other in
-      choose-ok (ltb i (rowAt (g .types) (place .declared) .b))
+      choose-has (FoundOk g frames (rowAt (g .types) (place .declared) .a))
+      (ltb i (rowAt (g .types) (place .declared) .b))
       (λ e. object-ok (of-element (rw same at thing) array (ltb-true i _ e)))
       (λ e. found-trap)
   element-there place array extended thing (negsuc i) = found-trap

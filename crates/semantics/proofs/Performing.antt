@@ -131,9 +131,9 @@ unfolding tagged
 put-fits v k e range = rw (← e) (fits-value refl (cell-back range))
 
 -- an input is an INTEGER
-input-range : (g : Program) (input : List ℤ) (i : ℕ) → isInteger (inputAt tagged g input i) ≡ true
+input-range : (input : List ℤ) (i : ℕ) → isInteger (inputAt input i) ≡ true
 unfolding inputAt isInteger choose
-input-range g input i = go (isInteger (getD input i (pos 0))) (getD input i (pos 0)) refl
+input-range input i = go (isInteger (getD input i (pos 0))) (getD input i (pos 0)) refl
   where
     go : (b : Bool) (z : ℤ) → isInteger z ≡ b → isInteger (choose b z (pos 0)) ≡ true
     go true z e = e
@@ -462,7 +462,7 @@ module _ (g : Program)
 
   -- ---- "5 read into designator a. 6 write a. 7 HALT(a)."
 
-  read-ok : {x : Next Cell} → NextOk g s x → NextOk g s (afterRead tagged g x)
+  read-ok : {x : Next Cell} → NextOk g s x → NextOk g s (afterRead x)
   unfolding afterRead
   read-ok (ok-goes {s′ = u} h cells output) = ok-goes (record {
     newest = h .newest;
@@ -489,8 +489,8 @@ module _ (g : Program)
       on-place-ok g s (unchanged g s) _ (found-here (row .a) INTEGER (d .within) (ruled .type) (ruled .own)
       (itself (designator-yes d))) (λ target declared extended object.
       ok-choose g s _
-      (λ more. read-ok (put-ok target (Vs.Int (inputAt tagged g input (s .at .read))) extended object (sym declared)
-      (integer (input-range g input (s .at .read))) (omega arith) inside))
+      (λ more. read-ok (put-ok target (Vs.Int (inputAt input (s .at .read))) extended object (sym declared)
+      (integer (input-range input (s .at .read))) (omega arith) inside))
       (λ none. ok-trapped (unchanged g s)))
 
   pub sent-ok : row .kind ≡ 6 → ValueRow (g .nodes) row → NextOk g s (sent tagged g row s)

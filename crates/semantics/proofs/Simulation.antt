@@ -24,9 +24,9 @@ use Rattle.semantics.specs.Finding.{findOf, evalOf}
 use Rattle.semantics.specs.Stepping.{State, Next, Next.goes, Next.finished, Next.trapped, Next.stuck}
 use Rattle.semantics.specs.Stepping.{onPlace, onValue, onInteger, onBoolean, onMark, goTo}
 use Rattle.semantics.specs.Stepping.{following, withCells, written, onPart}
-use Rattle.semantics.specs.Stepping.{otherRecord, copied, assigned, argumentCells, passed, entered}
+use Rattle.semantics.specs.Stepping.{copied, assigned, argumentCells, passed, entered}
 use Rattle.semantics.specs.Stepping.{called, jumped, returned}
-use Rattle.semantics.specs.Stepping.{inputAt, afterRead, received, sent, halted, perform, stepOf}
+use Rattle.semantics.specs.Stepping.{afterRead, received, sent, halted, perform, stepOf}
 use Rattle.semantics.specs.Running.{Ended, onward, runFrom, freshCells, fresh}
 use Rattle.semantics.proofs.Agreeing.{Answers, Founds, Marks, lost, same, choose-rel}
 use Rattle.semantics.proofs.Agreeing.{numbers, part-numbers, overwrite-numbers}
@@ -135,16 +135,12 @@ module _ (g : Program) (s : State Cell) where
       (onValue (erase s) (evalOf bare g (s .at .base) (s .at .top) (numbers (s .cells)) r) l)
   eval-follows r k l f = follows-value s k l (eval-agrees g (s .at .base) (s .at .top) (s .cells) r) f
 
-  other-same : (target : Place) → otherRecord bare g (erase s) target ≡ otherRecord tagged g s target
-  unfolding otherRecord
-  other-same target = refl
-
   copied-follows : (target source : Place)
       → Follows (copied tagged g s target source) (copied bare g (erase s) target source)
   unfolding copied
   copied-follows target source =
-      rw (other-same target) (choose-rel Follows _ (traps refl)
-      (part-follows s _ _ _ _ (λ new. written-follows s (target .address) new)))
+      choose-rel Follows _ (traps refl)
+      (part-follows s _ _ _ _ (λ new. written-follows s (target .address) new))
 
   assigned-follows : (row : Row) → Follows (assigned tagged g s row) (assigned bare g (erase s) row)
   unfolding assigned
@@ -206,11 +202,7 @@ module _ (g : Program) where
       (follows-mark _ _ (mark-agrees (s .at .top) (s .cells) LINK (s .at .base + 1)) (λ row.
       follows-mark _ _ (mark-agrees (s .at .top) (s .cells) LINK (s .at .base + 2)) (λ base. goes-on refl)))
 
-  input-same : (input : List ℤ) (i : ℕ) → inputAt bare g input i ≡ inputAt tagged g input i
-  unfolding inputAt
-  input-same input i = refl
-
-  read-follows : {x : Next Cell} {y : Next ℤ} → Follows x y → Follows (afterRead tagged g x) (afterRead bare g y)
+  read-follows : {x : Next Cell} {y : Next ℤ} → Follows x y → Follows (afterRead x) (afterRead y)
   unfolding afterRead
   read-follows astray = astray
   read-follows (goes-on e) = rw e (goes-on refl)
@@ -222,8 +214,7 @@ module _ (g : Program) where
   unfolding received
   received-follows input row s =
       find-follows g s (row .a) _ _ (λ target. choose-rel Follows _
-      (rw (input-same input (s .at .read)) (read-follows (put-follows s (target .address) _)))
-      (traps refl))
+      (read-follows (put-follows s (target .address) _)) (traps refl))
 
   sent-follows : (row : Row) (s : State Cell) → Follows (sent tagged g row s) (sent bare g row (erase s))
   unfolding sent

@@ -43,6 +43,16 @@ pub data Next (X : Type 0) : Type 0 where
   trapped : Trap → ℤ → State X → Next X
   stuck : Next X
 
+-- trap "3 record target's dynamic type is not its static one (after both sides)"
+unfoldable pub otherRecord : Program → Place → Bool
+otherRecord g target =
+    eqb (rowAt (g .types) (target .declared) .kind) 4
+    also not (eqb (target .dynamic) (target .declared))
+
+-- input i: the number itself, where it is a 32-bit number, as every lent one is
+unfoldable pub inputAt : List ℤ → ℕ → ℤ
+inputAt input i = choose (isInteger (getD input i (pos 0))) (getD input i (pos 0)) (pos 0)
+
 module _ {X : Type 0} where
   -- ---- "A trap in an operand ends the step with that trap."
 
@@ -94,6 +104,23 @@ module _ {X : Type 0} where
   unfoldable pub onPart : State X → ℕ → ℕ → (List X → Next X) → Next X
   onPart s a n next = choose (leb (a + n) (s .at .top)) (next (partAt (s .cells) a n)) stuck
 
+  -- one more input was read
+  unfoldable pub afterRead : Next X → Next X
+  afterRead (goes s) = goes (record {
+    at = record {
+      row = s .at .row;
+      base = s .at .base;
+      top = s .at .top;
+      read = s .at .read + 1;
+      written = s .at .written;
+    };
+    cells = s .cells;
+    output = s .output;
+  })
+  afterRead finished = finished
+  afterRead (trapped t z s) = trapped t z s
+  afterRead stuck = stuck
+
   module _ (m : Memory X) (g : Program) (s : State X) where
     abbrev find : ℕ → Found
     find r = findOf m g (s .at .base) (s .at .top) (s .cells) r
@@ -103,16 +130,10 @@ module _ {X : Type 0} where
 
     -- ---- "0 assign b to designator a."
 
-    -- trap "3 record target's dynamic type is not its static one (after both sides)"
-    unfoldable pub otherRecord : Place → Bool
-    otherRecord target =
-        eqb (rowAt (g .types) (target .declared) .kind) 4
-        also not (eqb (target .dynamic) (target .declared))
-
     -- "then copy the target type's cells, all read before any is written"
     unfoldable pub copied : Place → Place → Next X
     copied target source =
-        choose (otherRecord target) (trapped Ts.Target (pos 0) s)
+        choose (otherRecord g target) (trapped Ts.Target (pos 0) s)
         (onPart s (source .address) (sizeOf (g .types) (g .fields) (target .declared)) (written s (target .address)))
 
     -- "Assign: target, source": a scalar's value, or another object's cells
@@ -197,27 +218,6 @@ module _ {X : Type 0} where
         }))
 
     -- ---- "5 read into designator a. 6 write a. 7 HALT(a)."
-
-    -- input i: the number itself, where it is a 32-bit number, as every lent one is
-    unfoldable pub inputAt : List ℤ → ℕ → ℤ
-    inputAt input i = choose (isInteger (getD input i (pos 0))) (getD input i (pos 0)) (pos 0)
-
-    -- one more input was read, one more output written
-    unfoldable pub afterRead : Next X → Next X
-    afterRead (goes s) = goes (record {
-      at = record {
-        row = s .at .row;
-        base = s .at .base;
-        top = s .at .top;
-        read = s .at .read + 1;
-        written = s .at .written;
-      };
-      cells = s .cells;
-      output = s .output;
-    })
-    afterRead finished = finished
-    afterRead (trapped t z s) = trapped t z s
-    afterRead stuck = stuck
 
     -- trap "8 input used up (after the target)"
     unfoldable pub received : List ℤ → Row → State X → Next X

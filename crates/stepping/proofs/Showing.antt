@@ -205,26 +205,26 @@ shows-written {s} {old = old} {output = output} a new stands low within is next 
 -- ---- an input
 
 -- one that is lent is the number itself
-input-is : (g : Program) (input : List ℤ) (i : ℕ) → SFits w32 (getD input i (pos 0))
-    → bare .put (Vs.Int (inputAt bare g input i)) ≡ getD input i (pos 0)
+input-is : (input : List ℤ) (i : ℕ) → SFits w32 (getD input i (pos 0))
+    → bare .put (Vs.Int (inputAt input i)) ≡ getD input i (pos 0)
 unfolding bare numberOf inputAt
-input-is g input i fits = choose-yes _ _ _ (fits-integer (getD input i (pos 0)) fits)
+input-is input i fits = choose-yes _ _ _ (fits-integer (getD input i (pos 0)) fits)
 
 abbrev afterInput : Registers → Registers
 afterInput s = record { row = s .row + 1; base = s .base; top = s .top; read = s .read + 1; written = s .written }
 
 -- read into a cell below top
-pub shows-read : {s : Registers} {old cells output : List ℤ} (g : Program) (input : List ℤ) (a : ℕ) → Stands s old 1
+pub shows-read : {s : Registers} {old cells output : List ℤ} (input : List ℤ) (a : ℕ) → Stands s old 1
     → s .row < 65536 → a < s .top → SFits w32 (getD input (s .read) (pos 0))
     → cells ≡ overwrite old a (getD input (s .read) (pos 0) ∷ [])
     → Shows (stateOf s old output)
-    (afterRead bare g (written (stateOf s old output) a (bare .put (Vs.Int (inputAt bare g input (s .read))) ∷ [])))
+    (afterRead (written (stateOf s old output) a (bare .put (Vs.Int (inputAt input (s .read))) ∷ [])))
     (Steps.Goes (afterInput s)) cells output
 unfolding afterRead following goTo withCells
-shows-read {s} {old} {cells} {output} g input a stands low below fits is =
+shows-read {s} {old} {cells} {output} input a stands low below fits is =
     let new = getD input (s .read) (pos 0) ∷ [] in
     let kept = overwrite-length old new a (omega (arith, stands .top)) in
-    rw (input-is g input (s .read) fits, written-is (stateOf s old output) a new (omega arith), is)
+    rw (input-is input (s .read) fits, written-is (stateOf s old output) a new (omega arith), is)
     (shows-goes {q = afterInput s} {cells = overwrite old a new} {output = output} refl (record {
       row = omega arith;
       base = stands .base;

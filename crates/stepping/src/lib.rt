@@ -14,7 +14,7 @@ ghost use Prim.Native.Nat.{_<_};
 ghost use lib.IntN.{ℤ};
 ghost use Rattle.image.specs.Rows.{rowsOf};
 ghost use Rattle.semantics.specs.Memory.{bare};
-ghost use Rattle.semantics.specs.Stepping.{State, written as writtenTo, otherRecord, copied, assigned, jumped};
+ghost use Rattle.semantics.specs.Stepping.{written as writtenTo, otherRecord, copied, assigned, jumped};
 ghost use Rattle.semantics.specs.Stepping.{returned, received, sent, halted, stepOf};
 ghost use Rattle.semantics.specs.Running.{programOf};
 ghost use Rattle.access.specs.Ready.{Ready};
@@ -55,7 +55,7 @@ fn write_cell(store: &mut [i64], s: Registers, address: u32, z: i64) -> Step
 // Whether a target is a record of another dynamic type than the declared one.
 fn other_record(image: &[u8], plan: &[u32], target: Place) -> bool
     requires { ⌜ Ready (now image) (now plan) ⌝ }
-    ensures { λ x. ⌜ ((s : State ℤ) → x ≡ otherRecord bare (programOf (now (image .entry))) s target) ⌝ }
+    ensures { λ x. ⌜ x ≡ otherRecord (programOf (now (image .entry))) target ⌝ }
 {
     let declared = target.declared;
     let dynamic = target.dynamic;

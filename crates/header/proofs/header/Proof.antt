@@ -17,7 +17,7 @@ use Rattle.header.proofs.header.Tie as tie
 use Rattle.header.proofs.header.Reads as reads
 use Rattle.header.proofs.header.Lts as lts
 use Rattle.header.proofs.tables_of.Reads as tables-of-reads
-use Rattle.header.proofs.word_at.Reads as word-at-reads
+use Rattle.image.proofs.word_at.Reads as word-at-reads
 
 module _ (image : List ℕ) where
   first-no : question1 image ≡ false → headerOf image ≡ No 1

@@ -2,13 +2,12 @@
 use mathlib.Core.Path.{sym, _∙_}
 use borrow.Author.Tests.{le-leb, lt-leb}
 use borrow.Author.Needs.{needs}
-use denote.Ref.{now}
 use mir.Syntax.{w64}
 use mir.Val.{SFits}
 use Rattle.values.proofs.Numbers.{plain64}
 use Rattle.semantics.specs.Memory.{bare}
 use Rattle.semantics.specs.Stepping.{assigned}
-use Rattle.finding.specs.Standing.{Standing}
+use Rattle.calling.proofs.Arguments.{standing}
 use Rattle.finding.proofs.Low.{find-within}
 use Rattle.stepping.proofs.Showing.{shows-yes, shows-no, shows-place, shows-value, shows-lost-place}
 use Rattle.stepping.proofs.Showing.{shows-lost-value}
@@ -125,9 +124,7 @@ copy-object-requires c κs =
     let second = c .before .before .before .before in
     let first = second .before .before .before .before .before .before .before in
     let start = first .before .before .before .before .before .before in
-    let stands : Standing (now (start .args .image)) (now (start .args .plan)) (start .args .s .base)
-    (start .args .s .top) (now (start .args .store)) =
-    record { planned = start .pre .0 .planned; low = start .pre .1 .base; stored = start .pre .1 .top } in (
+    let stands = standing (start .pre .0) (start .pre .1) in (
       start .pre .0,
       start .pre .1,
       start .pre .2,

@@ -30,7 +30,7 @@ other-record-requires c κs = search needs
 
 returns : tie.Need-returns
 unfolding copied
-returns c = λ output. shows-yes _ (sym (c .before .other-record .ensures _) ∙ c .if1 .taken) (shows-trap refl refl)
+returns c = λ output. shows-yes _ (sym (c .before .other-record .ensures) ∙ c .if1 .taken) (shows-trap refl refl)
 
 size-of-requires : tie.Need-size-of-requires
 size-of-requires c κs = search needs
@@ -46,7 +46,7 @@ unfolding copied
 returns-2 c = λ output.
     let at = c .before .before in
     rw (← c .before .size-of .ensures)
-    (shows-no _ (sym (at .before .other-record .ensures _) ∙ at .if1 .left) (shows-no-part _ _ _ (c .if2 .taken)))
+    (shows-no _ (sym (at .before .other-record .ensures) ∙ at .if1 .left) (shows-no-part _ _ _ (c .if2 .taken)))
 
 add-target-end : tie.Need-add-target-end
 add-target-end c = search needs
@@ -56,7 +56,7 @@ unfolding copied
 returns-3 c = λ output.
     let at = c .before .before .before in
     rw (← c .before .before .size-of .ensures)
-    (shows-no _ (sym (at .before .other-record .ensures _) ∙ at .if1 .left)
+    (shows-no _ (sym (at .before .other-record .ensures) ∙ at .if1 .left)
     (shows-part _ _ _ (c .before .if2 .left)
     (shows-by (not-written _ _ _ (rw (many (c .before)) (c .if3 .taken))) shows-stuck)))
 
@@ -76,7 +76,7 @@ returns-4 c = λ output.
     let part = c .before .before .before .before .before in
     let start = at .before .before .before .before .before in
     rw (← part .before .size-of .ensures)
-    (shows-no _ (sym (at .before .other-record .ensures _) ∙ at .if1 .left)
+    (shows-no _ (sym (at .before .other-record .ensures) ∙ at .if1 .left)
     (shows-part _ _ _ (part .if2 .left)
     (shows-written _ _ (start .pre .1) (start .pre .2) (rw (many part) (c .before .before .before .before .if3 .left))
     (c .before .before .copy .ensures) (c .at-row .ensures))))

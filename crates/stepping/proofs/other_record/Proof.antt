@@ -12,13 +12,11 @@ type-at-requires c κs = search needs
 
 returns : tie.Need-returns
 unfolding otherRecord
-returns c = λ s.
-    rw (← c .before .before .type-at .ensures) (sym (also-pass _ (eq-eqb _ 4 (c .if1 .taken))))
+returns c = rw (← c .before .before .type-at .ensures) (sym (also-pass _ (eq-eqb _ 4 (c .if1 .taken))))
 
 returns-2 : tie.Need-returns-2
 unfolding otherRecord
-returns-2 c = λ s.
-    rw (← c .before .before .type-at .ensures) (sym (also-left _ (ne-eqb _ 4 (c .if1 .left))))
+returns-2 c = rw (← c .before .before .type-at .ensures) (sym (also-left _ (ne-eqb _ 4 (c .if1 .left))))
 
 pub other-record-spec : {M : Type 1} → statement M
 other-record-spec = tie.close (tie.spec type-at-requires returns returns-2)

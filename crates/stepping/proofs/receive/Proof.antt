@@ -9,8 +9,6 @@ use lib.ListN.{getD}
 use mir.Syntax.{w32}
 use mir.Val.{SFits}
 use Rattle.values.proofs.Numbers.{cast-fits, wide}
-use Rattle.semantics.specs.Running.{programOf}
-use Rattle.semantics.specs.Memory.{bare}
 use Rattle.semantics.specs.Stepping.{afterRead, received}
 use Rattle.calling.specs.Showing.{Shows.shows-trap, Shows.shows-stuck}
 use Rattle.stepping.proofs.Showing.{shows-by, shows-yes, shows-no, shows-place, shows-lost-place, shows-read}
@@ -67,10 +65,9 @@ returns-3 : tie.Need-returns-3
 unfolding received afterRead
 returns-3 c = λ output.
     let before = c .before .before .before .before .before in
-    let g = programOf (now (before .before .before .before .before .before .before .args .image)) in
     shows-place _ (before .find .ensures) (c .before .before .before .found .given .1)
     (shows-yes _ (lt-ltb _ _ (c .before .if1 .left))
-    (shows-by (ap (afterRead bare g) (not-written _ _ _ (omega arith))) shows-stuck))
+    (shows-by (ap afterRead (not-written _ _ _ (omega arith))) shows-stuck))
 
 cast-number : tie.Need-cast-number
 cast-number c = search needs
@@ -101,7 +98,7 @@ returns-4 c = λ output.
     let fits : SFits w32 (getD (now (start .args .input)) (start .args .s .read) (pos 0)) = search needs in
     shows-place _ (before .find .ensures) (c .before .before .before .before .before .before .before .found .given .1)
     (shows-yes _ (lt-ltb _ _ (c .before .before .before .before .before .if1 .left))
-    (shows-read _ _ _ (start .pre .1) (start .pre .2) (c .before .before .before .before .if2 .left) fits
+    (shows-read _ _ (start .pre .1) (start .pre .2) (c .before .before .before .before .if2 .left) fits
     (rw (wide _ fits) at (c .before .put .ensures))))
 
 pub receive-spec : {M : Type 1} → statement M

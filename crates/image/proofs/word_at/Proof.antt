@@ -1,7 +1,7 @@
 use Rattle.image.specs.Rows.{wordAt}
 use borrow.Author.Needs.{needs}
-use Rattle.packs.proofs.word_at.Statement.{statement}
-use Rattle.packs.proofs.word_at.Tie as tie
+use Rattle.image.proofs.word_at.Statement.{statement}
+use Rattle.image.proofs.word_at.Tie as tie
 
 number-at-requires : tie.Need-number-at-requires
 number-at-requires c κs = search needs
