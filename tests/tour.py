@@ -16,9 +16,10 @@ import sys
 
 TOP = pathlib.Path(__file__).resolve().parent.parent
 CRATES = TOP / 'crates'
-PLACES = tuple(f'{path.name}/' for path in TOP.iterdir() if path.is_dir() and path.name not in ('target', '.git'))
-FILES = tuple(path.name for path in TOP.iterdir() if path.is_file())
+FILE = re.compile(r'(?:crates|docs|examples|include|rust|tests|tools|vectors|\.ci)/.*|[\w.-]+\.(?:md|txt)')
 ANY = re.compile('NAME|MODULE|FUNCTION|MISTAKE')
+ITEM = r'(?:pub )?(?:extern "C" )?(?:fn|struct|enum) '
+DEFINES = r'(?:unfoldable |abbrev )?(?:pub )?(?:record |data )?'
 MODULE = re.compile(r'`([a-z_]+)/([A-Z]\w*)`(?::((?:(?:,| and)?\s+`[^`\s/]+`)+))?')
 
 
@@ -46,21 +47,20 @@ def wrong_quote(file, lines):
         return f'there is no file {file} to quote'
     rest = flat(path.read_text(encoding='utf-8'))
     for piece in re.split(r'\n *\.\.\n', '\n'.join(lines)):
-        before, found, rest = rest.partition(flat(piece))
+        _, found, rest = rest.partition(flat(piece))
         if not found:
             return f'{file} has no "{flat(piece)[:60]}"'
     return None
 
 
-def defines(crate, module, name):
-    start = re.compile(rf'^\s*(?:unfoldable |abbrev )?(?:pub )?(?:record |data )?{re.escape(name)}(?=[\s:]|$)', re.MULTILINE)
-    paths = [CRATES / crate / folder / f'{module}.antt' for folder in ('specs', 'proofs')]
-    return any(start.search(path.read_text(encoding='utf-8')) for path in paths if path.is_file())
+def any_has(paths, pattern):
+    """Whether a line of one of the files begins with the pattern, behind white space."""
+    line = re.compile(rf'^\s*{pattern}(?![\w-])', re.MULTILINE)
+    return any(line.search(path.read_text(encoding='utf-8')) for path in paths)
 
 
-def has_item(crate, name):
-    start = re.compile(rf'\b(?:fn|struct|enum) {name}\b')
-    return any(start.search(path.read_text(encoding='utf-8')) for path in (CRATES / crate / 'src').glob('*.rt'))
+def modules(crate, module):
+    return [path for path in (CRATES / crate).glob(f'*/{module}.antt') if path.parent.name in ('specs', 'proofs')]
 
 
 def mistakes(text):
@@ -73,19 +73,18 @@ def mistakes(text):
             yield f'line {number}: {wrong}'
     prose = '\n'.join(line for line in text.splitlines() if not line.startswith('    '))
     for token in sorted(set(re.findall(r'`([^`\n]+)`', prose))):
-        if token.startswith(PLACES) or token in FILES:
-            if not list(TOP.glob(ANY.sub('*', token.split()[0]))):
-                yield f'there is no {token}'
+        if FILE.fullmatch(token) and not list(TOP.glob(ANY.sub('*', token.split()[0]))):
+            yield f'there is no {token}'
         code, edit = re.fullmatch(r'([a-z_]+)::(\w+)', token), re.fullmatch(r'([a-z_]+)/must-fail/(\w+)', token)
-        if code and not has_item(*code.groups()):
+        if code and not any_has((CRATES / code[1] / 'src').glob('*.rt'), ITEM + code[2]):
             yield f'there is no {token}'
         if edit and not (CRATES / edit[1] / 'must-fail' / f'{edit[2]}.edit').is_file():
             yield f'there is no edit {token}'
     for crate, module, names in MODULE.findall(prose):
-        if not any((CRATES / crate / folder / f'{module}.antt').is_file() for folder in ('specs', 'proofs')):
+        if not modules(crate, module):
             yield f'there is no module {crate}/{module}'
         for name in re.findall(r'`([^`]+)`', names):
-            if not defines(crate, module, name):
+            if not any_has(modules(crate, module), DEFINES + re.escape(name)):
                 yield f'{crate}/{module} has no {name}'
 
 
