@@ -1,0 +1,117 @@
+#!/usr/bin/env python3
+"""Holds docs/TOUR.md to the repository: tour.py --check
+
+First a few small texts, each with one mistake that must be found. Then of docs/TOUR.md:
+- a file or folder in backticks is there; NAME, MODULE, FUNCTION and MISTAKE stand for any name;
+- an indented block behind a line that ends with a file in backticks and a colon stands in that file word for word, up
+  to white space; a line `..` parts pieces that follow one another there;
+- of `crate::name` the crate has such a function, struct or enum;
+- of `crate/Module`: `name`, `name` the module, in specs/ or proofs/, defines or proves each name;
+- of `crate/must-fail/name` there is such an edit;
+- no line has more than 120 characters.
+Each mistake is a line; the exit status is 1 where there is one."""
+import pathlib
+import re
+import sys
+
+TOP = pathlib.Path(__file__).resolve().parent.parent
+CRATES = TOP / 'crates'
+FILE = re.compile(r'(?:crates|docs|examples|include|rust|tests|tools|vectors|\.ci)/.*|[\w.-]+\.(?:md|txt)')
+ANY = re.compile('NAME|MODULE|FUNCTION|MISTAKE')
+ITEM = r'(?:pub )?(?:extern "C" )?(?:fn|struct|enum) '
+DEFINES = r'(?:unfoldable |abbrev )?(?:pub )?(?:record |data )?'
+MODULE = re.compile(r'`([a-z_]+)/([A-Z]\w*)`(?::((?:(?:,| and)?\s+`[^`\s/]+`)+))?')
+
+
+def flat(text):
+    return ' '.join(text.split())
+
+
+def quotes(text):
+    """Each block that a line with its file stands before: the line's number, the file and the block's lines."""
+    found, block = [], None
+    for number, line in enumerate(text.splitlines(), 1):
+        if line.startswith('    '):
+            if block:
+                block[2].append(line)
+        elif line.strip():
+            named = re.search(r'`([^`]+)`:$', line)
+            block = (number, named[1], []) if named else None
+            found += [block] if named else []
+    return [block for block in found if block[2]]
+
+
+def wrong_quote(file, lines):
+    path = TOP / file
+    if not path.is_file():
+        return f'there is no file {file} to quote'
+    rest = flat(path.read_text(encoding='utf-8'))
+    for piece in re.split(r'\n *\.\.\n', '\n'.join(lines)):
+        _, found, rest = rest.partition(flat(piece))
+        if not found:
+            return f'{file} has no "{flat(piece)[:60]}"'
+    return None
+
+
+def any_has(paths, pattern):
+    """Whether a line of one of the files begins with the pattern, behind white space."""
+    line = re.compile(rf'^\s*{pattern}(?![\w-])', re.MULTILINE)
+    return any(line.search(path.read_text(encoding='utf-8')) for path in paths)
+
+
+def modules(crate, module):
+    return [path for path in (CRATES / crate).glob(f'*/{module}.antt') if path.parent.name in ('specs', 'proofs')]
+
+
+def mistakes(text):
+    for number, line in enumerate(text.splitlines(), 1):
+        if len(line) > 120:
+            yield f'line {number} has {len(line)} characters'
+    for number, file, lines in quotes(text):
+        wrong = wrong_quote(file, lines)
+        if wrong:
+            yield f'line {number}: {wrong}'
+    prose = '\n'.join(line for line in text.splitlines() if not line.startswith('    '))
+    for token in sorted(set(re.findall(r'`([^`\n]+)`', prose))):
+        if FILE.fullmatch(token) and not list(TOP.glob(ANY.sub('*', token.split()[0]))):
+            yield f'there is no {token}'
+        code, edit = re.fullmatch(r'([a-z_]+)::(\w+)', token), re.fullmatch(r'([a-z_]+)/must-fail/(\w+)', token)
+        if code and not any_has((CRATES / code[1] / 'src').glob('*.rt'), ITEM + code[2]):
+            yield f'there is no {token}'
+        if edit and not (CRATES / edit[1] / 'must-fail' / f'{edit[2]}.edit').is_file():
+            yield f'there is no edit {token}'
+    for crate, module, names in MODULE.findall(prose):
+        if not modules(crate, module):
+            yield f'there is no module {crate}/{module}'
+        for name in re.findall(r'`([^`]+)`', names):
+            if not any_has(modules(crate, module), DEFINES + re.escape(name)):
+                yield f'{crate}/{module} has no {name}'
+
+
+BROKEN = [
+    'a' * 121,
+    '`docs/NONE.md`',
+    '`crates/NAME/specs/MODULE.none`',
+    'Of `crates/sets/src/lib.rt`:\n\n    fn member(x: i64, s: u32) -> bool\n',
+    'Of `crates/sets/src/lib.rt`:\n\n    // The elements a to b.\n    ..\n    // Whether x is an element of s.\n',
+    '`sets::remember`',
+    '`sets/None`',
+    '`sets/Sets`: `memberOf` and `remember`',
+    '`sets/Members`: `member-union`, `member`',
+    '`sets/must-fail/none`',
+]
+
+
+def main(arguments):
+    if arguments != ['--check']:
+        print('usage: tour.py --check', file=sys.stderr)
+        return 2
+    found = [f'not found in {text[:60]!r}' for text in BROKEN if len(list(mistakes(text))) != 1]
+    found += mistakes((TOP / 'docs/TOUR.md').read_text(encoding='utf-8'))
+    for mistake in found:
+        print(f'tour: {mistake}')
+    return 1 if found else 0
+
+
+if __name__ == '__main__':
+    sys.exit(main(sys.argv[1:]))
