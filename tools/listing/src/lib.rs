@@ -1,8 +1,5 @@
-//! Images as text: rustc --edition 2021 -O -o target/listing tools/listing.rs
-//!
-//! listing assemble FILE.lst FILE.img   writes the image of a listing
-//! listing print FILE.img               prints the listing of an image
-//! listing again FILE.img...            prints each image and assembles what is printed; the same bytes must come back
+//! Images as text, and back: the tables of an image (`tables_of`, `image_of`) and their listing (`listing_of`,
+//! `read_listing`).
 //!
 //! A listing has a line for each row, with the row's number. `--` begins a comment. The rows of one table stand in
 //! order, from 0 on; the tables may be mixed, so that nodes can stand before the statement that names them. In these
@@ -36,10 +33,8 @@
 //!     statement N: row kind zero a b c
 //!
 //! So every image that passes questions 1 to 3 has a listing, whatever the other questions say of it.
-use std::process::ExitCode;
-
 #[derive(Clone, Copy)]
-struct Row {
+pub struct Row {
     kind: u8,
     zero: u8,
     a: u16,
@@ -47,7 +42,7 @@ struct Row {
     c: u16,
 }
 
-type Tables = [Vec<Row>; 6];
+pub type Tables = [Vec<Row>; 6];
 
 const TYPES: usize = 0;
 const FIELDS: usize = 1;
@@ -68,70 +63,11 @@ const ROWS: [(&str, usize, usize); 6] = [
 
 const SCALARS: [&str; 3] = ["BOOLEAN", "INTEGER", "SET"];
 const KINDS_OF_VARIABLES: [&str; 4] = ["global", "local", "value", "VAR"];
-const OPERATORS: [&str; 16] =
-    ["+", "-", "*", "DIV", "MOD", "/", "=", "#", "<", "<=", ">", ">=", "&", "OR", "IN", ".."];
-
-const USAGE: &str = "usage: listing assemble FILE.lst FILE.img | listing print FILE.img | listing again FILE.img...";
-
-fn main() -> ExitCode {
-    let words: Vec<String> = std::env::args().skip(1).collect();
-    let words: Vec<&str> = words.iter().map(String::as_str).collect();
-    let done = match words[..] {
-        ["assemble", listing, image] => assemble(listing, image),
-        ["print", image] => print(image),
-        ["again", ref images @ ..] if !images.is_empty() => again(images),
-        _ => Err((2, USAGE.to_string())),
-    };
-    match done {
-        Ok(()) => ExitCode::SUCCESS,
-        Err((code, message)) => {
-            eprintln!("{message}");
-            ExitCode::from(code)
-        }
-    }
-}
-
-/// What the program exits with: 1 where the listing or the image is wrong, 2 where a file cannot be read or written.
-type Failed = (u8, String);
-
-fn assemble(listing: &str, image: &str) -> Result<(), Failed> {
-    let text = std::fs::read(listing).map_err(|error| (2, format!("{listing}: {error}")))?;
-    let tables = read_listing(&text).map_err(|(line, message)| (1, format!("{listing}:{line}: {message}")))?;
-    std::fs::write(image, image_of(&tables)).map_err(|error| (2, format!("{image}: {error}")))
-}
-
-fn print(image: &str) -> Result<(), Failed> {
-    use std::io::Write;
-    let bytes = std::fs::read(image).map_err(|error| (2, format!("{image}: {error}")))?;
-    let tables = tables_of(&bytes).map_err(|question| (1, format!("{image}: no listing: refused by {question}")))?;
-    let text = listing_of(&tables);
-    std::io::stdout().write_all(text.as_bytes()).map_err(|error| (2, format!("standard output: {error}")))
-}
-
-fn again(images: &[&str]) -> Result<(), Failed> {
-    let (mut same, mut without, mut differing) = (0, 0, 0);
-    for image in images {
-        let bytes = std::fs::read(image).map_err(|error| (2, format!("{image}: {error}")))?;
-        match tables_of(&bytes).map(|tables| read_listing(listing_of(&tables).as_bytes())) {
-            Err(_) => without += 1,
-            Ok(Ok(tables)) if image_of(&tables) == bytes => same += 1,
-            Ok(Ok(_)) => {
-                println!("{image}: other bytes come back");
-                differing += 1;
-            }
-            Ok(Err((line, message))) => {
-                println!("{image}: line {line} of its listing: {message}");
-                differing += 1;
-            }
-        }
-    }
-    println!("{same} the same, {differing} different, {without} without a listing");
-    if differing == 0 { Ok(()) } else { Err((1, "listing: images do not come back".to_string())) }
-}
+const OPERATORS: [&str; 16] = ["+", "-", "*", "DIV", "MOD", "/", "=", "#", "<", "<=", ">", ">=", "&", "OR", "IN", ".."];
 
 // ---- images
 
-fn image_of(tables: &Tables) -> Vec<u8> {
+pub fn image_of(tables: &Tables) -> Vec<u8> {
     let mut rows = Vec::new();
     for table in tables {
         rows.extend((table.len() as u16).to_be_bytes());
@@ -149,7 +85,7 @@ fn image_of(tables: &Tables) -> Vec<u8> {
 }
 
 /// The six tables, or which of questions 1 to 3 says no.
-fn tables_of(image: &[u8]) -> Result<Tables, &'static str> {
+pub fn tables_of(image: &[u8]) -> Result<Tables, &'static str> {
     if image.first() != Some(&1) {
         return Err("question 1: its first byte is not 1");
     }
@@ -172,15 +108,19 @@ fn tables_of(image: &[u8]) -> Result<Tables, &'static str> {
         }
         rest = &after[8 * count..];
     }
-    if rest.is_empty() { Ok(tables) } else { Err(no) }
+    if rest.is_empty() {
+        Ok(tables)
+    } else {
+        Err(no)
+    }
 }
 
 // ---- from a listing to tables
 
 /// A line's number and what is wrong with it.
-type Wrong = (usize, String);
+pub type Wrong = (usize, String);
 
-fn read_listing(text: &[u8]) -> Result<Tables, Wrong> {
+pub fn read_listing(text: &[u8]) -> Result<Tables, Wrong> {
     let mut tables: Tables = Default::default();
     let mut line = Line { symbols: Vec::new(), at: 0 };
     let mut last = 0;
@@ -259,7 +199,11 @@ impl<'a> Line<'a> {
     }
 
     fn take(&mut self, symbol: &str) -> Result<(), String> {
-        if self.takes(symbol) { Ok(()) } else { Err(self.expected(&format!("'{symbol}'"))) }
+        if self.takes(symbol) {
+            Ok(())
+        } else {
+            Err(self.expected(&format!("'{symbol}'")))
+        }
     }
 
     fn number_to(&mut self, most: u32) -> Result<u32, String> {
@@ -530,7 +474,7 @@ fn read_statement(line: &mut Line) -> Result<Row, String> {
 
 // ---- from tables to a listing
 
-fn listing_of(tables: &Tables) -> String {
+pub fn listing_of(tables: &Tables) -> String {
     let mut printer = Printer { tables, text: String::new(), next: [0; 6] };
     for _ in &tables[TYPES] {
         printer.type_row();
@@ -573,9 +517,9 @@ impl Printer<'_> {
         let (at, name) = (self.next[table], ROWS[table].0);
         let row = self.tables[table][at];
         let mark = if table == STATEMENTS { ":" } else { " =" };
-        let text = text.or_else(|| row_text(table, at, row)).unwrap_or_else(|| {
-            format!("{mark} row {} {} {} {} {}", row.kind, row.zero, row.a, row.b, row.c)
-        });
+        let text = text
+            .or_else(|| row_text(table, at, row))
+            .unwrap_or_else(|| format!("{mark} row {} {} {} {} {}", row.kind, row.zero, row.a, row.b, row.c));
         let line = format!("{name} {at}{text}");
         match (table == STATEMENTS).then(|| meaning(self.tables, row)).flatten() {
             Some(comment) if line.len().max(43) + comment.len() < 116 => {
