@@ -39,7 +39,7 @@ mod print;
 mod read;
 mod words;
 
-pub use print::{fields_before, listing_of, row_line};
+pub use print::{fields_before, listing_of, row_line, row_text};
 pub use read::{read_listing, Wrong};
 pub use words::{children, named, type_words, Words};
 

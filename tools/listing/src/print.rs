@@ -148,7 +148,7 @@ pub fn row_line(table: usize, at: usize, row: Row) -> String {
     }
 }
 
-/// What stands after the row's number, where the row has a form of its own.
+/// What stands after the row's number, where the row has a form of its own; a record's is not given here.
 pub fn row_text(table: usize, at: usize, row: Row) -> Option<String> {
     let Row { kind, zero, a, b, c } = row;
     if zero != 0 {

@@ -21,14 +21,14 @@ impl<'a> Words<'a> {
         Words { tables, most, nodes: Vec::new(), whole: true }
     }
 
-    /// A statement; nothing where it says no more than its row, or calls what is not there.
+    /// A statement; nothing where it says no more than its row, calls what is not there, or has too many arguments.
     pub fn statement(&mut self, row: Row) -> Option<String> {
         match row.kind {
             0 => Some(format!("{} := {}", self.node(row.a), self.node(row.b))),
             1 => {
                 let parameters = self.tables[PROCEDURES].get(row.a as usize)?.b;
-                let last = row.b.checked_add(parameters)?;
-                let arguments: Vec<String> = (row.b..last).map(|node| self.node(node)).collect();
+                let end = row.b.checked_add(parameters).filter(|_| parameters as usize <= self.most)?;
+                let arguments: Vec<String> = (row.b..end).map(|node| self.node(node)).collect();
                 Some(format!("p{}({})", row.a, arguments.join(", ")))
             }
             2 => Some(format!("IF NOT ({}) GOTO {}", self.node(row.a), row.b)),

@@ -1,0 +1,145 @@
+//! What the check says of an image, and why.
+use crate::dump::{Mark, NAMES};
+use listing::{Tables, FIELDS, NODES, PROCEDURES, STATEMENTS, TYPES, VARIABLES};
+use model::{Fault, Program};
+
+/// The eleven questions, in document 01's words, and the table whose row each answers.
+const QUESTIONS: [(&str, usize); 11] = [
+    ("Is there a first byte, and is it 1?", TYPES),
+    ("Are bytes 1 to 4 present, equal to the image's length?", TYPES),
+    ("Are the counts in range, and do the tables fill the image exactly?", TYPES),
+    ("Does each type row, with its own fields, keep its rule?", TYPES),
+    ("Does each variable row keep its form, type row existing, no global after another kind?", VARIABLES),
+    ("Does each procedure row keep its rule?", PROCEDURES),
+    ("Is each node well formed, its rows existing?", NODES),
+    ("Is each statement well formed, its rows existing?", STATEMENTS),
+    ("Is each node named exactly once, by a node or statement?", NODES),
+    ("Has each node a type?", NODES),
+    ("Does each statement keep its type and variable rules?", STATEMENTS),
+];
+
+/// What to do about a refusal by question 1, 2, 3, or a later one.
+const TO_DO: [[&str; 2]; 4] = [
+    [
+        "This is no image, or one of another version. Send the file again. If it is refused again,",
+        "ask its tool maker for an image of version 1.",
+    ],
+    [
+        "The file was cut off, or something was added to it. Send it again, as bytes and not as text.",
+        "If it is refused again, ask its tool maker.",
+    ],
+    [
+        "The length is right and the tables are not. Send the file again. If it is refused again, its",
+        "tool wrote a wrong count: give its tool maker this text and the file.",
+    ],
+    [
+        "The file came whole, and this row is wrong. Send it again. If it is refused again, its tool",
+        "made a mistake: give its tool maker this text and the file.",
+    ],
+];
+
+/// The proved check's answer beside the model's.
+pub struct Verdict {
+    /// Refusal × 65,536 + row, 0 where the image is accepted.
+    number: u32,
+    model: Result<Program, Fault>,
+}
+
+impl Verdict {
+    pub fn of(image: &[u8]) -> Verdict {
+        Verdict { number: door::check_number(image), model: model::check(image) }
+    }
+
+    fn refusal(&self) -> u32 {
+        self.number / 65536
+    }
+
+    fn row(&self) -> u32 {
+        self.number % 65536
+    }
+
+    fn agreed(&self) -> bool {
+        let number = match &self.model {
+            Ok(_) => 0,
+            Err(fault) => fault.refusal * 65536 + fault.row,
+        };
+        number == self.number
+    }
+
+    /// The exit status.
+    pub fn status(&self) -> u8 {
+        match (self.agreed(), self.number) {
+            (false, _) => 3,
+            (true, 0) => 0,
+            (true, _) => 1,
+        }
+    }
+
+    /// The program, where both accept the image.
+    pub fn program(&self) -> Option<&Program> {
+        self.model.as_ref().ok().filter(|_| self.number == 0)
+    }
+
+    /// The row that is refused; none where no row is.
+    pub fn mark(&self, tables: &Tables) -> Option<Mark> {
+        if self.refusal() < 4 {
+            return None;
+        }
+        let (table, row) = (QUESTIONS[self.refusal() as usize - 1].1, self.row() as usize);
+        let unclaimed = row == tables[table].len();
+        match self.refusal() {
+            4 if unclaimed => Some(Mark { table: FIELDS, row: Mark::UNCLAIMED }),
+            6 if unclaimed => Some(Mark { table: VARIABLES, row: Mark::UNCLAIMED }),
+            _ => Some(Mark { table, row }),
+        }
+    }
+
+    /// The verdict in a line.
+    pub fn line(&self) -> String {
+        match self.program() {
+            Some(program) => {
+                let (globals, frame) = (program.globals(), program.frame(0));
+                let cells = globals + frame;
+                format!("accepted; a run needs {cells} cells ({globals} of globals, {frame} of p0), more for calls")
+            }
+            None => answer(self.refusal(), self.row()),
+        }
+    }
+
+    /// What is broken and what to do about it; nothing where the image is accepted.
+    pub fn explained(&self) -> String {
+        match (&self.model, self.agreed()) {
+            (Ok(_), true) => String::new(),
+            (Err(fault), true) => explained(fault),
+            (Ok(_), false) => self.differing("accepted"),
+            (Err(fault), false) => self.differing(&answer(fault.refusal, fault.row)),
+        }
+    }
+
+    fn differing(&self, model: &str) -> String {
+        let proved = answer(self.refusal(), self.row());
+        format!(
+            "\nTHE CHECK AND THE MODEL DIFFER\n  the proved check  {proved}\n  the model         {model}\n  \
+             One of them is wrong. Send the file to the engine's makers.\n"
+        )
+    }
+}
+
+fn answer(refusal: u32, row: u32) -> String {
+    match refusal {
+        0 => "accepted".to_string(),
+        1..=3 => format!("refused by question {refusal}"),
+        _ => format!("refused by question {refusal} at {} row {row}", NAMES[QUESTIONS[refusal as usize - 1].1]),
+    }
+}
+
+fn explained(fault: &Fault) -> String {
+    let (question, _) = QUESTIONS[fault.refusal as usize - 1];
+    let [to_do, or_else] = TO_DO[(fault.refusal as usize - 1).min(3)];
+    format!(
+        "\n{}\n  question   {question}\n  rule       {}\n  broken by  {}\n  to do      {to_do}\n             {or_else}\n",
+        answer(fault.refusal, fault.row),
+        fault.rule.words,
+        fault.detail,
+    )
+}
