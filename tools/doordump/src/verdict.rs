@@ -143,3 +143,34 @@ fn explained(fault: &Fault) -> String {
         fault.detail,
     )
 }
+
+#[cfg(test)]
+mod tests {
+    use super::*;
+
+    fn smallest() -> Vec<u8> {
+        let listing = "type 0 = BOOLEAN\ntype 1 = INTEGER\ntype 2 = SET\nprocedure 0 at 0 parameters 0 locals 0\n\
+                       statement 0: RETURN\n";
+        listing::image_of(&listing::read_listing(listing.as_bytes()).unwrap())
+    }
+
+    #[test]
+    fn where_the_check_and_the_model_differ_it_is_said() {
+        let agreed = Verdict::of(&smallest());
+        assert_eq!((agreed.status(), agreed.explained()), (0, String::new()));
+        let differing = Verdict { number: 7 * 65536 + 12, ..agreed };
+        assert_eq!(differing.status(), 3);
+        assert!(differing.program().is_none());
+        let said = differing.explained();
+        assert!(said.contains("the proved check  refused by question 7 at node row 12\n"), "{said}");
+        assert!(said.contains("the model         accepted\n"), "{said}");
+    }
+
+    #[test]
+    fn the_questions_are_those_of_document_01() {
+        let document = include_str!("../../../docs/spec/01-scope.md");
+        for (k, (question, _)) in QUESTIONS.iter().enumerate() {
+            assert!(document.contains(&format!("\n{}. {question}", k + 1)), "{question}");
+        }
+    }
+}
