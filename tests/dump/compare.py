@@ -67,7 +67,8 @@ def rows(room):
     if dumped(first, '--row', '9') != (2, ''):
         fail('--row 9: the image has no such statement')
     status, text = dumped(room / '08-jump.img', '--row', '1')
-    if status != 1 or not text.endswith('no run stops at a statement of this image: it is refused before its first step\n'):
+    said = 'no run stops at a statement of this image: it is refused before its first step\n'
+    if status != 1 or not text.endswith(said):
         fail('--row of a refused image')
 
 
@@ -163,6 +164,9 @@ def hostile(room):
     lines = {
         'doubled': ['procedure 0 at 0 parameters 0 locals 0', 'node 0 = INTEGER 1', 'statement 0: WRITE 2047']
                    + [f'node {n} = {n - 1} + {n - 1}' for n in range(1, 2048)],
+        'shared': ['procedure 0 at 0 parameters 0 locals 0', 'node 0 = INTEGER 1']
+                  + [f'node {n} = - {n - 1}' for n in range(1, 2048)]
+                  + [f'statement {s}: WRITE 2047' for s in range(1024)],
         'circle': ['procedure 0 at 0 parameters 0 locals 0', 'statement 0: WRITE 0']
                   + [f'node {n} = {(n + 1) % 2048} + {n}' for n in range(2048)],
         'parameters': [f'procedure {p} at 0 parameters 65535 locals 65535' for p in range(64)]
@@ -176,8 +180,8 @@ def hostile(room):
         source.write_text(scalars + '\n'.join(rows_of) + '\n', encoding='ascii')
         image = image_of(source, room)
         answered(image)
-        if len(dumped(image)[1]) > 1000000:
-            fail(f'{name}: more than 1,000,000 characters')
+        if len(dumped(image)[1]) > 2000000:
+            fail(f'{name}: more than 2,000,000 characters')
     return len(lines)
 
 

@@ -36,7 +36,7 @@ pub fn head(image: &[u8], tables: &Tables) -> String {
 /// The tables, with sizes and places where the image is accepted.
 pub fn of(tables: &Tables, program: Option<&Program>, mark: Option<Mark>) -> String {
     let said = tables.each_ref().map(|table| vec![false; table.len()]);
-    let mut dump = Dump { tables, program, mark, said, text: String::new() };
+    let mut dump = Dump { tables, program, mark, said, has_nodes: false, text: String::new() };
     dump.types();
     dump.globals();
     dump.procedures();
@@ -67,6 +67,8 @@ struct Dump<'a> {
     mark: Option<Mark>,
     /// The rows of each table that are in the text.
     said: [Vec<bool>; 6],
+    /// Whether the text has the node rows of a statement with the marked node.
+    has_nodes: bool,
     text: String,
 }
 
@@ -120,13 +122,13 @@ impl Dump<'_> {
         let before = fields_before(self.tables, at);
         let mut fields: Vec<String> = Vec::new();
         for (k, field) in there.enumerate() {
-            fields.push(format!("f{}: {}", before + k, self.field_text(field)));
+            fields.push(format!(" f{}: {}", before + k, self.field_text(field)));
             self.said[FIELDS][field] = true;
         }
         if missing > 0 {
-            fields.push(format!("{missing} field rows that are not there"));
+            fields.push(format!(" {missing} field rows that are not there"));
         }
-        format!("T{at} = RECORD{base} {} END", fields.join("; ")).replace("  END", " END")
+        format!("T{at} = RECORD{base}{} END", fields.join(";"))
     }
 
     fn field_text(&self, at: usize) -> String {
@@ -198,20 +200,21 @@ impl Dump<'_> {
         self.marked_nodes(at);
     }
 
-    /// The node rows below a statement, where it is marked or one of them is.
+    /// The node rows below a statement, where it is marked or one of them is. Where more statements have the marked
+    /// node, the later ones show it alone.
     fn marked_nodes(&mut self, statement: usize) {
         let Some(mark) = self.mark else { return };
-        let below = below(self.tables, statement);
+        let mut below = below(self.tables, statement);
         let has_marked = mark.table == NODES && below.contains(&mark.row);
-        if has_marked || mark == (Mark { table: STATEMENTS, row: statement }) {
-            for node in below {
-                self.node(node);
-            }
+        if !has_marked && mark != (Mark { table: STATEMENTS, row: statement }) {
+            return;
         }
-    }
-
-    fn node(&mut self, at: usize) {
-        self.line(NODES, at, &format!("          {}", row_line(NODES, at, self.tables[NODES][at])));
+        if std::mem::replace(&mut self.has_nodes, true) {
+            below = vec![mark.row];
+        }
+        for at in below {
+            self.line(NODES, at, &format!("          {}", row_line(NODES, at, self.tables[NODES][at])));
+        }
     }
 
     /// The rows of a table that are not in the text yet.

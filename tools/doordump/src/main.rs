@@ -73,13 +73,13 @@ fn dump_file(file: &str, row: Option<usize>) -> Result<(u8, String), String> {
     Ok((verdict.status(), text))
 }
 
-/// What is said of the row that a run stopped at.
+/// What is said of the row that a run gave back.
 fn stopped(verdict: &Verdict, tables: &listing::Tables, row: usize) -> String {
     match verdict.program() {
         Some(program) => {
             let procedure = program.procedure_at(row);
             let text = dump::statement(tables, row);
-            format!("\nthe run stopped at statement row {row}, in p{procedure}: {text}\n")
+            format!("\nstatement row {row} is in p{procedure}: {text}\n")
         }
         None => "\nno run stops at a statement of this image: it is refused before its first step\n".to_string(),
     }
