@@ -85,9 +85,11 @@ fn the_worked_example_runs_as_stated() {
 }
 
 #[test]
-fn the_dump_in_the_document_is_that_of_the_stored_output() {
+fn the_dumps_in_the_documents_are_the_stored_outputs() {
     let shown = block_with(&text_of("docs/IMAGE.md"), "   PROCEDURE p0");
     assert!(text_of("tests/dump/first.txt").ends_with(&shown), "{shown}");
+    let shown = block_with(&text_of("docs/REFUSALS.md"), "10-index.img: ");
+    assert_eq!(shown, text_of("tests/dump/10-index.txt"));
 }
 
 #[test]
