@@ -9,6 +9,9 @@ use model::Program;
 /// How many nodes a statement has in words; those after them are listed by themselves.
 const NODES_IN_WORDS: usize = 200;
 
+/// How much of what names a node is shown.
+const NAMES_SHOWN: usize = 8;
+
 /// Where the cells of a type, variable or frame are noted.
 const NOTE: usize = 48;
 
@@ -43,6 +46,30 @@ pub fn of(tables: &Tables, program: Option<&Program>, mark: Option<Mark>) -> Str
     dump.rest(VARIABLES, "variables of no procedure");
     dump.rest(NODES, "nodes that no statement above has in words");
     dump.text
+}
+
+/// The nodes that are not named exactly once, each with what names it.
+pub fn names(tables: &Tables) -> String {
+    let mut names = vec![Vec::new(); tables[NODES].len()];
+    let mut add = |node: usize, by: &str, row: usize| match names.get_mut(node) {
+        Some(names) if names.len() <= NAMES_SHOWN => names.push(format!("{by} {row}")),
+        _ => {}
+    };
+    for (at, row) in tables[NODES].iter().enumerate() {
+        children(*row).into_iter().for_each(|node| add(node, "node", at));
+    }
+    for (at, row) in tables[STATEMENTS].iter().enumerate() {
+        named(tables, *row).into_iter().flatten().for_each(|node| add(node, "statement", at));
+    }
+    let mut text = "\n   nodes that are not named exactly once\n".to_string();
+    for (node, names) in names.iter().enumerate().filter(|(_, names)| names.len() != 1) {
+        text += &match names.len() {
+            0 => format!("     node {node}: named by nothing\n"),
+            1..=NAMES_SHOWN => format!("     node {node}: named by {}\n", names.join(", ")),
+            _ => format!("     node {node}: named by {} and more\n", names[..NAMES_SHOWN].join(", ")),
+        };
+    }
+    text
 }
 
 /// A statement in words.

@@ -66,6 +66,9 @@ fn dump_file(file: &str, row: Option<usize>) -> Result<(u8, String), String> {
     };
     let mut text = format!("{file}: {}\n{}\n", dump::head(&image, &tables), verdict.line());
     text += &dump::of(&tables, verdict.program(), mark);
+    if verdict.is_about_names() {
+        text += &dump::names(&tables);
+    }
     text += &verdict.explained();
     if let Some(row) = row {
         text += &stopped(&verdict, &tables, row);

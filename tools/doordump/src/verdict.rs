@@ -80,6 +80,11 @@ impl Verdict {
         self.model.as_ref().ok().filter(|_| self.number == 0)
     }
 
+    /// Whether question 9 refuses the image.
+    pub fn is_about_names(&self) -> bool {
+        self.refusal() == 9
+    }
+
     /// The row that is refused; none where no row is.
     pub fn mark(&self, tables: &Tables) -> Option<Mark> {
         if self.refusal() < 4 {
