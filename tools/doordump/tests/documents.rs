@@ -85,6 +85,22 @@ fn the_worked_example_runs_as_stated() {
 }
 
 #[test]
+fn the_worked_example_takes_the_steps_stated() {
+    let document = text_of("docs/IMAGE.md");
+    let image = first_image();
+    let mut steps = 0;
+    for line in section(&document, "Its run").lines() {
+        let cells: Vec<&str> = line.split('|').map(str::trim).collect();
+        let [_, step, statement, ..] = cells[..] else { continue };
+        let (Ok(step), Ok(statement)) = (step.parse::<u32>(), statement.parse::<u32>()) else { continue };
+        let before = door::run_numbers(&image, &[], &mut [0; 11], &mut [0; 4], step - 1);
+        assert_eq!((before.outcome, before.row, before.steps), (0, statement, step - 1), "{line}");
+        steps += 1;
+    }
+    assert_eq!(steps, 11);
+}
+
+#[test]
 fn the_dumps_in_the_documents_are_the_stored_outputs() {
     let shown = block_with(&text_of("docs/IMAGE.md"), "   PROCEDURE p0");
     assert!(text_of("tests/dump/first.txt").ends_with(&shown), "{shown}");
