@@ -1,5 +1,5 @@
-//! The tables of an image in words. It asks nothing of their rows: a row that has no words stands with its numbers, as in
-//! a listing.
+//! The tables of an image in words. It asks nothing of their rows: a row that has no words stands with its numbers, as
+//! in a listing.
 use listing::{
     children, fields_before, named, row_line, row_text, type_words, Row, Tables, Words, FIELDS, KINDS_OF_VARIABLES,
     NODES, PROCEDURES, STATEMENTS, TYPES, VARIABLES,

@@ -3,20 +3,32 @@ use crate::dump::{Mark, NAMES};
 use listing::{Tables, FIELDS, NODES, PROCEDURES, STATEMENTS, TYPES, VARIABLES};
 use model::{Fault, Program};
 
-/// The eleven questions, in document 01's words, and the table whose row each answers.
-const QUESTIONS: [(&str, usize); 11] = [
-    ("Is there a first byte, and is it 1?", TYPES),
-    ("Are bytes 1 to 4 present, equal to the image's length?", TYPES),
-    ("Are the counts in range, and do the tables fill the image exactly?", TYPES),
-    ("Does each type row, with its own fields, keep its rule?", TYPES),
-    ("Does each variable row keep its form, type row existing, no global after another kind?", VARIABLES),
-    ("Does each procedure row keep its rule?", PROCEDURES),
-    ("Is each node well formed, its rows existing?", NODES),
-    ("Is each statement well formed, its rows existing?", STATEMENTS),
-    ("Is each node named exactly once, by a node or statement?", NODES),
-    ("Has each node a type?", NODES),
-    ("Does each statement keep its type and variable rules?", STATEMENTS),
+/// The eleven questions, in document 01's words.
+const QUESTIONS: [&str; 11] = [
+    "Is there a first byte, and is it 1?",
+    "Are bytes 1 to 4 present, equal to the image's length?",
+    "Are the counts in range, and do the tables fill the image exactly?",
+    "Does each type row, with its own fields, keep its rule?",
+    "Does each variable row keep its form, type row existing, no global after another kind?",
+    "Does each procedure row keep its rule?",
+    "Is each node well formed, its rows existing?",
+    "Is each statement well formed, its rows existing?",
+    "Is each node named exactly once, by a node or statement?",
+    "Has each node a type?",
+    "Does each statement keep its type and variable rules?",
 ];
+
+/// The table whose row a question answers.
+fn table_of(question: u32) -> Option<usize> {
+    match question {
+        4 => Some(TYPES),
+        5 => Some(VARIABLES),
+        6 => Some(PROCEDURES),
+        7 | 9 | 10 => Some(NODES),
+        8 | 11 => Some(STATEMENTS),
+        _ => None,
+    }
+}
 
 /// What to do about a refusal by question 1, 2, 3, or a later one.
 const TO_DO: [[&str; 2]; 4] = [
@@ -87,14 +99,11 @@ impl Verdict {
 
     /// The row that is refused; none where no row is.
     pub fn mark(&self, tables: &Tables) -> Option<Mark> {
-        if self.refusal() < 4 {
-            return None;
-        }
-        let (table, row) = (QUESTIONS[self.refusal() as usize - 1].1, self.row() as usize);
+        let (table, row) = (table_of(self.refusal())?, self.row() as usize);
         let unclaimed = row == tables[table].len();
-        match self.refusal() {
-            4 if unclaimed => Some(Mark { table: FIELDS, row: Mark::UNCLAIMED }),
-            6 if unclaimed => Some(Mark { table: VARIABLES, row: Mark::UNCLAIMED }),
+        match table {
+            TYPES if unclaimed => Some(Mark { table: FIELDS, row: Mark::UNCLAIMED }),
+            PROCEDURES if unclaimed => Some(Mark { table: VARIABLES, row: Mark::UNCLAIMED }),
             _ => Some(Mark { table, row }),
         }
     }
@@ -131,22 +140,26 @@ impl Verdict {
 }
 
 fn answer(refusal: u32, row: u32) -> String {
-    match refusal {
-        0 => "accepted".to_string(),
-        1..=3 => format!("refused by question {refusal}"),
-        _ => format!("refused by question {refusal} at {} row {row}", NAMES[QUESTIONS[refusal as usize - 1].1]),
+    match (refusal, table_of(refusal)) {
+        (0, _) => "accepted".to_string(),
+        (_, Some(table)) => format!("refused by question {refusal} at {} row {row}", NAMES[table]),
+        (_, None) => format!("refused by question {refusal}"),
     }
 }
 
 fn explained(fault: &Fault) -> String {
-    let (question, _) = QUESTIONS[fault.refusal as usize - 1];
-    let [to_do, or_else] = TO_DO[(fault.refusal as usize - 1).min(3)];
-    format!(
-        "\n{}\n  question   {question}\n  rule       {}\n  broken by  {}\n  to do      {to_do}\n             {or_else}\n",
+    let question = fault.refusal as usize - 1;
+    let [to_do, or_else] = TO_DO[question.min(3)];
+    let lines = [
+        String::new(),
         answer(fault.refusal, fault.row),
-        fault.rule.words,
-        fault.detail,
-    )
+        format!("  question   {}", QUESTIONS[question]),
+        format!("  rule       {}", fault.rule.words),
+        format!("  broken by  {}", fault.detail),
+        format!("  to do      {to_do}"),
+        format!("             {or_else}"),
+    ];
+    lines.join("\n") + "\n"
 }
 
 #[cfg(test)]
@@ -174,7 +187,7 @@ mod tests {
     #[test]
     fn the_questions_are_those_of_document_01() {
         let document = include_str!("../../../docs/spec/01-scope.md");
-        for (k, (question, _)) in QUESTIONS.iter().enumerate() {
+        for (k, question) in QUESTIONS.iter().enumerate() {
             assert!(document.contains(&format!("\n{}. {question}", k + 1)), "{question}");
         }
     }
