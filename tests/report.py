@@ -4,8 +4,8 @@
 report.py          write vectors/report/, vectors/input/ and the images in tests/bench/programs/
 report.py --check  compare these with what would be written; exits 1 where one differs
 
-The images are what `listing assemble` makes of the listings; tools/listing.rs is built by rustc where target/listing
-is not there or older. Without rustc nothing is compared, and a line says so.
+The images are what `listing assemble` makes of the listings; tools/listing is built by cargo. Without cargo
+nothing is compared, and a line says so.
 
 The answers stand in the first comments of each listing. Outputs, traps and HALT numbers were found by hand from the
 Oberon-2 report and document 01; statement rows, steps and cells by an interpreter that is not kept here, which was
@@ -35,7 +35,7 @@ import sys
 import tempfile
 
 TOP = pathlib.Path(__file__).resolve().parent.parent
-SOURCE, TOOL = TOP / 'tools/listing.rs', TOP / 'target/listing'
+TOOL = TOP / 'target/release/listing'
 KEYS = re.compile(r'-- (run|input|expect|output|cells):((?: -?[0-9]+)*)$')
 UNWRITTEN = 7  # what each output place holds before a run
 OUTPUTS, STEPS = 4096, 100000  # what doorrun lends
@@ -48,12 +48,10 @@ class Bad(Exception):
 
 def built():
     """Whether the tool is there, after building it if it can be built."""
-    if TOOL.is_file() and TOOL.stat().st_mtime >= SOURCE.stat().st_mtime:
-        return True
-    if not shutil.which('rustc'):
+    if not shutil.which('cargo'):
         return False
-    TOOL.parent.mkdir(exist_ok=True)
-    subprocess.run(['rustc', '--edition', '2021', '-O', '-o', TOOL, SOURCE], check=True)
+    build = ['cargo', 'build', '--quiet', '--release', '--offline', '-p', 'listing']
+    subprocess.run(build, cwd=TOP, check=True)
     return True
 
 
@@ -134,7 +132,7 @@ def main(arguments):
         print('usage: report.py [--check]', file=sys.stderr)
         return 2
     if not built():
-        print('report: skipped: there is no rustc')
+        print('report: skipped: there is no cargo')
         return 0 if arguments else 2
     try:
         wanted = files()
