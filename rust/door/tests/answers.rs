@@ -110,16 +110,6 @@ fn numbers_with_no_trap() {
     let _ = Numbers { outcome: 2, trap: 11, ..Numbers::default() }.report();
 }
 
-/// The deepest expression that is accepted, in a thread of the stack that the documents ask for.
-#[test]
-fn the_deepest_expression_in_a_thread() {
-    let deepest = image("../tests/bench/programs/deep-minus.img");
-    let run = move || door::run(&deepest, &[], &mut [0; 64], &mut [], 10).map(|report| report.outcome);
-    let small = std::thread::Builder::new().stack_size(door::RUN_STACK + 16_384).spawn(run.clone());
-    assert_eq!(small.expect("a thread").join().expect("an answer"), Ok(Outcome::StepsUsedUp));
-    assert_eq!(std::thread::spawn(run).join().expect("an answer"), Ok(Outcome::StepsUsedUp));
-}
-
 #[test]
 fn the_limits_are_those_of_the_header() {
     let header = include_str!("../../../include/door.h");
