@@ -3,8 +3,9 @@
  *
  *     gcc -std=c11 -O2 -Wall -Wextra -Wpedantic -Werror -I include -o target/firmware examples/firmware.c \
  *         target/staticlib/libdoor.a
+ *     target/firmware <examples/firmware.events
  *
- * and give it what happens at the door, on standard input, an event to a line (examples/firmware.events):
+ * Its input is what happens at the door, an event to a line; examples/firmware.transcript has what it says to these.
  *
  *     image FILE     a new image has come; it is checked, and replaces the old one where it is accepted
  *     1234 19800     a fob: the numbers that the program reads, here card and day
