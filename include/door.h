@@ -1,5 +1,9 @@
-/* The check and the run of a door program's image, as document 01 asks for them. Link libdoor.a, which
- * `rt staticlib door` writes to target/staticlib/, for x86-64; of other libraries it needs memset alone. */
+/* The check and the run of a door program's image, as document 01 (docs/spec/01-scope.md) asks for them. For C99 and
+ * C++11 and later. docs/FIRMWARE.md is the guide, examples/firmware.c a reader's main loop.
+ *
+ * Link libdoor.a, which `rt staticlib door` writes to target/staticlib/, for x86-64; of other libraries it needs memset
+ * alone. There is no heap, no file, no clock and no state between calls: nothing is touched but what is lent, and the
+ * stack. So several threads may call at once, each with its own store and output. */
 #ifndef DOOR_H
 #define DOOR_H
 
@@ -10,84 +14,105 @@
 extern "C" {
 #endif
 
-/* Answers refusal * 65,536 + row; 0 where the image is accepted. Of all that is wrong with an image the first of these
- * questions that is answered "no" decides, and then the lowest row at fault. Rows count from 0.
+/* The longest image that is accepted, in bytes; the largest store that is taken, in cells. */
+#define DOOR_IMAGE_MAX 29713
+#define DOOR_STORE_MAX 65536
+
+/* The stack that a call needs, in bytes: measured, by painting the stack, and rounded up. It is no proven bound, and
+ * holds for the library that this kit builds.
+ * Check: `bash tests/bench/run` measures 20,536 at most, for the longest image and all of vectors/. No function of it
+ * calls itself.
+ * Run: `bash tests/stack` measures expressions of 2,048 nodes, the deepest that an accepted image can have, in a thread
+ * with this stack and four pages more for the thread itself. */
+#define DOOR_CHECK_STACK 20992
+#define DOOR_RUN_STACK 606208
+
+/* Refusals: the first of document 01's questions that is answered "no", and then the lowest row at fault. Rows count
+ * from 0. door_check gives 0 to 11, door_run all of them.
  *
- *   refusal                                                             row
- *    1  there is no first byte, or it is not 1                          0
- *    2  bytes 1 to 4 are missing, or are not the image's length         0
- *    3  a count is out of range, or the tables do not fill the image    0
- *    4  a type row, or an own field of a record, breaks its rule        the type row; the type count for a field that
- *                                                                       no record claims
- *    5  a variable row breaks its form                                  the variable row
- *    6  a procedure row breaks its rule                                 the procedure row; the procedure count for a
- *                                                                       variable that no procedure claims
- *    7  a node is not well formed, or names a row that is not there     the node row
- *    8  a statement is not well formed, or names such a row             the statement row
- *    9  a node is named never, or more than once                        the node row
- *   10  a node has no type                                              the node row
- *   11  a statement breaks a type rule, or names another procedure's    the statement row
- *       variable
+ *                                      what is wrong                                                   row */
+#define DOOR_ACCEPTED 0u             /* nothing                                                         0 */
+#define DOOR_REFUSED_VERSION 1u      /* there is no first byte, or it is not 1                          0 */
+#define DOOR_REFUSED_LENGTH 2u       /* bytes 1 to 4 are missing, or are not the image's length         0 */
+#define DOOR_REFUSED_TABLES 3u       /* a count is out of range, or the tables do not fill the image    0 */
+#define DOOR_REFUSED_TYPE 4u         /* a type row, or an own field of a record, breaks its rule        type (1) */
+#define DOOR_REFUSED_VARIABLE 5u     /* a variable row breaks its form                                  variable */
+#define DOOR_REFUSED_PROCEDURE 6u    /* a procedure row breaks its rule                                 procedure (2) */
+#define DOOR_REFUSED_NODE 7u         /* a node is not well formed, or names a row that is not there     node */
+#define DOOR_REFUSED_STATEMENT 8u    /* a statement is not well formed, or names such a row             statement */
+#define DOOR_REFUSED_NAMES 9u        /* a node is named never, or more than once                        node */
+#define DOOR_REFUSED_NODE_TYPE 10u   /* a node has no type                                              node */
+#define DOOR_REFUSED_RULE 11u        /* a statement breaks a type rule, or names another procedure's    statement
+                                      * variable */
+#define DOOR_REFUSED_STORE_ABOVE 12u /* the store has more than DOOR_STORE_MAX cells                    0 */
+#define DOOR_REFUSED_STORE_BELOW 13u /* the store has less than G + F0 cells, those of the globals and  0
+                                      * of the module body's frame */
+/* (1) the type count for a field that no record claims; (2) the procedure count for a variable that no procedure
+ * claims. */
+
+/* Outcomes of a run that was not refused. */
+#define DOOR_STEPS_USED_UP 0u /* the program has not ended yet; also where 0 steps are lent */
+#define DOOR_FINISHED 1u      /* the module body returned */
+#define DOOR_TRAPPED 2u       /* a statement could not be carried out; `trap` says why */
+
+/* Traps. */
+#define DOOR_TRAP_NONE 0u     /* not trapped */
+#define DOOR_TRAP_INDEX 1u    /* an index outside its array */
+#define DOOR_TRAP_GUARD 2u    /* a guard that does not hold */
+#define DOOR_TRAP_TARGET 3u   /* a record assigned to one of another dynamic type */
+#define DOOR_TRAP_OVERFLOW 4u /* an INTEGER beyond 32 bits */
+#define DOOR_TRAP_DIVISOR 5u  /* a divisor that is not positive */
+#define DOOR_TRAP_BOUND 6u    /* a set's bound outside 0 to 31 */
+#define DOOR_TRAP_FRAME 7u    /* a call whose frame goes beyond the store */
+#define DOOR_TRAP_INPUT 8u    /* a read when the input is used up */
+#define DOOR_TRAP_OUTPUT 9u   /* a write when the output is full */
+#define DOOR_TRAP_HALT 10u    /* HALT; `halt` has its number */
+
+/* Answers refusal * 65,536 + row; 0 where the image is accepted.
  *
  * `image` points to `length` bytes that can be read and that nobody writes during the call. It must not be null, also
  * where `length` is 0. No more than these bytes are read, and nothing is written but the stack. The check takes images
- * of any length; the longest that is accepted has 29,713 bytes.
+ * of any length.
  *
- * Stack: 20,992 bytes. `bash tests/bench/run` measures it, by painting the stack, for the longest image and all of
- * vectors/: 20,536 bytes at most. No function calls itself. It is no proven bound, and holds for the library that this
- * kit builds. There is no heap and no state between calls, so several threads may check at once. */
+ * Stack: DOOR_CHECK_STACK bytes. */
 uint32_t door_check(const uint8_t *image, size_t length);
 
 /* The two parts of an answer. */
-static inline uint32_t door_refusal(uint32_t answer) { return answer / 65536; }
-static inline uint32_t door_row(uint32_t answer) { return answer % 65536; }
+static inline uint32_t door_refusal(uint32_t answer) { return answer / 65536u; }
+static inline uint32_t door_row(uint32_t answer) { return answer % 65536u; }
 
 /* The nine numbers of a run, in document 01's order. */
 struct door_result {
-    uint32_t refusal; /* 0, or why nothing was run: 1 to 11 as above, 12 or 13 */
+    uint32_t refusal; /* DOOR_ACCEPTED, or why nothing was run: DOOR_REFUSED_.. */
     uint32_t fault;   /* the row of refusal */
-    uint32_t outcome; /* 0 steps used up, 1 finished, 2 trapped */
-    uint32_t trap;    /* 0 unless trapped, else 1 to 10 */
-    int32_t halt;     /* HALT's number with trap 10, else 0 */
+    uint32_t outcome; /* DOOR_STEPS_USED_UP, DOOR_FINISHED or DOOR_TRAPPED */
+    uint32_t trap;    /* DOOR_TRAP_NONE unless trapped, else DOOR_TRAP_.. */
+    int32_t halt;     /* HALT's number with DOOR_TRAP_HALT, else 0 */
     uint32_t row;     /* the statement row: of the last step where it finished or trapped, else of the next */
     uint32_t steps;   /* steps taken; a step that finishes or traps counts */
     uint32_t read;    /* inputs read */
     uint32_t written; /* outputs written */
 };
 
-/* Checks an image and runs it from the fresh state, with at most `steps` steps.
+/* Checks an image, and runs it from the fresh state, with at most `steps` steps. A run cannot be continued: the next
+ * call begins anew.
  *
- *   refusal                                            row
- *    1 to 11  as door_check                            as door_check
- *   12  the store has more than 65,536 cells           0
- *   13  the store has less than G + F0 cells, those    0
- *       of the globals and the module body's frame
+ * A refusal, 1 to 13, leaves store and output as they were, and every other number 0: so `refusal` is asked first, and
+ * `outcome` only where it is DOOR_ACCEPTED. Where door_check accepted the same bytes, 1 to 11 do not come.
  *
- *   trap                                               trap
- *    1  an index outside its array                      6  a set's bound outside 0 to 31
- *    2  a guard that does not hold                      7  a frame beyond the store
- *    3  a record assigned to one of another             8  a read when the input is used up
- *       dynamic type                                    9  a write when the output is full
- *    4  an INTEGER beyond 32 bits                      10  HALT
- *    5  a divisor that is not positive
- *
- * A refusal leaves store and output as they were, and every other number 0. Otherwise `store` has afterwards the
- * number of every cell, also of those above the last frame, and `output` has what was written in its first `written`
- * places and keeps the others. What the store held before does not matter to the run.
+ * Without a refusal, whatever the outcome, `store` has afterwards the number of every cell, also of those above the
+ * last frame, and `output` has what was written in its first `written` places and keeps the others. The step that traps
+ * changes no variable and no output; what earlier steps did stays. What the store held before does not matter to the
+ * run.
  *
  * `image`, `input`, `store` and `output` point to as many bytes, numbers, cells and places as the length behind each
- * says. No pointer may be null, also where its length is 0. `image` and `input` may overlap each other; `store` and
- * `output` may overlap nothing else of the four. Nobody else writes any of them, or reads store or output, during the
- * call. Nothing else is read or written but the stack.
+ * says, each aligned as its type asks. No pointer may be null, also where its length is 0. `image` and `input` may
+ * overlap each other; `store` and `output` may overlap nothing else of the four. Nobody else writes any of them, or
+ * reads store or output, during the call. Nothing else is read or written but the stack.
  *
  * The result is returned by value, so that no fifth memory need be lent.
  *
- * Stack: DOOR_RUN_STACK bytes. `bash tests/stack` measures it, by painting the stack, for expressions of 2,048 nodes,
- * the deepest that an accepted image can have, in a thread with this stack and four pages more for the thread itself.
- * It is no proven bound, and holds for the library that this kit builds. There is no heap and no state between calls, so
- * several threads may run programs at once, each with its own store and output. */
-#define DOOR_RUN_STACK 606208
-
+ * Stack: DOOR_RUN_STACK bytes. */
 struct door_result door_run(const uint8_t *image, size_t image_length, const int32_t *input, size_t input_length,
                             int64_t *store, size_t store_length, int32_t *output, size_t output_length,
                             uint32_t steps);

@@ -9,7 +9,10 @@ fn main() {
         None => top.join("target/staticlib/libdoor.a"),
     };
     println!("cargo:rerun-if-changed={}", library.display());
-    assert!(library.is_file(), "there is no {}: `rt staticlib door` builds it", library.display());
+    if !library.is_file() {
+        eprintln!("there is no {}: `rt staticlib door` builds it, or DOOR_LIBRARY names it", library.display());
+        std::process::exit(1);
+    }
     // The linker finds a library by its folder and name, whatever the file is called.
     let folder = PathBuf::from(std::env::var_os("OUT_DIR").expect("cargo sets OUT_DIR"));
     std::fs::copy(&library, folder.join("libdoor.a")).expect("libdoor.a can be copied");

@@ -1,6 +1,255 @@
 //! The proved check and run of door programs, for Rust.
+//!
+//! A door program comes as an image: bytes, of which nobody has to trust a single one. [`check`] asks document 01's
+//! eleven questions of an image (`docs/spec/01-scope.md`), and says which fails first and at which row. [`run`] asks
+//! them too, and then runs the program step by step, on memory that the caller lends. Both are the functions of
+//! `include/door.h`, written and proved in Rattle; this crate makes them safe to call, and gives their numbers names.
+//!
+//! ```
+//! use door::{Outcome, Refusal};
+//!
+//! // a table of members: it reads card and day, and writes 1 where the door may open
+//! let image = std::fs::read("../../vectors/input/members-1.img").expect("an image");
+//!
+//! let mut store = [0; 64]; // the program's variables and calls
+//! let mut output = [0; 1];
+//! let report = door::run(&image, &[1234, 19800], &mut store, &mut output, 10_000)?;
+//! assert_eq!(report.outcome, Outcome::Finished);
+//! assert_eq!(output[..report.written], [1]);
+//! # Ok::<(), Refusal>(())
+//! ```
+//!
+//! # The library
+//!
+//! `build.rs` links `libdoor.a`: the file that the environment variable `DOOR_LIBRARY` names (from the top of the
+//! repository on), or else `target/staticlib/libdoor.a`, which `rt staticlib door` builds. It is for x86-64 and has no
+//! heap and no state. It needs no other library.
+//!
+//! # Stack
+//!
+//! [`run`] needs up to [`RUN_STACK`] bytes of stack, for the deepest expression that an image may have; [`check`] needs
+//! [`CHECK_STACK`]. A main thread has that, and so has a thread of `std::thread` with its default of 2 MiB. Give a
+//! smaller thread at least `RUN_STACK` and 16 KiB for itself ([`std::thread::Builder::stack_size`]). Where the stack
+//! runs out the process ends, as for every Rust function that calls itself too deep. The two numbers are measured, not
+//! proved.
+//!
+//! # Threads
+//!
+//! All functions may be called from several threads at once. What is lent is borrowed for the call; nothing is kept.
 
-/// The nine numbers of a run, in document 01's order.
+#![deny(missing_docs)]
+#![warn(unsafe_op_in_unsafe_fn)]
+
+use std::fmt;
+
+/// The longest image that is accepted, in bytes. A longer one is refused, with no harm.
+pub const IMAGE_MAX: usize = 29_713;
+
+/// The largest store that [`run`] takes, in cells.
+pub const STORE_MAX: usize = 65_536;
+
+/// The stack that [`check`] needs, in bytes.
+pub const CHECK_STACK: usize = 20_992;
+
+/// The stack that [`run`] needs at most, in bytes. See [Stack](crate#stack).
+///
+/// ```
+/// let image = std::fs::read("../../vectors/input/members-1.img").expect("an image");
+/// let thread = std::thread::Builder::new().stack_size(door::RUN_STACK + 16_384).spawn(move || {
+///     let mut output = [0; 1];
+///     door::run(&image, &[1234, 19800], &mut [0; 64], &mut output, 10_000).map(|_| output[0])
+/// });
+/// assert_eq!(thread.expect("a thread").join().expect("an answer"), Ok(1));
+/// ```
+pub const RUN_STACK: usize = 606_208;
+
+/// Why nothing was run: the first of document 01's questions that is answered "no", and the row at fault.
+///
+/// ```
+/// let refusal = door::check(b"\x02").unwrap_err();
+/// assert_eq!((refusal.number, refusal.row), (1, 0));
+/// assert_eq!(refusal.to_string(), "refusal 1, row 0: there is no first byte, or it is not 1");
+/// ```
+#[derive(Clone, Copy, Debug, PartialEq, Eq, Hash)]
+pub struct Refusal {
+    /// The question: 1 to 11 from [`check`], 1 to 13 from [`run`].
+    pub number: u32,
+    /// The lowest row at fault, from 0 on; 0 for questions 1 to 3, 12 and 13. `include/door.h` says of which table.
+    pub row: u32,
+}
+
+impl Refusal {
+    /// What is wrong, in a few words.
+    ///
+    /// ```
+    /// let refusal = door::Refusal { number: 9, row: 23 };
+    /// assert_eq!(refusal.reason(), "a node is named never, or more than once");
+    /// ```
+    pub fn reason(&self) -> &'static str {
+        match self.number {
+            1 => "there is no first byte, or it is not 1",
+            2 => "bytes 1 to 4 are missing, or are not the image's length",
+            3 => "a count is out of range, or the tables do not fill the image",
+            4 => "a type row, or an own field of a record, breaks its rule",
+            5 => "a variable row breaks its form",
+            6 => "a procedure row breaks its rule",
+            7 => "a node is not well formed, or names a row that is not there",
+            8 => "a statement is not well formed, or names a row that is not there",
+            9 => "a node is named never, or more than once",
+            10 => "a node has no type",
+            11 => "a statement breaks a type rule, or names another procedure's variable",
+            12 => "the store has more than 65,536 cells",
+            13 => "the store has fewer cells than the globals and the module body's frame",
+            _ => "no question has this number",
+        }
+    }
+}
+
+impl fmt::Display for Refusal {
+    fn fmt(&self, f: &mut fmt::Formatter<'_>) -> fmt::Result {
+        write!(f, "refusal {}, row {}: {}", self.number, self.row, self.reason())
+    }
+}
+
+impl std::error::Error for Refusal {}
+
+/// Why a statement could not be carried out.
+///
+/// ```
+/// use door::Trap;
+///
+/// assert_eq!(Trap::Input.to_string(), "a read when the input is used up");
+/// assert_eq!(Trap::Halt(3).to_string(), "HALT(3)");
+/// assert_eq!(Trap::Halt(3).number(), 10);
+/// ```
+#[derive(Clone, Copy, Debug, PartialEq, Eq, Hash)]
+pub enum Trap {
+    /// An index outside its array.
+    Index,
+    /// A guard that does not hold.
+    Guard,
+    /// A record assigned to one of another dynamic type.
+    Target,
+    /// An INTEGER beyond 32 bits.
+    Overflow,
+    /// A divisor that is not positive.
+    Divisor,
+    /// A set's bound outside 0 to 31.
+    Bound,
+    /// A call whose frame goes beyond the store.
+    Frame,
+    /// A read when the input is used up.
+    Input,
+    /// A write when the output is full.
+    Output,
+    /// The program's HALT, with its number.
+    Halt(i32),
+}
+
+impl Trap {
+    /// Document 01's number, 1 to 10.
+    pub fn number(&self) -> u32 {
+        match self {
+            Trap::Index => 1,
+            Trap::Guard => 2,
+            Trap::Target => 3,
+            Trap::Overflow => 4,
+            Trap::Divisor => 5,
+            Trap::Bound => 6,
+            Trap::Frame => 7,
+            Trap::Input => 8,
+            Trap::Output => 9,
+            Trap::Halt(_) => 10,
+        }
+    }
+
+    /// The trap of document 01's number, with HALT's where it is that.
+    fn of(number: u32, halt: i32) -> Option<Trap> {
+        Some(match number {
+            1 => Trap::Index,
+            2 => Trap::Guard,
+            3 => Trap::Target,
+            4 => Trap::Overflow,
+            5 => Trap::Divisor,
+            6 => Trap::Bound,
+            7 => Trap::Frame,
+            8 => Trap::Input,
+            9 => Trap::Output,
+            10 => Trap::Halt(halt),
+            _ => return None,
+        })
+    }
+}
+
+impl fmt::Display for Trap {
+    fn fmt(&self, f: &mut fmt::Formatter<'_>) -> fmt::Result {
+        f.write_str(match self {
+            Trap::Index => "an index outside its array",
+            Trap::Guard => "a guard that does not hold",
+            Trap::Target => "a record assigned to one of another dynamic type",
+            Trap::Overflow => "an INTEGER beyond 32 bits",
+            Trap::Divisor => "a divisor that is not positive",
+            Trap::Bound => "a set's bound outside 0 to 31",
+            Trap::Frame => "a call whose frame goes beyond the store",
+            Trap::Input => "a read when the input is used up",
+            Trap::Output => "a write when the output is full",
+            Trap::Halt(number) => return write!(f, "HALT({number})"),
+        })
+    }
+}
+
+/// How a run that was not refused ended.
+///
+/// ```
+/// use door::{Outcome, Trap};
+///
+/// assert_eq!(Outcome::Finished.to_string(), "finished");
+/// assert_eq!(Outcome::Trapped(Trap::Divisor).to_string(), "trapped: a divisor that is not positive");
+/// ```
+#[derive(Clone, Copy, Debug, PartialEq, Eq, Hash)]
+pub enum Outcome {
+    /// The program has not ended yet. It cannot be continued: the next run begins anew.
+    StepsUsedUp,
+    /// The module body returned.
+    Finished,
+    /// A statement could not be carried out. Its step has changed no variable and no output.
+    Trapped(Trap),
+}
+
+impl fmt::Display for Outcome {
+    fn fmt(&self, f: &mut fmt::Formatter<'_>) -> fmt::Result {
+        match self {
+            Outcome::StepsUsedUp => f.write_str("steps used up"),
+            Outcome::Finished => f.write_str("finished"),
+            Outcome::Trapped(trap) => write!(f, "trapped: {trap}"),
+        }
+    }
+}
+
+/// What a run that was not refused came to.
+///
+/// ```
+/// use door::{Outcome, Report};
+///
+/// let image = std::fs::read("../../vectors/special/smallest.img").expect("an image");
+/// let report = door::run(&image, &[], &mut [0; 3], &mut [], 100);
+/// assert_eq!(report, Ok(Report { outcome: Outcome::Finished, row: 0, steps: 1, read: 0, written: 0 }));
+/// ```
+#[derive(Clone, Copy, Debug, PartialEq, Eq, Hash)]
+pub struct Report {
+    /// How it ended.
+    pub outcome: Outcome,
+    /// The statement row: of the last step where it finished or trapped, else of the next.
+    pub row: u32,
+    /// Steps taken; one that finishes or traps counts.
+    pub steps: u32,
+    /// Inputs read.
+    pub read: usize,
+    /// Outputs written: so many of the first output places. The others keep what they held.
+    pub written: usize,
+}
+
+/// The nine numbers of a run, in document 01's order: `struct door_result` of `include/door.h`.
 #[repr(C)]
 #[derive(Clone, Copy, Debug, Default, PartialEq, Eq)]
 pub struct Numbers {
@@ -24,6 +273,36 @@ pub struct Numbers {
     pub written: u32,
 }
 
+impl Numbers {
+    /// The same in names.
+    ///
+    /// ```
+    /// use door::{Numbers, Outcome, Trap};
+    ///
+    /// let numbers = Numbers { outcome: 2, trap: 10, halt: 3, row: 17, steps: 80, ..Numbers::default() };
+    /// assert_eq!(numbers.report().map(|report| report.outcome), Ok(Outcome::Trapped(Trap::Halt(3))));
+    /// ```
+    ///
+    /// # Panics
+    ///
+    /// Where there is no refusal, and the outcome is not 0 to 2, or is 2 with a trap that is not 1 to 10.
+    /// [`run_numbers`] never gives such numbers. All else has a report or a refusal; numbers without a use in it are not
+    /// looked at.
+    pub fn report(&self) -> Result<Report, Refusal> {
+        if self.refusal != 0 {
+            return Err(Refusal { number: self.refusal, row: self.fault });
+        }
+        let outcome = match (self.outcome, Trap::of(self.trap, self.halt)) {
+            (0, _) => Outcome::StepsUsedUp,
+            (1, _) => Outcome::Finished,
+            (2, Some(trap)) => Outcome::Trapped(trap),
+            _ => panic!("no run has outcome {} with trap {}", self.outcome, self.trap),
+        };
+        let [read, written] = [self.read, self.written].map(|count| count as usize);
+        Ok(Report { outcome, row: self.row, steps: self.steps, read, written })
+    }
+}
+
 mod raw {
     extern "C" {
         pub fn door_check(image: *const u8, length: usize) -> u32;
@@ -41,13 +320,73 @@ mod raw {
     }
 }
 
+/// Asks the eleven questions of an image.
+///
+/// ```
+/// // document 01's smallest program: three types, a procedure, a RETURN
+/// let mut image = [
+///     1, 0, 0, 0, 57, // version, length
+///     0, 3, 0, 0, 0, 0, 0, 0, 0, 0, 1, 0, 0, 0, 0, 0, 0, 0, 2, 0, 0, 0, 0, 0, 0, 0, // types
+///     0, 0, // fields
+///     0, 0, // variables
+///     0, 1, 0, 0, 0, 0, 0, 0, 0, 0, // procedures
+///     0, 0, // nodes
+///     0, 1, 4, 0, 0, 0, 0, 0, 0, 0, // statements
+/// ];
+/// assert_eq!(door::check(&image), Ok(()));
+///
+/// image[15] = 2; // type row 1 is not INTEGER any more
+/// assert_eq!(door::check(&image), Err(door::Refusal { number: 4, row: 1 }));
+/// ```
+pub fn check(image: &[u8]) -> Result<(), Refusal> {
+    match check_number(image) {
+        0 => Ok(()),
+        answer => Err(Refusal { number: answer / 65_536, row: answer % 65_536 }),
+    }
+}
+
+/// Checks an image, and runs it from the fresh state with at most `steps` steps.
+///
+/// `store` holds the program's variables and the frames of its calls; what it held before does not matter. Afterwards
+/// it has the number of every cell, and `output` what was written in its first places. A refusal leaves both as they
+/// were.
+///
+/// ```
+/// use door::{Outcome, Trap};
+///
+/// let image = std::fs::read("../../vectors/input/members-1.img").expect("an image");
+/// let (mut store, mut output) = ([0; 64], [0; 1]);
+///
+/// // the day is missing
+/// let report = door::run(&image, &[1234], &mut store, &mut output, 10_000)?;
+/// assert_eq!(report.outcome, Outcome::Trapped(Trap::Input));
+/// assert_eq!((report.row, report.read, report.written), (6, 1, 0));
+///
+/// // the store is too small
+/// let refusal = door::run(&image, &[1234, 19800], &mut store[..8], &mut output, 10_000).unwrap_err();
+/// assert_eq!(refusal.number, 13);
+/// # Ok::<(), door::Refusal>(())
+/// ```
+pub fn run(image: &[u8], input: &[i32], store: &mut [i64], output: &mut [i32], steps: u32) -> Result<Report, Refusal> {
+    run_numbers(image, input, store, output, steps).report()
+}
+
 /// The check's answer as firmware gets it: refusal × 65,536 + row, 0 where the image is accepted.
+///
+/// ```
+/// assert_eq!(door::check_number(&[]), 65_536);
+/// ```
 pub fn check_number(image: &[u8]) -> u32 {
     // SAFETY: the pointer is that of a slice, so not null, with its length; nobody writes it during the call.
     unsafe { raw::door_check(image.as_ptr(), image.len()) }
 }
 
-/// The run's nine numbers as firmware gets them.
+/// The run's nine numbers as firmware gets them. [`run`] gives them names.
+///
+/// ```
+/// let numbers = door::run_numbers(&[2], &[], &mut [], &mut [], 100);
+/// assert_eq!(numbers, door::Numbers { refusal: 1, ..door::Numbers::default() });
+/// ```
 pub fn run_numbers(image: &[u8], input: &[i32], store: &mut [i64], output: &mut [i32], steps: u32) -> Numbers {
     // SAFETY: each pointer is that of a slice, so not null, with its length; the two that are written are borrowed
     // alone.

@@ -1,0 +1,357 @@
+/* A door reader's main loop: it keeps an image in force, takes a new one only where the check accepts it, and asks the
+ * program about each fob. Build it from the top of the repository:
+ *
+ *     gcc -std=c11 -O2 -Wall -Wextra -Wpedantic -Werror -I include -o target/firmware examples/firmware.c \
+ *         target/staticlib/libdoor.a
+ *     target/firmware <examples/firmware.events
+ *
+ * Its input is what happens at the door, an event to a line; examples/firmware.transcript has what it says to these.
+ *
+ *     image FILE     a new image has come; it is checked, and replaces the old one where it is accepted
+ *     1234 19800     a fob: the numbers that the program reads, here card and day
+ *     steps N        configuration: at most so many steps a fob
+ *     cells N        configuration: so many cells of the store are lent
+ *     fault N        byte N of the image in force is inverted, as by a fault of the memory
+ *
+ * The first part is what a reader's firmware has: no heap, memory of fixed size, no stdio. The second part plays the
+ * hardware. */
+#include <stdbool.h>
+#include <stddef.h>
+#include <stdint.h>
+
+#include "door.h"
+
+#ifndef READER_CELLS
+#define READER_CELLS 1024 /* cells of 8 bytes: the globals and the frames of the calls have to fit */
+#endif
+#define READER_INPUTS 8    /* numbers that a fob gives at most */
+#define READER_OUTPUTS 4   /* numbers that a program may write for a fob */
+#define READER_STEPS 10000 /* steps for a fob, unless configured */
+
+#define ANSWER_OPEN 1 /* the first output that opens the door */
+
+/* ---- what the core asks of the hardware */
+
+static void show(const char *text);
+static void show_number(int64_t number);
+static void open_door(void);
+
+/* ---- the core */
+
+/* A new image is received beside the one in force. One byte more than the longest image: a longer one that is cut there
+ * is still refused, and never taken for a good one. */
+#define IMAGE_BYTES (DOOR_IMAGE_MAX + 1)
+
+static uint8_t images[2][IMAGE_BYTES];
+static size_t in_force;        /* which of the two */
+static size_t in_force_length; /* its bytes; 0 before the first image has come */
+
+static int64_t store[READER_CELLS];
+static int32_t output[READER_OUTPUTS];
+static size_t lent_cells = READER_CELLS;
+static uint32_t lent_steps = READER_STEPS;
+
+static struct {
+    uint32_t opened;
+    uint32_t denied;
+    uint32_t steps_used_up;
+    uint32_t trapped;
+    uint32_t refused;
+} counts;
+
+static const char *refusal_text(uint32_t refusal) {
+    switch (refusal) {
+    case DOOR_REFUSED_VERSION:
+        return "another version";
+    case DOOR_REFUSED_LENGTH:
+        return "another length";
+    case DOOR_REFUSED_TABLES:
+        return "tables that do not fill the image";
+    case DOOR_REFUSED_TYPE:
+        return "a type row";
+    case DOOR_REFUSED_VARIABLE:
+        return "a variable row";
+    case DOOR_REFUSED_PROCEDURE:
+        return "a procedure row";
+    case DOOR_REFUSED_NODE:
+        return "a node's form";
+    case DOOR_REFUSED_STATEMENT:
+        return "a statement's form";
+    case DOOR_REFUSED_NAMES:
+        return "a node not named once";
+    case DOOR_REFUSED_NODE_TYPE:
+        return "a node without a type";
+    case DOOR_REFUSED_RULE:
+        return "a statement's rules";
+    case DOOR_REFUSED_STORE_ABOVE:
+        return "more cells lent than a run takes";
+    case DOOR_REFUSED_STORE_BELOW:
+        return "fewer cells lent than the program begins with";
+    default:
+        return "a number that door.h does not have";
+    }
+}
+
+static const char *trap_text(uint32_t trap) {
+    switch (trap) {
+    case DOOR_TRAP_INDEX:
+        return "an index outside its array";
+    case DOOR_TRAP_GUARD:
+        return "a guard that does not hold";
+    case DOOR_TRAP_TARGET:
+        return "a record of another dynamic type";
+    case DOOR_TRAP_OVERFLOW:
+        return "an INTEGER overflow";
+    case DOOR_TRAP_DIVISOR:
+        return "a divisor not positive";
+    case DOOR_TRAP_BOUND:
+        return "a set's bound outside 0 to 31";
+    case DOOR_TRAP_FRAME:
+        return "a call beyond the store";
+    case DOOR_TRAP_INPUT:
+        return "the input used up";
+    case DOOR_TRAP_OUTPUT:
+        return "the output full";
+    case DOOR_TRAP_HALT:
+        return "HALT";
+    default:
+        return "a number that door.h does not have";
+    }
+}
+
+/* "7 (a node's form), row 22" */
+static void show_refusal(uint32_t refusal, uint32_t row) {
+    show_number(refusal);
+    show(" (");
+    show(refusal_text(refusal));
+    show("), row ");
+    show_number(row);
+}
+
+/* Where the next image is to be put, IMAGE_BYTES at most. */
+static uint8_t *receive_buffer(void) { return images[1U - in_force]; }
+
+/* An image of so many bytes has come. Where it is refused, the old one stays in force. */
+static void image_received(size_t length) {
+    const uint32_t answer = door_check(receive_buffer(), length);
+    if (answer == DOOR_ACCEPTED) {
+        in_force = 1U - in_force;
+        in_force_length = length;
+        show("in force\n");
+    } else {
+        show("refused: ");
+        show_refusal(door_refusal(answer), door_row(answer));
+        show(in_force_length > 0U ? "; the old image stays\n" : "; there is no image yet\n");
+    }
+}
+
+/* Nothing was run. */
+static void on_refusal(const struct door_result *result) {
+    counts.refused++;
+    show("shut: refused: ");
+    show_refusal(result->refusal, result->fault);
+    switch (result->refusal) {
+    case DOOR_REFUSED_STORE_ABOVE:
+    case DOOR_REFUSED_STORE_BELOW:
+        show("; the reader is configured wrongly\n");
+        break;
+    default: /* the check accepted these bytes when they came: the memory has changed since */
+        show("; the image has changed in memory\n");
+        break;
+    }
+}
+
+static void on_finished(const struct door_result *result) {
+    if ((result->written >= 1U) && (output[0] == ANSWER_OPEN)) {
+        counts.opened++;
+        open_door();
+        show("open");
+    } else {
+        counts.denied++;
+        show("shut: the program says no");
+    }
+    show(" (");
+    show_number(result->steps);
+    show(" steps)\n");
+}
+
+static void on_steps_used_up(const struct door_result *result) {
+    counts.steps_used_up++;
+    show("shut: ");
+    show_number(result->steps);
+    show(" steps used up before statement ");
+    show_number(result->row);
+    show("\n");
+}
+
+static void on_trap(const struct door_result *result) {
+    counts.trapped++;
+    show("shut: trap ");
+    show_number(result->trap);
+    show(" (");
+    show(trap_text(result->trap));
+    if (result->trap == DOOR_TRAP_HALT) {
+        show(" ");
+        show_number(result->halt);
+    }
+    show(") at statement ");
+    show_number(result->row);
+    show("\n");
+}
+
+/* Every end of a run but one leaves the door shut. */
+static void on_result(const struct door_result *result) {
+    if (result->refusal != DOOR_ACCEPTED) {
+        on_refusal(result);
+        return;
+    }
+    switch (result->outcome) {
+    case DOOR_FINISHED:
+        on_finished(result);
+        break;
+    case DOOR_STEPS_USED_UP:
+        on_steps_used_up(result);
+        break;
+    case DOOR_TRAPPED:
+        on_trap(result);
+        break;
+    default:
+        show("shut: an outcome that door.h does not have\n");
+        break;
+    }
+}
+
+/* A fob is at the reader. `input` is not null, also where `count` is 0. */
+static void fob_seen(const int32_t *input, size_t count) {
+    struct door_result result;
+    if (in_force_length == 0U) {
+        show("shut: there is no image yet\n");
+        return;
+    }
+    result = door_run(images[in_force], in_force_length, input, count, store, lent_cells, output, READER_OUTPUTS,
+                      lent_steps);
+    on_result(&result);
+}
+
+static void show_count(const char *text, uint32_t count) {
+    show(text);
+    show_number(count);
+}
+
+static void show_counts(void) {
+    show_count("opened ", counts.opened);
+    show_count(", denied ", counts.denied);
+    show_count(", steps used up ", counts.steps_used_up);
+    show_count(", trapped ", counts.trapped);
+    show_count(", refused ", counts.refused);
+    show("\n");
+}
+
+/* ---- the hardware, played by stdio */
+
+#include <errno.h>
+#include <stdio.h>
+#include <stdlib.h>
+#include <string.h>
+
+static void show(const char *text) { (void)fputs(text, stdout); }
+
+static void show_number(int64_t number) { (void)printf("%lld", (long long)number); }
+
+static void open_door(void) {} /* the bolt */
+
+/* The image comes from a file. */
+static bool image_event(const char *name) {
+    FILE *file = fopen(name, "rb");
+    size_t length;
+    if (file == NULL) {
+        return false;
+    }
+    length = fread(receive_buffer(), 1U, IMAGE_BYTES, file);
+    (void)fclose(file);
+    image_received(length);
+    return true;
+}
+
+/* The numbers of a line, at most `most`; false where there is something else, or more. */
+static bool numbers_of(const char *text, long least, long last, long *numbers, size_t most, size_t *count) {
+    *count = 0;
+    for (;;) {
+        char *end;
+        long number;
+        text += strspn(text, " \t");
+        if (*text == '\0') {
+            return true;
+        }
+        errno = 0;
+        number = strtol(text, &end, 10);
+        if ((end == text) || (errno != 0) || (number < least) || (number > last) || (*count == most)) {
+            return false;
+        }
+        numbers[*count] = number;
+        *count += 1U;
+        text = end;
+    }
+}
+
+static bool fob_event(const char *text) {
+    long numbers[READER_INPUTS];
+    int32_t input[READER_INPUTS];
+    size_t count;
+    if (!numbers_of(text, INT32_MIN, INT32_MAX, numbers, READER_INPUTS, &count)) {
+        return false;
+    }
+    for (size_t i = 0; i < count; i++) {
+        input[i] = (int32_t)numbers[i];
+    }
+    fob_seen(input, count);
+    return true;
+}
+
+/* The one number of an event, 0 to `last`. */
+static bool setting_of(const char *text, long last, long *number) {
+    size_t count;
+    return numbers_of(text, 0, last, number, 1, &count) && (count == 1U);
+}
+
+static bool is_event(const char *line, const char *name) { return strncmp(line, name, strlen(name)) == 0; }
+
+static bool event(const char *line) {
+    long number;
+    if (is_event(line, "image ")) {
+        return image_event(line + 6);
+    }
+    if (is_event(line, "steps ") && setting_of(line + 6, UINT32_MAX, &number)) {
+        lent_steps = (uint32_t)number;
+        show("set\n");
+        return true;
+    }
+    if (is_event(line, "cells ") && setting_of(line + 6, READER_CELLS, &number)) {
+        lent_cells = (size_t)number;
+        show("set\n");
+        return true;
+    }
+    if (is_event(line, "fault ") && (in_force_length > 0U) &&
+        setting_of(line + 6, (long)in_force_length - 1, &number)) {
+        images[in_force][number] ^= 0xffU;
+        show("inverted\n");
+        return true;
+    }
+    return fob_event(line);
+}
+
+int main(void) {
+    char line[256];
+    bool good = true;
+    while (fgets(line, sizeof line, stdin) != NULL) {
+        line[strcspn(line, "\n")] = '\0';
+        show(line);
+        show(": ");
+        if (!event(line)) {
+            show("not understood, or not there\n");
+            good = false;
+        }
+    }
+    show_counts();
+    return good ? EXIT_SUCCESS : EXIT_FAILURE;
+}

@@ -1,0 +1,126 @@
+//! Each refusal, outcome and trap, by an image of vectors/ that gives it. The answers are those of the vectors, which
+//! an independent model or a reader of document 01 gave.
+use door::{Numbers, Outcome, Refusal, Report, Trap};
+
+const CELLS: usize = 8192;
+const PLACES: usize = 4096;
+const STEPS: u32 = 100_000;
+
+fn image(name: &str) -> Vec<u8> {
+    let path = format!("{}/../../vectors/{name}", env!("CARGO_MANIFEST_DIR"));
+    std::fs::read(&path).unwrap_or_else(|error| panic!("{path}: {error}"))
+}
+
+/// A run with no inputs, and what doorrun lends.
+fn run(name: &str) -> Result<Report, Refusal> {
+    door::run(&image(name), &[], &mut vec![0; CELLS], &mut vec![0; PLACES], STEPS)
+}
+
+#[test]
+fn each_refusal_of_the_check() {
+    let refused = [
+        ("doorrun/00013.img", 1, 0, "there is no first byte, or it is not 1"),
+        ("doorrun/00015.img", 2, 0, "bytes 1 to 4 are missing, or are not the image's length"),
+        ("doorrun/00045.img", 3, 0, "a count is out of range, or the tables do not fill the image"),
+        ("doorrun/00031.img", 4, 7, "a type row, or an own field of a record, breaks its rule"),
+        ("doorrun/00011.img", 5, 16, "a variable row breaks its form"),
+        ("doorrun/00030.img", 6, 1, "a procedure row breaks its rule"),
+        ("doorrun/00006.img", 7, 22, "a node is not well formed, or names a row that is not there"),
+        ("doorrun/00001.img", 8, 43, "a statement is not well formed, or names a row that is not there"),
+        ("doorrun/00017.img", 9, 23, "a node is named never, or more than once"),
+        ("doorrun/00010.img", 10, 268, "a node has no type"),
+        ("doorrun/00018.img", 11, 4, "a statement breaks a type rule, or names another procedure's variable"),
+    ];
+    for (name, number, row, reason) in refused {
+        let refusal = Refusal { number, row };
+        assert_eq!(door::check(&image(name)), Err(refusal), "{name}");
+        assert_eq!(door::check_number(&image(name)), number * 65_536 + row, "{name}");
+        assert_eq!(run(name), Err(refusal), "{name}");
+        assert_eq!(refusal.to_string(), format!("refusal {number}, row {row}: {reason}"));
+    }
+    assert_eq!(door::check(&image("special/smallest.img")), Ok(()));
+}
+
+#[test]
+fn each_refusal_of_the_run_alone() {
+    let smallest = image("special/smallest.img");
+    let lend = |cells| door::run(&smallest, &[], &mut vec![0; cells], &mut [], STEPS);
+    assert_eq!(lend(2).map_err(|refusal| (refusal.number, refusal.row)), Err((13, 0)));
+    assert!(lend(3).is_ok());
+    assert!(lend(door::STORE_MAX).is_ok());
+    assert_eq!(lend(door::STORE_MAX + 1).map_err(|refusal| (refusal.number, refusal.row)), Err((12, 0)));
+}
+
+#[test]
+fn a_refusal_leaves_store_and_output() {
+    let (mut store, mut output) = ([5; 4], [7; 2]);
+    let refused = door::run(&image("doorrun/00006.img"), &[1, 2], &mut store, &mut output, STEPS);
+    assert!(refused.is_err());
+    assert_eq!((store, output), ([5; 4], [7; 2]));
+}
+
+#[test]
+fn each_trap() {
+    let trapped = [
+        ("special/case_9__index_4.img", Trap::Index, 1, 0, 1),
+        ("special/empty_records.img", Trap::Guard, 2, 7, 10),
+        ("special/case_8.img", Trap::Target, 3, 6, 5),
+        ("special/case_2.img", Trap::Overflow, 4, 0, 1),
+        ("special/7_DIV_0.img", Trap::Divisor, 5, 0, 1),
+        ("special/0__32.img", Trap::Bound, 6, 0, 1),
+        ("special/endless_calls.img", Trap::Frame, 7, 3, 2729),
+        ("special/read.img", Trap::Input, 8, 0, 1),
+        ("special/endless_output.img", Trap::Output, 9, 0, 8193),
+        ("special/HALT.img", Trap::Halt(-7), 10, 0, 1),
+    ];
+    for (name, trap, number, row, steps) in trapped {
+        let report = run(name).unwrap_or_else(|refusal| panic!("{name}: {refusal}"));
+        assert_eq!((report.outcome, report.row, report.steps), (Outcome::Trapped(trap), row, steps), "{name}");
+        assert_eq!(trap.number(), number);
+    }
+}
+
+#[test]
+fn the_other_outcomes() {
+    let finished = Report { outcome: Outcome::Finished, row: 4, steps: 99_999, read: 0, written: 0 };
+    assert_eq!(run("special/loop_of_99999_steps.img"), Ok(finished));
+    let used_up = Report { outcome: Outcome::StepsUsedUp, row: 6, steps: 100_000, read: 0, written: 0 };
+    assert_eq!(run("special/loop_of_100001_steps.img"), Ok(used_up));
+}
+
+#[test]
+fn inputs_outputs_and_cells() {
+    let (mut store, mut output) = ([-9; 40], [7; 2]);
+    let report = door::run(&image("input/members-1.img"), &[1234, 19800], &mut store, &mut output, 200);
+    assert_eq!(report, Ok(Report { outcome: Outcome::Finished, row: 12, steps: 43, read: 2, written: 1 }));
+    assert_eq!(output, [1, 7]);
+    assert_eq!(store[..12], [4711, 20000, 18, 815, 19500, 4, 1234, 21000, 145, 42, 20500, 32]);
+    assert_eq!(store[34..], [-9; 6]);
+}
+
+#[test]
+#[should_panic(expected = "no run has outcome 3 with trap 0")]
+fn numbers_with_no_outcome() {
+    let _ = Numbers { outcome: 3, ..Numbers::default() }.report();
+}
+
+#[test]
+#[should_panic(expected = "no run has outcome 2 with trap 11")]
+fn numbers_with_no_trap() {
+    let _ = Numbers { outcome: 2, trap: 11, ..Numbers::default() }.report();
+}
+
+#[test]
+fn the_limits_are_those_of_the_header() {
+    let header = include_str!("../../../include/door.h");
+    let limit = |name: &str| {
+        let line = header.lines().find_map(|line| line.strip_prefix(&format!("#define {name} ")));
+        line.and_then(|number| number.parse().ok())
+    };
+    assert_eq!(limit("DOOR_IMAGE_MAX"), Some(door::IMAGE_MAX));
+    assert_eq!(limit("DOOR_STORE_MAX"), Some(door::STORE_MAX));
+    assert_eq!(limit("DOOR_CHECK_STACK"), Some(door::CHECK_STACK));
+    assert_eq!(limit("DOOR_RUN_STACK"), Some(door::RUN_STACK));
+    assert_eq!(door::check(&image("large/longest.img")), Ok(()));
+    assert_eq!(image("large/longest.img").len(), door::IMAGE_MAX);
+}
