@@ -20,10 +20,9 @@ extern "C" {
 
 /* The stack that a call needs, in bytes: measured, by painting the stack, and rounded up. It is no proven bound, and
  * holds for the library that this kit builds.
- * Check: `bash tests/bench/run` measures 20,536 at most, for the longest image and all of vectors/. No function of it
- * calls itself.
- * Run: `bash tests/stack` measures expressions of 2,048 nodes, the deepest that an accepted image can have, in a thread
- * with this stack and four pages more for the thread itself. */
+ * `bash tests/stack` measures it. Check: 20,536 at most, for the longest image and all of vectors/; no function of it
+ * calls itself. Run: expressions of 2,048 nodes, the deepest that an accepted image can have, in a thread with this
+ * stack and four pages more for the thread itself. */
 #define DOOR_CHECK_STACK 20992
 #define DOOR_RUN_STACK 606208
 
