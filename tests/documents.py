@@ -1,14 +1,16 @@
 #!/usr/bin/env python3
-"""Holds docs/TOUR.md to the repository: tour.py --check
+"""Holds the documents to the repository: documents.py --check
 
-First a few small texts, each with one mistake that must be found. Then of docs/TOUR.md:
-- a file or folder in backticks is there; NAME, MODULE, FUNCTION and MISTAKE stand for any name;
+First a few small texts, each with one mistake that must be found. Then of README.md, docs/*.md and each folder's
+README.md:
+- a file or folder in backticks is there; words in capitals such as NAME or FILE stand for any name; what is built lies
+  in target/ and is not asked for;
 - an indented block behind a line that ends with a file in backticks and a colon stands in that file word for word, up
   to white space; a line `..` parts pieces that follow one another there;
 - of `crate::name` the crate has such a function, struct or enum;
 - of `crate/Module`: `name`, `name` the module, in specs/ or proofs/, defines or proves each name;
 - of `crate/must-fail/name` there is such an edit;
-- no line has more than 120 characters.
+- no line has more than 120 characters, but for rows of tables.
 Each mistake is a line; the exit status is 1 where there is one."""
 import pathlib
 import re
@@ -16,8 +18,8 @@ import sys
 
 TOP = pathlib.Path(__file__).resolve().parent.parent
 CRATES = TOP / 'crates'
-FILE = re.compile(r'(?:crates|docs|examples|include|rust|tests|tools|vectors|\.ci)/.*|[\w.-]+\.(?:md|txt)')
-ANY = re.compile('NAME|MODULE|FUNCTION|MISTAKE')
+FILE = re.compile(r'(?:crates|docs|examples|include|rust|tests|tools|vectors|\.ci)/[^\s`]*')
+ANY = re.compile('[A-Z]{2,}(?=[/.]|$)|NNNNN')
 ITEM = r'(?:pub )?(?:extern "C" )?(?:fn|struct|enum) '
 DEFINES = r'(?:unfoldable |abbrev )?(?:pub )?(?:record |data )?'
 MODULE = re.compile(r'`([a-z_]+)/([A-Z]\w*)`(?::((?:(?:,| and)?\s+`[^`\s/]+`)+))?')
@@ -36,8 +38,8 @@ def quotes(text):
                 block[2].append(line)
         elif line.strip():
             named = re.search(r'`([^`]+)`:$', line)
-            block = (number, named[1], []) if named else None
-            found += [block] if named else []
+            block = (number, named[1], []) if named and not ANY.search(named[1]) else None
+            found += [block] if block else []
     return [block for block in found if block[2]]
 
 
@@ -65,7 +67,7 @@ def modules(crate, module):
 
 def mistakes(text):
     for number, line in enumerate(text.splitlines(), 1):
-        if len(line) > 120:
+        if len(line) > 120 and not line.startswith('|'):
             yield f'line {number} has {len(line)} characters'
     for number, file, lines in quotes(text):
         wrong = wrong_quote(file, lines)
@@ -73,9 +75,9 @@ def mistakes(text):
             yield f'line {number}: {wrong}'
     prose = '\n'.join(line for line in text.splitlines() if not line.startswith('    '))
     for token in sorted(set(re.findall(r'`([^`\n]+)`', prose))):
-        if FILE.fullmatch(token) and not list(TOP.glob(ANY.sub('*', token.split()[0]))):
+        if FILE.fullmatch(token) and not list(TOP.glob(ANY.sub('*', token))):
             yield f'there is no {token}'
-        code, edit = re.fullmatch(r'([a-z_]+)::(\w+)', token), re.fullmatch(r'([a-z_]+)/must-fail/(\w+)', token)
+        code, edit = re.fullmatch(r'(?!std:)([a-z_]+)::(\w+)', token), re.fullmatch(r'([a-z_]+)/must-fail/(\w+)', token)
         if code and not any_has((CRATES / code[1] / 'src').glob('*.rt'), ITEM + code[2]):
             yield f'there is no {token}'
         if edit and not (CRATES / edit[1] / 'must-fail' / f'{edit[2]}.edit').is_file():
@@ -88,9 +90,14 @@ def mistakes(text):
                 yield f'{crate}/{module} has no {name}'
 
 
+def documents():
+    inner = [path for folder in ('rust', 'tests', 'tools', 'vectors') for path in (TOP / folder).rglob('README.md')]
+    return [TOP / 'README.md', *sorted((TOP / 'docs').glob('*.md')), *sorted(inner)]
+
+
 BROKEN = [
     'a' * 121,
-    '`docs/NONE.md`',
+    '`docs/none.md`',
     '`crates/NAME/specs/MODULE.none`',
     'Of `crates/sets/src/lib.rt`:\n\n    fn member(x: i64, s: u32) -> bool\n',
     'Of `crates/sets/src/lib.rt`:\n\n    // The elements a to b.\n    ..\n    // Whether x is an element of s.\n',
@@ -104,12 +111,13 @@ BROKEN = [
 
 def main(arguments):
     if arguments != ['--check']:
-        print('usage: tour.py --check', file=sys.stderr)
+        print('usage: documents.py --check', file=sys.stderr)
         return 2
     found = [f'not found in {text[:60]!r}' for text in BROKEN if len(list(mistakes(text))) != 1]
-    found += mistakes((TOP / 'docs/TOUR.md').read_text(encoding='utf-8'))
+    for path in documents():
+        found += [f'{path.relative_to(TOP)}: {mistake}' for mistake in mistakes(path.read_text(encoding='utf-8'))]
     for mistake in found:
-        print(f'tour: {mistake}')
+        print(f'documents: {mistake}')
     return 1 if found else 0
 
 
