@@ -1,32 +1,213 @@
+//! The proved engine and the model on random images. Usage:
+//!
+//!     differential COUNT [SEED]           compare both on COUNT images
+//!     differential case SEED NUMBER       make one case again, and print it
+//!     differential replay FILE...         compare both on the images in the files
+//!     differential write DIR COUNT [SEED] write accepted images to files
+//!
+//! It exits with 1 where something differs, where a generated image is refused, or, from 20,000 images on, where
+//! something is never reached.
+
+mod case;
+mod compare;
+mod counts;
 mod generate;
 mod image;
+mod mutate;
 mod random;
-fn main() {
-    let n: u64 = std::env::args().nth(1).map_or(1000, |n| n.parse().unwrap());
-    let (mut nodes, mut statements, mut refused) = (0, 0, 0);
-    let mut hist = std::collections::BTreeMap::new();
-    let mut steps = vec![];
-    for i in 0..n {
-        let mut r = random::Random::new(1, i);
-        let t = generate::image(&mut r);
-        let b = t.bytes();
-        nodes += t.0[4].len();
-        statements += t.0[5].len();
-        let c = door::check_number(&b);
-        if c != 0 {
-            refused += 1;
-            println!("{i}: refused {} {}", c / 65536, c % 65536);
-            continue;
+mod surroundings;
+
+use case::Case;
+use counts::Counts;
+use std::panic::{catch_unwind, AssertUnwindSafe};
+use std::path::Path;
+use std::process::ExitCode;
+use std::sync::atomic::{AtomicBool, AtomicU64, Ordering};
+use std::sync::Mutex;
+
+const SEED: u64 = 1;
+/// From so many images on all that can be reached must be.
+const ENOUGH: u64 = 20_000;
+/// Enough for the model, which follows the deepest expressions by calling itself.
+const STACK: usize = 64 << 20;
+/// Where the image of a difference is written.
+const FOLDER: &str = "target/differential";
+
+fn main() -> ExitCode {
+    let words: Vec<String> = std::env::args().skip(1).collect();
+    let words: Vec<&str> = words.iter().map(String::as_str).collect();
+    let number = |word: &str| word.parse::<u64>().ok();
+    let worker = std::thread::Builder::new().stack_size(STACK);
+    let done = match words[..] {
+        ["case", seed, case] => match (number(seed), number(case)) {
+            (Some(seed), Some(case)) => on_stack(worker, move || show_case(seed, case)),
+            _ => usage(),
+        },
+        ["replay", ref files @ ..] => {
+            let files: Vec<String> = files.iter().map(|file| file.to_string()).collect();
+            on_stack(worker, move || replay(&files))
         }
-        let mut store = vec![0i64; 60000];
-        let input: Vec<i32> = (0..30).map(|_| r.below(100) as i32 - 20).collect();
-        let mut out = vec![0; 100];
-        let x = door::run_numbers(&b, &input, &mut store[..], &mut out, 3000);
-        *hist.entry((x.refusal, x.outcome, x.trap)).or_insert(0) += 1;
-        steps.push(x.steps);
+        ["write", folder, count] => number(count).map_or_else(usage, |count| write(folder, count, SEED)),
+        ["write", folder, count, seed] => match (number(count), number(seed)) {
+            (Some(count), Some(seed)) => write(folder, count, seed),
+            _ => usage(),
+        },
+        [count] => number(count).map_or_else(usage, |count| compare_all(count, SEED)),
+        [count, seed] => match (number(count), number(seed)) {
+            (Some(count), Some(seed)) => compare_all(count, seed),
+            _ => usage(),
+        },
+        _ => usage(),
+    };
+    if done {
+        ExitCode::SUCCESS
+    } else {
+        ExitCode::FAILURE
     }
-    steps.sort();
-    println!("{n}: {refused} refused, {} nodes {} statements", nodes / n as usize, statements / n as usize);
-    println!("{hist:?}");
-    println!("{:?}", (0..=10).map(|d| steps[(steps.len() - 1) * d / 10]).collect::<Vec<_>>());
+}
+
+fn usage() -> bool {
+    eprintln!("usage: differential COUNT [SEED] | case SEED NUMBER | replay FILE... | write DIR COUNT [SEED]");
+    false
+}
+
+fn on_stack(worker: std::thread::Builder, work: impl FnOnce() -> bool + Send + 'static) -> bool {
+    worker.spawn(work).expect("a thread").join().unwrap_or(false)
+}
+
+/// Where the first difference is, and which.
+struct Found {
+    number: u64,
+    what: String,
+}
+
+/// The cases that threads share.
+struct Work {
+    seed: u64,
+    count: u64,
+    next: AtomicU64,
+    stop: AtomicBool,
+    found: Mutex<Vec<Found>>,
+}
+
+fn compare_all(count: u64, seed: u64) -> bool {
+    let work = Work { seed, count, next: 0.into(), stop: false.into(), found: Mutex::new(vec![]) };
+    let threads = std::thread::available_parallelism().map_or(1, |threads| threads.get());
+    let mut counts = Counts::new();
+    std::thread::scope(|scope| {
+        let spawn = |_| {
+            let builder = std::thread::Builder::new().stack_size(STACK);
+            builder.spawn_scoped(scope, || work.share()).expect("a thread")
+        };
+        let workers: Vec<_> = (0..threads).map(spawn).collect();
+        for worker in workers {
+            counts.merge(&worker.join().expect("a worker catches what panics"));
+        }
+    });
+    report(&work, &counts)
+}
+
+impl Work {
+    fn share(&self) -> Counts {
+        let mut counts = Counts::new();
+        while !self.stop.load(Ordering::Relaxed) {
+            let number = self.next.fetch_add(1, Ordering::Relaxed);
+            if number >= self.count {
+                break;
+            }
+            if let Err(what) = compare_case(&mut Case::new(self.seed, number), &mut counts) {
+                self.stop.store(true, Ordering::Relaxed);
+                self.found.lock().expect("no worker panics").push(Found { number, what });
+            }
+        }
+        counts
+    }
+}
+
+/// A panic, the model's or the test's, is a difference too.
+fn compare_case(case: &mut Case, counts: &mut Counts) -> Result<(), String> {
+    catch_unwind(AssertUnwindSafe(|| case.compare(counts))).unwrap_or_else(|_| Err("panic, as printed above".into()))
+}
+
+fn report(work: &Work, counts: &Counts) -> bool {
+    let mut found = work.found.lock().expect("no worker panics");
+    found.sort_by_key(|found| found.number);
+    if let Some(first) = found.first() {
+        tell(work.seed, first);
+        return false;
+    }
+    counts.print();
+    let missing = if work.count >= ENOUGH { counts.missing() } else { vec![] };
+    missing.iter().for_each(|missing| println!("never reached: {missing}"));
+    println!("{} images, {} runs, {} steps: 0 differences", counts.images, counts.runs, counts.steps);
+    missing.is_empty()
+}
+
+fn tell(seed: u64, found: &Found) {
+    let Found { number, what } = found;
+    println!("image {number} of seed {seed}: {what}");
+    let file = Path::new(FOLDER).join(format!("{seed}-{number}.img"));
+    let written = std::fs::create_dir_all(FOLDER).and_then(|()| std::fs::write(&file, Case::new(seed, *number).image));
+    match written {
+        Ok(()) => println!("the image is in {}", file.display()),
+        Err(error) => println!("{}: {error}", file.display()),
+    }
+    println!("again: differential case {seed} {number}");
+    println!("found after {} images", number + 1);
+}
+
+fn show_case(seed: u64, number: u64) -> bool {
+    let mut case = Case::new(seed, number);
+    let tables = match door::check_number(&case.image) >> 16 {
+        1..=3 => None,
+        _ => Some(image::Tables::read(&case.image)),
+    };
+    println!("{} bytes", case.image.len());
+    for (name, rows) in ["type", "field", "var", "procedure", "node", "statement"].iter().zip(tables.unwrap_or_default().0) {
+        for (at, row) in rows.iter().enumerate() {
+            println!("{name} {at} = row {} {} {} {} {}", row.kind, row.zero, row.a, row.b, row.c);
+        }
+    }
+    said(&mut case)
+}
+
+fn said(case: &mut Case) -> bool {
+    let mut counts = Counts::new();
+    match compare_case(case, &mut counts) {
+        Ok(()) => println!("{} runs, {} steps: 0 differences", counts.runs, counts.steps),
+        Err(ref what) => println!("{what}"),
+    }
+    counts.runs > 0
+}
+
+fn replay(files: &[String]) -> bool {
+    let mut counts = Counts::new();
+    for file in files {
+        let image = match std::fs::read(file) {
+            Ok(image) => image,
+            Err(error) => {
+                println!("{file}: {error}");
+                return false;
+            }
+        };
+        if let Err(what) = compare_case(&mut Case::of(image), &mut counts) {
+            println!("{file}: {what}");
+            return false;
+        }
+    }
+    println!("{} images, {} runs, {} steps: 0 differences", counts.images, counts.runs, counts.steps);
+    true
+}
+
+fn write(folder: &str, count: u64, seed: u64) -> bool {
+    let written = std::fs::create_dir_all(folder).and_then(|()| {
+        (0..count).try_for_each(|number| {
+            let image = Case::new(seed, 2 * number).image;
+            std::fs::write(Path::new(folder).join(format!("{seed}-{number:06}.img")), image)
+        })
+    });
+    if let Err(error) = &written {
+        eprintln!("{folder}: {error}");
+    }
+    written.is_ok()
 }

@@ -1,0 +1,83 @@
+//! What a run is lent: store, inputs, output places and steps, at random.
+
+use crate::random::Random;
+
+#[derive(Clone)]
+pub struct Surroundings {
+    pub store: Vec<i64>,
+    pub input: Vec<i32>,
+    pub output: Vec<i32>,
+    pub steps: u32,
+}
+
+impl Surroundings {
+    /// For an image that needs so many cells, G + F0.
+    pub fn pick(random: &mut Random, needed: usize) -> Surroundings {
+        let cells = store_length(random, needed);
+        let store = store_fill(random, cells);
+        let input = inputs(random);
+        let output = outputs(random);
+        Surroundings { store, input, output, steps: step_count(random, needed) }
+    }
+}
+
+fn store_length(random: &mut Random, needed: usize) -> usize {
+    match random.below(1000) {
+        0..=119 => needed,
+        120..=149 => needed.saturating_sub(1),
+        150..=159 => random.below(needed.max(1)),
+        160..=169 => random.below(2),
+        170..=174 => 65_536,
+        175..=179 => 65_537,
+        180..=183 => 65_538 + random.below(3000),
+        184..=199 => needed + 3 + random.below(6000),
+        200..=499 => needed + random.below(40),
+        _ => needed + random.below(400),
+    }
+}
+
+fn store_fill(random: &mut Random, cells: usize) -> Vec<i64> {
+    const EXTREMES: [i64; 8] = [i64::MIN, i64::MAX, -1, 0, 1, 65_536, 1 << 32, i32::MIN as i64];
+    let way = random.below(5);
+    let number = |random: &mut Random| match way {
+        0 => 0,
+        1 => *random.pick(&EXTREMES),
+        2 => random.below(8) as i64,
+        _ => random.next() as i64,
+    };
+    (0..cells).map(|_| number(random)).collect()
+}
+
+fn some_number(random: &mut Random, way: usize) -> i32 {
+    const EDGES: [i32; 10] = [i32::MIN, i32::MAX, -1, 0, 1, 31, 32, 4096, 65_535, 65_536];
+    match way {
+        0..=4 => random.below(60) as i32 - 10,
+        5..=7 => random.below(5) as i32,
+        8 => *random.pick(&EDGES),
+        _ => random.next() as i32,
+    }
+}
+
+fn inputs(random: &mut Random) -> Vec<i32> {
+    let most = random.weighted(&[(20, 0), (25, 4), (40, 60), (15, 600)]);
+    let way = random.below(10);
+    (0..random.between(0, most)).map(|_| some_number(random, way)).collect()
+}
+
+fn outputs(random: &mut Random) -> Vec<i32> {
+    let most = random.weighted(&[(12, 0), (20, 4), (58, 100), (10, 1500)]);
+    let way = random.below(10);
+    (0..random.between(0, most)).map(|_| some_number(random, way)).collect()
+}
+
+/// Fewer where the image has many cells, since the model looks at each of them after each step.
+fn step_count(random: &mut Random, needed: usize) -> u32 {
+    let most = (300_000 / (needed + 100)).min(2500);
+    let most = random.weighted(&[(3, 0), (4, 1), (18, 40), (35, 300), (40, most)]);
+    random.between(0, most) as u32
+}
+
+/// Other step counts for a run that came to its end in `steps` steps.
+pub fn other_steps(random: &mut Random, steps: u32) -> u32 {
+    *random.pick(&[steps, steps - 1, steps + 1, u32::MAX])
+}
