@@ -9,17 +9,25 @@
 //! | [`program`] | What an accepted image means: bodies, places of variables, types of nodes |
 //! | [`forms`] | Variables, procedures, nodes, statements; questions 5 to 9 |
 //! | [`typing`] | Type rules; questions 10 and 11 |
+//! | [`operators`] | Values, operators, traps |
+//! | [`machine`] | Tagged machine: store, evaluation, statements |
+//! | [`sound`](mod@sound) | Sound |
 //! | [`rules`] | Each thing that a question asks, as a sentence |
 
 mod forms;
 pub mod image;
+pub mod machine;
+pub mod operators;
 pub mod program;
 pub mod rules;
+pub mod sound;
 pub mod types;
 mod typing;
 
 pub use image::{tables, Row, Tables};
+pub use machine::{Cell, Machine, State, Step};
 pub use program::Program;
+pub use sound::sound;
 
 /// The nine numbers of a run, in document 01's order.
 #[derive(Clone, Copy, Debug, Default, PartialEq, Eq)]
@@ -68,6 +76,80 @@ pub fn check(image: &[u8]) -> Result<Program, Fault> {
     typing::question_10(&mut program)?;
     typing::question_11(&program)?;
     Ok(program)
+}
+
+/// "A run takes image, input, store, output and 0 to 4294967295 steps." Sound is decided of the fresh state and after
+/// each step.
+pub fn run(image: &[u8], input: &[i32], store: &mut [i64], output: &mut [i32], steps: u32) -> Result<Numbers, Broken> {
+    match check(image) {
+        Ok(program) => run_program(&program, input, store, output, steps, true),
+        Err(fault) => Ok(refused(fault.refusal, fault.row)),
+    }
+}
+
+/// The same, without deciding Sound: for long runs.
+pub fn run_unwatched(
+    image: &[u8],
+    input: &[i32],
+    store: &mut [i64],
+    output: &mut [i32],
+    steps: u32,
+) -> Result<Numbers, Broken> {
+    match check(image) {
+        Ok(program) => run_program(&program, input, store, output, steps, false),
+        Err(fault) => Ok(refused(fault.refusal, fault.row)),
+    }
+}
+
+/// Runs a program that the check accepted: questions 12 and 13, then the steps.
+pub fn run_program(
+    program: &Program,
+    input: &[i32],
+    store: &mut [i64],
+    output: &mut [i32],
+    steps: u32,
+    watched: bool,
+) -> Result<Numbers, Broken> {
+    let mut machine = match Machine::fresh(program, input, store, output) {
+        Ok(machine) => machine,
+        Err(refusal) => return Ok(refused(refusal, 0)),
+    };
+    let watch = watched.then(|| sound::Watch::new(program));
+    let last = take_steps(&mut machine, watch.as_ref(), steps)?;
+    let State { cells, row, read, written, steps, .. } = machine.state;
+    for (place, cell) in store.iter_mut().zip(&cells) {
+        *place = cell.number;
+    }
+    let (outcome, trap, halt) = match last {
+        Step::Finished => (1, 0, 0),
+        Step::Trapped { trap, halt } => (2, trap, halt),
+        _ => (0, 0, 0),
+    };
+    let (row, steps, read, written) = (row as u32, steps as u32, read as u32, written as u32);
+    Ok(Numbers { refusal: 0, fault: 0, outcome, trap, halt, row, steps, read, written })
+}
+
+/// "a refusal leaves store and output untouched, other results 0."
+fn refused(refusal: u32, fault: u32) -> Numbers {
+    Numbers { refusal, fault, ..Numbers::default() }
+}
+
+/// "A step that finishes or traps counts and is the last." What the last step came to.
+fn take_steps(machine: &mut Machine, watch: Option<&sound::Watch>, steps: u32) -> Result<Step, Broken> {
+    let mut last = Step::GoesOn;
+    let mut taken = 0;
+    loop {
+        let broken = |what| Broken { steps: taken, what };
+        watch.map_or(Ok(()), |watch| watch.sound(&machine.state)).map_err(broken)?;
+        if taken == steps || last != Step::GoesOn {
+            return Ok(last);
+        }
+        last = machine.step();
+        if let Step::Stuck(why) = last {
+            return Err(broken(why));
+        }
+        taken += 1;
+    }
 }
 
 /// One demand of a question: where it does not hold, `row` is at fault.
