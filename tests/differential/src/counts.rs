@@ -7,6 +7,7 @@ use model::rules;
 pub enum Group {
     Refusal,
     Outcome,
+    Steps,
     Trap,
     Node,
     Dyadic,
@@ -18,9 +19,10 @@ pub enum Group {
     Rule,
 }
 
-const GROUPS: [(Group, &str); 11] = [
+const GROUPS: [(Group, &str); 12] = [
     (Group::Refusal, "refusals of runs"),
     (Group::Outcome, "outcomes of runs"),
+    (Group::Steps, "unrefused runs by their steps"),
     (Group::Trap, "traps"),
     (Group::Node, "nodes in accepted images"),
     (Group::Dyadic, "dyadic operators by their left operand"),
@@ -63,6 +65,7 @@ fn names(group: Group) -> Vec<Option<String>> {
     match group {
         Group::Refusal => (0..=13).map(|number| Some(number.to_string())).collect(),
         Group::Outcome => all(&["steps used up", "finished", "trapped"]),
+        Group::Steps => all(&["0", "1 to 9", "10 to 99", "100 to 999", "1,000 and more"]),
         Group::Trap => (0..=10).map(|number| (number > 0).then(|| number.to_string())).collect(),
         Group::Node => all(&NODES),
         Group::Dyadic => operators(&DYADIC),
@@ -120,6 +123,7 @@ impl Counts {
         self.add(Group::Refusal, numbers.refusal as usize);
         if numbers.refusal == 0 {
             self.add(Group::Outcome, numbers.outcome as usize);
+            self.add(Group::Steps, numbers.steps.checked_ilog10().map_or(0, |digits| digits.min(3) as usize + 1));
         }
         if numbers.trap > 0 {
             self.add(Group::Trap, numbers.trap as usize);

@@ -7,6 +7,8 @@ pub const PROCEDURES: usize = 3;
 pub const NODES: usize = 4;
 pub const STATEMENTS: usize = 5;
 
+const NAMES: [&str; 6] = ["type", "field", "var", "procedure", "node", "statement"];
+
 /// The most rows that each table can have.
 pub const MOST: [usize; 6] = [64, 256, 256, 64, 2048, 1024];
 
@@ -61,6 +63,15 @@ impl Tables {
             at = end;
         }
         tables
+    }
+
+    /// A line of a listing for each row.
+    pub fn print(&self) {
+        for (name, rows) in NAMES.iter().zip(&self.0) {
+            for (at, row) in rows.iter().enumerate() {
+                println!("{name} {at} = row {} {} {} {} {}", row.kind, row.zero, row.a, row.b, row.c);
+            }
+        }
     }
 }
 

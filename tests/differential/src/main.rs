@@ -34,45 +34,35 @@ const STACK: usize = 64 << 20;
 const FOLDER: &str = "target/differential";
 
 fn main() -> ExitCode {
-    let words: Vec<String> = std::env::args().skip(1).collect();
-    let words: Vec<&str> = words.iter().map(String::as_str).collect();
-    let number = |word: &str| word.parse::<u64>().ok();
-    let worker = std::thread::Builder::new().stack_size(STACK);
-    let done = match words[..] {
-        ["case", seed, case] => match (number(seed), number(case)) {
-            (Some(seed), Some(case)) => on_stack(worker, move || show_case(seed, case)),
-            _ => usage(),
-        },
-        ["replay", ref files @ ..] => {
-            let files: Vec<String> = files.iter().map(|file| file.to_string()).collect();
-            on_stack(worker, move || replay(&files))
-        }
-        ["write", folder, count] => number(count).map_or_else(usage, |count| write(folder, count, SEED)),
-        ["write", folder, count, seed] => match (number(count), number(seed)) {
-            (Some(count), Some(seed)) => write(folder, count, seed),
-            _ => usage(),
-        },
-        [count] => number(count).map_or_else(usage, |count| compare_all(count, SEED)),
-        [count, seed] => match (number(count), number(seed)) {
-            (Some(count), Some(seed)) => compare_all(count, seed),
-            _ => usage(),
-        },
-        _ => usage(),
+    let work = || {
+        let words: Vec<String> = std::env::args().skip(1).collect();
+        let words: Vec<&str> = words.iter().map(String::as_str).collect();
+        command(&words)
     };
-    if done {
-        ExitCode::SUCCESS
-    } else {
-        ExitCode::FAILURE
+    let worker = std::thread::Builder::new().stack_size(STACK).spawn(work).expect("a thread");
+    match worker.join() {
+        Ok(Some(true)) => return ExitCode::SUCCESS,
+        Ok(None) => eprintln!("usage: differential {USAGE}"),
+        _ => {}
     }
+    ExitCode::FAILURE
 }
 
-fn usage() -> bool {
-    eprintln!("usage: differential COUNT [SEED] | case SEED NUMBER | replay FILE... | write DIR COUNT [SEED]");
-    false
-}
+const USAGE: &str = "COUNT [SEED] | case SEED NUMBER | replay FILE... | write DIR COUNT [SEED]";
 
-fn on_stack(worker: std::thread::Builder, work: impl FnOnce() -> bool + Send + 'static) -> bool {
-    worker.spawn(work).expect("a thread").join().unwrap_or(false)
+/// Whether all went well; nothing where the words are no command.
+fn command(words: &[&str]) -> Option<bool> {
+    let number = |word: &str| word.parse::<u64>().ok();
+    let done = match words {
+        ["case", seed, case] => show_case(number(seed)?, number(case)?),
+        ["replay", files @ ..] => replay(files),
+        ["write", folder, count] => write(folder, number(count)?, SEED),
+        ["write", folder, count, seed] => write(folder, number(count)?, number(seed)?),
+        [count] => compare_all(number(count)?, SEED),
+        [count, seed] => compare_all(number(count)?, number(seed)?),
+        _ => return None,
+    };
+    Some(done)
 }
 
 /// Where the first difference is, and which.
@@ -139,7 +129,7 @@ fn report(work: &Work, counts: &Counts) -> bool {
     counts.print();
     let missing = if work.count >= ENOUGH { counts.missing() } else { vec![] };
     missing.iter().for_each(|missing| println!("never reached: {missing}"));
-    println!("{} images, {} runs, {} steps: 0 differences", counts.images, counts.runs, counts.steps);
+    said(counts);
     missing.is_empty()
 }
 
@@ -156,46 +146,39 @@ fn tell(seed: u64, found: &Found) {
     println!("found after {} images", number + 1);
 }
 
+/// The image's rows, as lines of a listing, and what comes of them.
 fn show_case(seed: u64, number: u64) -> bool {
     let mut case = Case::new(seed, number);
-    let tables = match door::check_number(&case.image) >> 16 {
-        1..=3 => None,
-        _ => Some(image::Tables::read(&case.image)),
-    };
     println!("{} bytes", case.image.len());
-    for (name, rows) in ["type", "field", "var", "procedure", "node", "statement"].iter().zip(tables.unwrap_or_default().0) {
-        for (at, row) in rows.iter().enumerate() {
-            println!("{name} {at} = row {} {} {} {} {}", row.kind, row.zero, row.a, row.b, row.c);
-        }
+    if !matches!(door::check_number(&case.image) >> 16, 1..=3) {
+        image::Tables::read(&case.image).print();
     }
-    said(&mut case)
-}
-
-fn said(case: &mut Case) -> bool {
     let mut counts = Counts::new();
-    match compare_case(case, &mut counts) {
-        Ok(()) => println!("{} runs, {} steps: 0 differences", counts.runs, counts.steps),
-        Err(ref what) => println!("{what}"),
+    let answer = compare_case(&mut case, &mut counts);
+    match &answer {
+        Ok(()) => said(&counts),
+        Err(what) => println!("{what}"),
     }
-    counts.runs > 0
+    answer.is_ok()
 }
 
-fn replay(files: &[String]) -> bool {
+fn said(counts: &Counts) {
+    println!("{} images, {} runs, {} steps: 0 differences", counts.images, counts.runs, counts.steps);
+}
+
+fn replay(files: &[&str]) -> bool {
     let mut counts = Counts::new();
     for file in files {
-        let image = match std::fs::read(file) {
-            Ok(image) => image,
-            Err(error) => {
-                println!("{file}: {error}");
-                return false;
-            }
+        let answer = match std::fs::read(file) {
+            Ok(image) => compare_case(&mut Case::of(image), &mut counts),
+            Err(error) => Err(error.to_string()),
         };
-        if let Err(what) = compare_case(&mut Case::of(image), &mut counts) {
+        if let Err(what) = answer {
             println!("{file}: {what}");
             return false;
         }
     }
-    println!("{} images, {} runs, {} steps: 0 differences", counts.images, counts.runs, counts.steps);
+    said(&counts);
     true
 }
 

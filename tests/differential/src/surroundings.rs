@@ -23,16 +23,16 @@ impl Surroundings {
 
 fn store_length(random: &mut Random, needed: usize) -> usize {
     match random.below(1000) {
-        0..=119 => needed,
-        120..=149 => needed.saturating_sub(1),
-        150..=159 => random.below(needed.max(1)),
-        160..=169 => random.below(2),
-        170..=174 => 65_536,
-        175..=179 => 65_537,
-        180..=183 => 65_538 + random.below(3000),
-        184..=199 => needed + 3 + random.below(6000),
-        200..=499 => needed + random.below(40),
-        _ => needed + random.below(400),
+        0..=59 => needed,
+        60..=89 => needed.saturating_sub(1),
+        90..=94 => random.below(needed.max(1)),
+        95..=99 => random.below(2),
+        100..=104 => 65_536,
+        105..=109 => 65_537,
+        110..=114 => 65_538 + random.below(3000),
+        115..=199 => needed + random.below(4000),
+        200..=349 => needed + random.below(40),
+        _ => needed + random.below(500),
     }
 }
 
@@ -59,21 +59,21 @@ fn some_number(random: &mut Random, way: usize) -> i32 {
 }
 
 fn inputs(random: &mut Random) -> Vec<i32> {
-    let most = random.weighted(&[(20, 0), (25, 4), (40, 60), (15, 600)]);
+    let most = random.weighted(&[(10, 0), (14, 4), (26, 60), (50, 600)]);
     let way = random.below(10);
     (0..random.between(0, most)).map(|_| some_number(random, way)).collect()
 }
 
 fn outputs(random: &mut Random) -> Vec<i32> {
-    let most = random.weighted(&[(12, 0), (20, 4), (58, 100), (10, 1500)]);
+    let most = random.weighted(&[(6, 0), (9, 4), (25, 100), (60, 1500)]);
     let way = random.below(10);
     (0..random.between(0, most)).map(|_| some_number(random, way)).collect()
 }
 
 /// Fewer where the image has many cells, since the model looks at each of them after each step.
 fn step_count(random: &mut Random, needed: usize) -> u32 {
-    let most = (300_000 / (needed + 100)).min(2500);
-    let most = random.weighted(&[(3, 0), (4, 1), (18, 40), (35, 300), (40, most)]);
+    let most = (600_000 / (needed + 100)).min(5000);
+    let most = random.weighted(&[(2, 0), (2, 1), (10, 40), (20, 400), (66, most)]);
     random.between(0, most) as u32
 }
 

@@ -41,7 +41,7 @@ impl Maker<'_> {
         self.procedure = procedure;
         self.body.clear();
         self.open.clear();
-        let items = self.random.between(1, self.scale.items);
+        let items = self.random.between(2, self.scale.items);
         if procedure == 0 {
             self.calls_first();
         }
@@ -56,7 +56,7 @@ impl Maker<'_> {
     /// A module body calls, mostly in a loop, before it does anything else.
     fn calls_first(&mut self) {
         let counters = self.counters();
-        let counter = if self.random.chance(600) { self.random.any(&counters) } else { None };
+        let counter = if self.random.chance(800) { self.random.any(&counters) } else { None };
         if let Some(counter) = counter {
             self.set_counter(counter, |maker| maker.number(0));
             self.busy.push(counter);
@@ -105,7 +105,9 @@ impl Maker<'_> {
     /// Adds the statement, or takes back the nodes made for it where there is none, or no room.
     fn emit(&mut self, make: impl FnOnce(&mut Self) -> Option<Row>) -> bool {
         let before = self.nodes.len();
+        self.daring = self.risky() && self.random.chance(700);
         let made = make(self);
+        self.daring = false;
         let fits = self.nodes.len() <= MOST[NODES];
         match made {
             Some(statement) if fits => self.body.push(statement),

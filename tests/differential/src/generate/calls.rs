@@ -16,8 +16,7 @@ impl Maker<'_> {
     /// A call of any procedure that has a depth, with this one's depth less 1.
     pub fn deeper(&mut self, fuel: usize) -> Option<Row> {
         let depth = self.procedures[self.procedure].depth?;
-        let choices: Vec<usize> =
-            (1..self.procedures.len()).filter(|p| self.procedures[*p].depth.is_some()).collect();
+        let choices: Vec<usize> = (1..self.procedures.len()).filter(|p| self.procedures[*p].depth.is_some()).collect();
         let called = if self.random.chance(600) { self.procedure } else { self.random.any(&choices)? };
         self.call_of(called, Some(depth), fuel)
     }

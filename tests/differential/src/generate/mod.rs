@@ -63,6 +63,8 @@ struct Maker<'r> {
     body: Vec<Row>,
     /// Rows of the body whose target is still open, and can be any row.
     open: Vec<usize>,
+    /// Whether the statement that is being made is a daring one.
+    daring: bool,
     /// Counters of the loops around, that are seldom assigned to.
     busy: Vec<usize>,
     /// VAR parameters and the types that the tests around found them to have.
@@ -84,6 +86,7 @@ pub fn image(random: &mut Random) -> Tables {
         procedure: 0,
         body: vec![],
         open: vec![],
+        daring: false,
         busy: vec![],
         known: vec![],
     };
@@ -96,12 +99,12 @@ impl Scale {
     fn pick(random: &mut Random) -> Scale {
         let size = random.weighted(&[(70, 0), (26, 1), (4, 2)]);
         let full = |random: &mut Random| size == 2 && random.chance(500);
-        let risk = random.weighted(&[(35, 2), (40, 15), (25, 80)]);
+        let risk = random.weighted(&[(35, 2), (40, 12), (25, 60)]);
         Scale {
-            types: 3 + [random.below(8), random.below(16), 61 - random.below(8) * random.below(2)][size],
+            types: 3 + [random.below(10), random.below(18), 61 - random.below(8) * random.below(2)][size],
             globals: [random.below(7), random.below(14), random.below(40)][size],
             procedures: 1 + [random.below(5), random.below(10), 63 - random.below(40) * random.below(2)][size],
-            items: [6, 9, 12][size],
+            items: [8, 10, 12][size],
             risk,
             wide: random.chance(10),
             all_fields: full(random),
@@ -113,8 +116,9 @@ impl Scale {
 }
 
 impl Maker<'_> {
+    /// Whether to do what can trap: seldom, but often in a daring statement, so that several traps meet in one.
     fn risky(&mut self) -> bool {
-        self.random.chance(self.scale.risk)
+        self.random.chance(if self.daring { 350 } else { self.scale.risk })
     }
 
     fn declare(&mut self) {
@@ -142,7 +146,7 @@ impl Maker<'_> {
     fn declare_procedure(&mut self, number: usize, owned: &mut Vec<Variable>) -> Procedure {
         let room = MOST[2] - owned.len();
         let parameters = if number == 0 { 0 } else { self.random.below(5) };
-        let locals = self.random.below(4);
+        let locals = self.random.weighted(&[(15, 0), (35, 1), (30, 2), (20, 4)]);
         let mut procedure = Procedure { first: owned.len(), parameters: 0, locals: 0, depth: None };
         if parameters + locals > room {
             return procedure;
@@ -154,8 +158,9 @@ impl Maker<'_> {
             }
             owned.push(parameter);
         }
-        for _ in 0..locals {
-            let ty = if self.random.chance(400) { INTEGER } else { self.declared_type() };
+        for local in 0..locals {
+            let count = self.random.chance(if local == 0 { 750 } else { 300 });
+            let ty = if count { INTEGER } else { self.declared_type() };
             owned.push(Variable { kind: LOCAL, ty });
         }
         Procedure { parameters, locals, ..procedure }
@@ -212,8 +217,7 @@ impl Maker<'_> {
         }
         let variables = self.variables.iter().map(|v| row(v.kind as usize, v.ty, 0, 0)).collect();
         let procedures = self.procedures.iter().zip(starts).map(|(p, start)| row(0, *start, p.parameters, p.locals));
-        let tables =
-            [self.types.rows, self.types.fields, variables, procedures.collect(), self.nodes, self.statements];
+        let tables = [self.types.rows, self.types.fields, variables, procedures.collect(), self.nodes, self.statements];
         Tables(tables)
     }
 

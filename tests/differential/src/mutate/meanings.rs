@@ -5,7 +5,7 @@ use crate::random::Random;
 
 type Mistake = fn(&mut Random, &mut Tables);
 
-const MISTAKES: [Mistake; 20] = [
+const MISTAKES: [Mistake; 27] = [
     other_constant_type,
     other_variable,
     other_variable,
@@ -15,6 +15,9 @@ const MISTAKES: [Mistake; 20] = [
     constant_to_variable,
     other_operator,
     other_operator,
+    operand_of_another_type,
+    operand_of_another_type,
+    operand_of_another_type,
     other_type,
     other_field,
     other_child,
@@ -24,6 +27,10 @@ const MISTAKES: [Mistake; 20] = [
     other_field_type,
     other_call,
     other_target,
+    names_an_argument,
+    other_read,
+    other_argument,
+    guard_of_another_parameter,
     other_body,
     too_large,
 ];
@@ -103,11 +110,16 @@ fn leaf_to_constant(random: &mut Random, tables: &mut Tables) {
 
 fn constant_to_variable(random: &mut Random, tables: &mut Tables) {
     let variables = tables.0[VARIABLES].clone();
-    change(random, &mut tables.0[NODES], |node| node.kind == 0, |random, node| {
-        if let Some(at) = find(random, &variables, |variable| variable.a == node.a) {
-            *node = row(1, at, 0, 0);
-        }
-    });
+    change(
+        random,
+        &mut tables.0[NODES],
+        |node| node.kind == 0,
+        |random, node| {
+            if let Some(at) = find(random, &variables, |variable| variable.a == node.a) {
+                *node = row(1, at, 0, 0);
+            }
+        },
+    );
 }
 
 /// The HALT of a body's end or another, with a node that is no INTEGER constant.
@@ -121,12 +133,33 @@ fn halt_of_something(random: &mut Random, tables: &mut Tables) {
 }
 
 fn other_operator(random: &mut Random, tables: &mut Tables) {
-    change(random, &mut tables.0[NODES], |node| matches!(node.kind, 5 | 6), |random, node| {
-        node.c = match node.kind {
-            5 => random.between(0, 17) as u16,
-            _ => random.between(0, 3) as u16,
-        };
-    });
+    let kind = random.between(5, 6) as u8;
+    change(
+        random,
+        &mut tables.0[NODES],
+        |node| node.kind == kind,
+        |random, node| {
+            node.c = match node.kind {
+                5 => random.between(0, 17) as u16,
+                _ => random.between(0, 3) as u16,
+            };
+        },
+    );
+}
+
+/// Of an operator that is picked first, so that each is.
+fn operand_of_another_type(random: &mut Random, tables: &mut Tables) {
+    let dyadic = random.between(1, 16);
+    let (kind, operator) = *random.pick(&[(5, dyadic), (5, dyadic), (5, dyadic), (6, 1), (6, 2), (3, 0)]);
+    let good = |node: &Row| node.kind == kind && node.c as usize == operator;
+    let Some(at) = find(random, &tables.0[NODES], good) else { return };
+    let node = tables.0[NODES][at];
+    let operand = if kind == 3 || kind == 5 && random.chance(500) { node.b } else { node.a } as usize;
+    if operand < at && tables.0[NODES][operand].kind == 0 {
+        retype(random, &mut tables.0[NODES][operand]);
+    } else if operand < at && tables.0[NODES][operand].kind == 1 {
+        tables.0[NODES][operand].a = any_below(random, tables.0[VARIABLES].len());
+    }
 }
 
 /// Of a guard or a test.
@@ -137,11 +170,16 @@ fn other_type(random: &mut Random, tables: &mut Tables) {
 }
 
 fn other_field(random: &mut Random, tables: &mut Tables) {
-    change(random, &mut tables.0[NODES], |node| node.kind == 2, |random, node| match random.below(3) {
-        0 => node.b = node.b.wrapping_add(1),
-        1 => node.b = node.b.wrapping_sub(1),
-        _ => *node = row(3, node.a as usize, node.b as usize, 0),
-    });
+    change(
+        random,
+        &mut tables.0[NODES],
+        |node| node.kind == 2,
+        |random, node| match random.below(3) {
+            0 => node.b = node.b.wrapping_add(1),
+            1 => node.b = node.b.wrapping_sub(1),
+            _ => *node = row(3, node.a as usize, node.b as usize, 0),
+        },
+    );
 }
 
 fn other_child(random: &mut Random, tables: &mut Tables) {
@@ -198,10 +236,15 @@ fn swap_names(random: &mut Random, tables: &mut Tables) {
 
 fn other_variable_type(random: &mut Random, tables: &mut Tables) {
     let types = tables.0[TYPES].len();
-    change(random, &mut tables.0[VARIABLES], |_| true, |random, variable| match random.below(4) {
-        0 => variable.kind = random.below(4) as u8,
-        _ => variable.a = any_below(random, types + 1),
-    });
+    change(
+        random,
+        &mut tables.0[VARIABLES],
+        |_| true,
+        |random, variable| match random.below(4) {
+            0 => variable.kind = random.below(4) as u8,
+            _ => variable.a = any_below(random, types + 1),
+        },
+    );
 }
 
 fn other_field_type(random: &mut Random, tables: &mut Tables) {
@@ -211,19 +254,66 @@ fn other_field_type(random: &mut Random, tables: &mut Tables) {
 
 fn other_call(random: &mut Random, tables: &mut Tables) {
     let procedures = tables.0[PROCEDURES].clone();
-    change(random, &mut tables.0[STATEMENTS], |statement| statement.kind == 1, |random, call| {
-        let parameters = procedures.get(call.a as usize).map_or(0, |procedure| procedure.b);
-        match random.below(6) {
-            0 => call.b = call.b.wrapping_add(1),
-            1 => call.b = call.b.wrapping_sub(1),
-            2 => call.a = any_below(random, procedures.len() + 1),
-            3 => call.b = u16::MAX,
-            _ => {
-                let same = find(random, &procedures, |procedure| procedure.b == parameters);
-                call.a = same.unwrap_or(0) as u16;
+    change(
+        random,
+        &mut tables.0[STATEMENTS],
+        |statement| statement.kind == 1,
+        |random, call| {
+            let parameters = procedures.get(call.a as usize).map_or(0, |procedure| procedure.b);
+            match random.below(6) {
+                0 => call.b = call.b.wrapping_add(1),
+                1 => call.b = call.b.wrapping_sub(1),
+                2 => call.a = any_below(random, procedures.len() + 1),
+                3 => call.b = u16::MAX,
+                _ => {
+                    let same = find(random, &procedures, |procedure| procedure.b == parameters);
+                    call.a = same.unwrap_or(0) as u16;
+                }
             }
-        }
-    });
+        },
+    );
+}
+
+/// A statement or a node names an argument.
+fn names_an_argument(random: &mut Random, tables: &mut Tables) {
+    let Some(argument) = find(random, &tables.0[NODES], |node| node.kind == 8) else { return };
+    let names = names(tables);
+    let good = |name: &&Name| name.0 == STATEMENTS || name.1 > argument;
+    let choices: Vec<Name> = names.iter().filter(good).copied().collect();
+    if let Some(name) = random.any(&choices) {
+        *named_at(tables, name) = argument as u16;
+    }
+}
+
+/// A read into a variable of another type, or of what is written.
+fn other_read(random: &mut Random, tables: &mut Tables) {
+    let Some(at) = find(random, &tables.0[STATEMENTS], |statement| matches!(statement.kind, 5 | 6)) else { return };
+    let node = tables.0[STATEMENTS][at].a as usize;
+    if tables.0[NODES].get(node).is_some_and(|node| node.kind == 1) {
+        tables.0[NODES][node].a = any_below(random, tables.0[VARIABLES].len());
+    } else {
+        tables.0[STATEMENTS][at].kind = 11 - tables.0[STATEMENTS][at].kind;
+    }
+}
+
+/// An argument holds another variable.
+fn other_argument(random: &mut Random, tables: &mut Tables) {
+    let variables = tables.0[VARIABLES].len();
+    let Some(argument) = find(random, &tables.0[NODES], |node| node.kind == 8) else { return };
+    let held = tables.0[NODES][argument].a as usize;
+    if tables.0[NODES].get(held).is_some_and(|node| node.kind == 1) {
+        tables.0[NODES][held].a = any_below(random, variables);
+    }
+}
+
+fn guard_of_another_parameter(random: &mut Random, tables: &mut Tables) {
+    let types = tables.0[TYPES].clone();
+    let no_record = |variable: &Row| types.get(variable.a as usize).is_some_and(|ty| ty.kind != 4);
+    let other = find(random, &tables.0[VARIABLES], |variable| variable.kind == 3 && no_record(variable));
+    let good = |node: &Row| matches!(node.kind, 4 | 7);
+    if let Some(other) = other {
+        change(random, &mut tables.0[NODES], good, |_, node| node.a = other as u16);
+    }
 }
 
 fn other_target(random: &mut Random, tables: &mut Tables) {
@@ -234,16 +324,21 @@ fn other_target(random: &mut Random, tables: &mut Tables) {
 
 fn other_body(random: &mut Random, tables: &mut Tables) {
     let ends = tables.0[STATEMENTS].len() as u16;
-    change(random, &mut tables.0[PROCEDURES], |_| true, |random, procedure| match random.below(8) {
-        0 => procedure.a = procedure.a.wrapping_add(1),
-        1 => procedure.a = procedure.a.wrapping_sub(1),
-        2 => procedure.a = ends,
-        3 => procedure.b += 1,
-        4 => procedure.c += 1,
-        5 => procedure.c = procedure.c.wrapping_sub(1),
-        6 => (procedure.b, procedure.c) = (procedure.b + 1, procedure.c.wrapping_sub(1)),
-        _ => (procedure.b, procedure.c) = (procedure.b.wrapping_sub(1), procedure.c + 1),
-    });
+    change(
+        random,
+        &mut tables.0[PROCEDURES],
+        |_| true,
+        |random, procedure| match random.below(8) {
+            0 => procedure.a = procedure.a.wrapping_add(1),
+            1 => procedure.a = procedure.a.wrapping_sub(1),
+            2 => procedure.a = ends,
+            3 => procedure.b += 1,
+            4 => procedure.c += 1,
+            5 => procedure.c = procedure.c.wrapping_sub(1),
+            6 => (procedure.b, procedure.c) = (procedure.b + 1, procedure.c.wrapping_sub(1)),
+            _ => (procedure.b, procedure.c) = (procedure.b.wrapping_sub(1), procedure.c + 1),
+        },
+    );
 }
 
 /// Sizes around and above 4,096; array and record rows that keep every other rule.
@@ -258,7 +353,8 @@ fn too_large(random: &mut Random, tables: &mut Tables) {
     tables.0[TYPES].push(row(3, random.below(3), cells, 0));
     let fields = tables.0[FIELDS].len();
     if random.chance(500) {
-        tables.0[TYPES].push(row(3, count, random.between(1, 3), 0));
+        let length = *random.pick(&[1, 2, 3, 16, 17, 4096]);
+        tables.0[TYPES].push(row(3, count, length, 0));
     } else {
         tables.0[TYPES].push(row(4, 0, fields, 2));
         tables.0[FIELDS].push(row(0, count, 0, 0));

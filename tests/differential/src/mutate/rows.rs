@@ -94,8 +94,9 @@ fn insert(random: &mut Random, rows: &mut Vec<Row>) {
 fn append(random: &mut Random, tables: &mut Tables, table: usize) {
     let fields = tables.0[1].len();
     let statements = tables.0[5].len();
+    let array = row(3, random.below(3), 2, 0);
     let added = [
-        *random.pick(&[row(4, 0, fields, 0), row(3, random.below(3), 2, 0)]),
+        *random.pick(&[row(4, 0, fields, 0), array]),
         row(0, random.below(3), 0, 0),
         row(random.between(1, 3), random.below(3), 0, 0),
         row(0, statements - usize::from(statements > 0), 0, 0),
