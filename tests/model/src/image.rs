@@ -90,7 +90,7 @@ fn table(
     in_range: &'static Rule,
 ) -> Result<Vec<Row>, Fault> {
     ask(rest.len() >= 2, &rules::COUNT_PRESENT, 0, || {
-        format!("the image ends {} bytes after the table before the {name} table", rest.len())
+        format!("the {name} table's count is cut off, {} bytes are left for it", rest.len())
     })?;
     let count = usize::from(u16::from_be_bytes([rest[0], rest[1]]));
     ask(counts.contains(&count), in_range, 0, || format!("the {name} table's count is {count}"))?;

@@ -4,15 +4,15 @@
 //!
 //! | module | document 01 |
 //! |---|---|
-//! | [`image`] | The image: bytes, rows, six tables; questions 1 to 3 |
-//! | [`types`] | Types: sizes, layouts, extension; question 4 |
-//! | [`program`] | What an accepted image means: bodies, places of variables, types of nodes |
-//! | [`forms`] | Variables, procedures, nodes, statements; questions 5 to 9 |
-//! | [`typing`] | Type rules; questions 10 and 11 |
-//! | [`operators`] | Values, operators, traps |
-//! | [`machine`] | Tagged machine: store, evaluation, statements |
-//! | [`sound`](mod@sound) | Sound |
-//! | [`rules`] | Each thing that a question asks, as a sentence |
+//! | `image` | The image: bytes, rows, six tables; questions 1 to 3 |
+//! | `types` | Types: sizes, layouts, extension; question 4 |
+//! | `program` | What an accepted image means: bodies, places of variables, types of nodes |
+//! | `forms` | Variables, procedures, nodes, statements; questions 5 to 9 |
+//! | `typing` | Type rules; questions 10 and 11 |
+//! | `operators` | Values, operators, traps |
+//! | `machine` | Tagged machine: store, evaluation, statements |
+//! | `sound` | Sound |
+//! | `rules` | Each thing that a question asks, as a sentence |
 
 mod forms;
 pub mod image;
@@ -79,12 +79,9 @@ pub fn check(image: &[u8]) -> Result<Program, Fault> {
 }
 
 /// "A run takes image, input, store, output and 0 to 4294967295 steps." Sound is decided of the fresh state and after
-/// each step.
+/// each step. Where something is broken, the store keeps what it held.
 pub fn run(image: &[u8], input: &[i32], store: &mut [i64], output: &mut [i32], steps: u32) -> Result<Numbers, Broken> {
-    match check(image) {
-        Ok(program) => run_program(&program, input, store, output, steps, true),
-        Err(fault) => Ok(refused(fault.refusal, fault.row)),
-    }
+    unless_refused(image, |program| run_program(program, input, store, output, steps, true))
 }
 
 /// The same, without deciding Sound: for long runs.
@@ -95,8 +92,13 @@ pub fn run_unwatched(
     output: &mut [i32],
     steps: u32,
 ) -> Result<Numbers, Broken> {
+    unless_refused(image, |program| run_program(program, input, store, output, steps, false))
+}
+
+/// "The run asks these": questions 1 to 11.
+fn unless_refused(image: &[u8], run: impl FnOnce(&Program) -> Result<Numbers, Broken>) -> Result<Numbers, Broken> {
     match check(image) {
-        Ok(program) => run_program(&program, input, store, output, steps, false),
+        Ok(program) => run(&program),
         Err(fault) => Ok(refused(fault.refusal, fault.row)),
     }
 }
@@ -137,10 +139,12 @@ fn refused(refusal: u32, fault: u32) -> Numbers {
 /// "A step that finishes or traps counts and is the last." What the last step came to.
 fn take_steps(machine: &mut Machine, watch: Option<&sound::Watch>, steps: u32) -> Result<Step, Broken> {
     let mut last = Step::GoesOn;
-    let mut taken = 0;
     loop {
+        let taken = machine.state.steps as u32;
         let broken = |what| Broken { steps: taken, what };
-        watch.map_or(Ok(()), |watch| watch.sound(&machine.state)).map_err(broken)?;
+        if let Some(watch) = watch {
+            watch.sound(&machine.state).map_err(broken)?;
+        }
         if taken == steps || last != Step::GoesOn {
             return Ok(last);
         }
@@ -148,7 +152,6 @@ fn take_steps(machine: &mut Machine, watch: Option<&sound::Watch>, steps: u32) -
         if let Step::Stuck(why) = last {
             return Err(broken(why));
         }
-        taken += 1;
     }
 }
 

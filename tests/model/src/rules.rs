@@ -1,5 +1,5 @@
-//! The rules that the eleven questions ask for, in document 01's words and in the order in which they are asked of a row.
-//! Of a row that breaks several rules, the first in this list is the one reported.
+//! The rules that the eleven questions ask for, in document 01's words and in the order of the questions. Of a row that
+//! breaks several rules of its question, one is reported.
 
 /// A rule of one question.
 #[derive(Debug, PartialEq, Eq)]

@@ -1,0 +1,220 @@
+//! The starred cases of document 01, and its mistakes to shut out.
+
+mod common;
+
+use common::{draft, image, row};
+use model::{check, run, Numbers, Row, Tables};
+
+const ASSIGN: u8 = 0;
+const CALL: u8 = 1;
+const RETURN: Row = Row { kind: 4, zero: 0, a: 0, b: 0, c: 0 };
+
+const BOOLEAN: u16 = 0;
+const INTEGER: u16 = 1;
+const SET: u16 = 2;
+
+const DIV: u16 = 4;
+const MOD: u16 = 5;
+
+fn constant(t: u16, number: i64) -> Row {
+    row(0, t, (number as u32 >> 16) as u16, number as u16)
+}
+
+fn integer(number: i64) -> Row {
+    constant(INTEGER, number)
+}
+
+fn variable(v: u16) -> Row {
+    row(1, v, 0, 0)
+}
+
+fn dyadic(a: u16, operator: u16, b: u16) -> Row {
+    row(5, a, b, operator)
+}
+
+/// What an expression comes to, or its trap.
+#[derive(Debug, PartialEq)]
+enum Comes {
+    To(i64),
+    Trap(u32),
+}
+use Comes::{To, Trap};
+
+/// Runs a program with one output place and 40 cells; gives the numbers and the cells.
+fn run_tables(tables: &Tables) -> (Numbers, [i64; 40]) {
+    let mut store = [99; 40];
+    let answer = run(&image(tables), &[], &mut store, &mut [0], 100).unwrap();
+    assert_eq!((answer.refusal, answer.fault), (0, 0));
+    (answer, store)
+}
+
+fn comes(tables: &Tables) -> Comes {
+    match run_tables(tables) {
+        (Numbers { outcome: 1, .. }, store) => To(store[0]),
+        (answer, _) => Trap(answer.trap),
+    }
+}
+
+/// Global 0, of type t, is assigned the expression whose last node is the last of `nodes`.
+fn expression(t: u16, nodes: &[Row]) -> Comes {
+    let source = nodes.len() as u16 - 1;
+    let mut tables = draft(vec![row(ASSIGN, source + 1, source, 0), RETURN]);
+    tables.variables.push(row(0, t, 0, 0));
+    tables.nodes = nodes.to_vec();
+    tables.nodes.push(variable(0));
+    comes(&tables)
+}
+
+fn integers(x: i64, operator: u16, y: i64) -> Comes {
+    expression(INTEGER, &[integer(x), integer(y), dyadic(0, operator, 1)])
+}
+
+fn range(a: i64, b: i64) -> Comes {
+    expression(SET, &[integer(a), integer(b), dyadic(0, 16, 1)])
+}
+
+#[test]
+fn expressions() {
+    let lowest = -2147483648;
+    let cases = [
+        ("1: -5 DIV 3", integers(-5, DIV, 3), To(-2)),
+        ("1: -5 MOD 3", integers(-5, MOD, 3), To(1)),
+        ("1: 5 DIV 3", integers(5, DIV, 3), To(1)),
+        ("1: 5 MOD 3", integers(5, MOD, 3), To(2)),
+        ("2: -(-2147483648)", expression(INTEGER, &[integer(lowest), row(6, 0, 0, 1)]), Trap(4)),
+        ("2: that DIV 1", integers(lowest, DIV, 1), To(lowest)),
+        ("3: 7 DIV 0", integers(7, DIV, 0), Trap(5)),
+        ("3: 7 DIV -1", integers(7, DIV, -1), Trap(5)),
+        ("4: 0..3", range(0, 3), To(15)),
+        ("4: 3..0", range(3, 0), To(0)),
+        ("4: 31..31", range(31, 31), To(2147483648)),
+        ("4: 0..32", range(0, 32), Trap(6)),
+        ("5: -{}", expression(SET, &[constant(SET, 0), row(6, 0, 0, 1)]), To(4294967295)),
+        (
+            "5: 32 IN -{}",
+            expression(BOOLEAN, &[integer(32), constant(SET, 0), row(6, 1, 0, 1), dyadic(0, 15, 2)]),
+            To(0),
+        ),
+        (
+            "6: FALSE & (7 DIV 0 = 1)",
+            expression(
+                BOOLEAN,
+                &[
+                    constant(BOOLEAN, 0),
+                    integer(7),
+                    integer(0),
+                    dyadic(1, DIV, 2),
+                    integer(1),
+                    dyadic(3, 7, 4),
+                    dyadic(0, 13, 5),
+                ],
+            ),
+            To(0),
+        ),
+    ];
+    for (case, answer, expected) in cases {
+        assert_eq!(answer, expected, "{case}");
+    }
+}
+
+/// "Row 3 record of an INTEGER, row 4 extends it by a SET".
+fn records(statements: Vec<Row>) -> Tables {
+    let mut tables = draft(statements);
+    tables.types.extend([row(4, 0, 0, 1), row(4, 4, 1, 1)]);
+    tables.fields.extend([row(0, 1, 0, 0), row(0, 2, 0, 0)]);
+    tables
+}
+
+#[test]
+fn case_7_sizes_and_extension() {
+    let program = check(&image(&records(vec![RETURN]))).unwrap();
+    assert_eq!((program.size(3), program.size(4)), (1, 2));
+    assert!(program.extends(4, 3));
+    assert!(!program.extends(3, 4));
+}
+
+/// Global 0 BOOLEAN, 1 of type 3, 2 of type 4. The module body calls procedure 1 with global 2 for its VAR parameter 3 of
+/// type 3.
+fn passes_an_extension(body: &[Row], nodes: &[Row]) -> Tables {
+    let mut tables = records(vec![row(CALL, 1, 1, 0), RETURN]);
+    tables.variables.extend([row(0, 0, 0, 0), row(0, 3, 0, 0), row(0, 4, 0, 0), row(3, 3, 0, 0)]);
+    tables.procedures.push(row(0, 2, 1, 0));
+    tables.nodes.extend([variable(2), row(8, 0, 0, 0)]);
+    tables.nodes.extend(nodes);
+    tables.statements.extend(body);
+    tables
+}
+
+#[test]
+fn case_8_var_parameter_of_type_3_holding_a_4() {
+    let test = [variable(0), row(7, 3, 4, 0)];
+    assert_eq!(comes(&passes_an_extension(&[row(ASSIGN, 2, 3, 0), RETURN], &test)), To(1));
+    let assign = [variable(3), variable(1)];
+    assert_eq!(comes(&passes_an_extension(&[row(ASSIGN, 2, 3, 0), RETURN], &assign)), Trap(3));
+}
+
+#[test]
+fn case_9_indices() {
+    let element = |index| {
+        let mut tables = draft(vec![row(ASSIGN, 2, 3, 0), RETURN]);
+        tables.types.push(row(3, INTEGER, 4, 0));
+        tables.variables.push(row(0, 3, 0, 0));
+        tables.nodes = vec![variable(0), integer(index), row(3, 0, 1, 0), integer(5)];
+        match run_tables(&tables) {
+            (Numbers { outcome: 1, .. }, store) => To(store[3]),
+            (answer, _) => Trap(answer.trap),
+        }
+    };
+    assert_eq!([3, 4, -1].map(element), [To(5), Trap(1), Trap(1)]);
+}
+
+#[test]
+fn case_10_smallest_image() {
+    let hexadecimal = "01 00000039 0003 0000000000000000 0100000000000000 0200000000000000 0000 0000 0001 \
+                       0000000000000000 0000 0001 0400000000000000";
+    let digits: Vec<u8> = hexadecimal.bytes().filter(|byte| *byte != b' ').collect();
+    let image: Vec<u8> =
+        digits.chunks(2).map(|pair| u8::from_str_radix(std::str::from_utf8(pair).unwrap(), 16).unwrap()).collect();
+    let finished = Numbers { outcome: 1, steps: 1, ..Numbers::default() };
+    assert_eq!(run(&image, &[], &mut [0; 8192], &mut [0; 4096], 100_000), Ok(finished));
+    let refused = Numbers { refusal: 13, ..Numbers::default() };
+    let mut store = [5, 6];
+    assert_eq!(run(&image, &[], &mut store, &mut [0; 4096], 100_000), Ok(refused));
+    assert_eq!(store, [5, 6]);
+}
+
+#[test]
+fn stores_that_are_just_large_or_small_enough() {
+    let image = image(&draft(vec![RETURN]));
+    let refusal = |cells| run(&image, &[], &mut vec![0; cells], &mut [], 1).unwrap().refusal;
+    assert_eq!([2, 3, 65_536, 65_537].map(refusal), [13, 0, 0, 12]);
+}
+
+#[test]
+fn a_guard_does_not_ask_for_equality() {
+    // v(3) is good where v holds a 4
+    let guard = [row(4, 3, 3, 0), row(2, 2, 0, 0), integer(8)];
+    let (answer, store) = run_tables(&passes_an_extension(&[row(ASSIGN, 3, 4, 0), RETURN], &guard));
+    assert_eq!((answer.outcome, store[2]), (1, 8));
+}
+
+#[test]
+fn a_projection_leaves_the_extension() {
+    // global 0 of type 4 gets both its fields, then global 1 of type 3 takes it; the INTEGER behind it stays
+    let mut tables = records(vec![row(ASSIGN, 1, 2, 0), row(ASSIGN, 4, 5, 0), row(ASSIGN, 6, 7, 0), RETURN]);
+    tables.variables.extend([row(0, 4, 0, 0), row(0, 3, 0, 0), row(0, 1, 0, 0)]);
+    tables.nodes = vec![variable(0), row(2, 0, 0, 0), integer(6), variable(0), row(2, 3, 1, 0), constant(SET, 9)];
+    tables.nodes.extend([variable(1), variable(0)]);
+    let (answer, store) = run_tables(&tables);
+    assert_eq!((answer.outcome, &store[..4]), (1, &[6, 9, 6, 0][..]));
+}
+
+#[test]
+fn a_var_parameter_is_handed_on_with_its_dynamic_type() {
+    // procedure 1 hands its parameter on to procedure 2, which asks whether it is a 4
+    let nodes = [variable(3), row(8, 2, 0, 0), variable(0), row(7, 4, 4, 0)];
+    let mut tables = passes_an_extension(&[row(CALL, 2, 3, 0), RETURN, row(ASSIGN, 4, 5, 0), RETURN], &nodes);
+    tables.variables.push(row(3, 3, 0, 0));
+    tables.procedures.push(row(0, 4, 1, 0));
+    assert_eq!(comes(&tables), To(1));
+}
