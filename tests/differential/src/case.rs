@@ -20,7 +20,7 @@ impl Case {
     pub fn new(seed: u64, number: u64) -> Case {
         let mut random = Random::new(seed, number);
         let tables = generate::image(&mut random);
-        let good = number % 2 == 0;
+        let good = number.is_multiple_of(2);
         let image = if good { tables.bytes() } else { mutate::image(&mut random, tables) };
         Case { image, good, random }
     }
@@ -32,7 +32,7 @@ impl Case {
     }
 
     /// Compares check and runs; `Err` is the first difference, in words.
-    pub fn compare(&mut self, counts: &mut Counts) -> Result<(), String> {
+    pub fn compare(mut self, counts: &mut Counts) -> Result<(), String> {
         counts.images += 1;
         match compare::check(&self.image)? {
             Ok(program) => self.compare_runs(&program, counts),

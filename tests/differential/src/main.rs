@@ -105,7 +105,7 @@ impl Work {
             if number >= self.count {
                 break;
             }
-            if let Err(what) = compare_case(&mut Case::new(self.seed, number), &mut counts) {
+            if let Err(what) = compare(|| Case::new(self.seed, number), &mut counts) {
                 self.stop.store(true, Ordering::Relaxed);
                 self.found.lock().expect("no worker panics").push(Found { number, what });
             }
@@ -115,8 +115,9 @@ impl Work {
 }
 
 /// A panic, the model's or the test's, is a difference too.
-fn compare_case(case: &mut Case, counts: &mut Counts) -> Result<(), String> {
-    catch_unwind(AssertUnwindSafe(|| case.compare(counts))).unwrap_or_else(|_| Err("panic, as printed above".into()))
+fn compare(make: impl FnOnce() -> Case, counts: &mut Counts) -> Result<(), String> {
+    let compared = catch_unwind(AssertUnwindSafe(|| make().compare(counts)));
+    compared.unwrap_or_else(|_| Err("a panic, as told on standard error".into()))
 }
 
 fn report(work: &Work, counts: &Counts) -> bool {
@@ -148,13 +149,13 @@ fn tell(seed: u64, found: &Found) {
 
 /// The image's rows, as lines of a listing, and what comes of them.
 fn show_case(seed: u64, number: u64) -> bool {
-    let mut case = Case::new(seed, number);
+    let case = Case::new(seed, number);
     println!("{} bytes", case.image.len());
     if !matches!(door::check_number(&case.image) >> 16, 1..=3) {
         image::Tables::read(&case.image).print();
     }
     let mut counts = Counts::new();
-    let answer = compare_case(&mut case, &mut counts);
+    let answer = compare(|| case, &mut counts);
     match &answer {
         Ok(()) => said(&counts),
         Err(what) => println!("{what}"),
@@ -170,7 +171,7 @@ fn replay(files: &[&str]) -> bool {
     let mut counts = Counts::new();
     for file in files {
         let answer = match std::fs::read(file) {
-            Ok(image) => compare_case(&mut Case::of(image), &mut counts),
+            Ok(image) => compare(|| Case::of(image), &mut counts),
             Err(error) => Err(error.to_string()),
         };
         if let Err(what) = answer {

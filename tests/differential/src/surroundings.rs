@@ -8,6 +8,8 @@ pub struct Surroundings {
     pub input: Vec<i32>,
     pub output: Vec<i32>,
     pub steps: u32,
+    /// Whether the model decides of each state if it is sound; not in long runs.
+    pub watched: bool,
 }
 
 impl Surroundings {
@@ -15,9 +17,25 @@ impl Surroundings {
     pub fn pick(random: &mut Random, needed: usize) -> Surroundings {
         let cells = store_length(random, needed);
         let store = store_fill(random, cells);
-        let input = inputs(random);
-        let output = outputs(random);
-        Surroundings { store, input, output, steps: step_count(random, needed) }
+        if random.chance(2) {
+            return Surroundings::long(random, store);
+        }
+        let input = some_numbers(random, &[(10, 0), (14, 4), (26, 60), (50, 600)]);
+        let output = some_numbers(random, &[(6, 0), (9, 4), (25, 100), (60, 1500)]);
+        Surroundings { store, input, output, steps: step_count(random, needed), watched: true }
+    }
+
+    /// With counts that can pass 16 bits.
+    fn long(random: &mut Random, store: Vec<i64>) -> Surroundings {
+        let input = some_numbers(random, &[(1, 100_000)]);
+        let output = some_numbers(random, &[(1, 100_000)]);
+        Surroundings { store, input, output, steps: random.below(500_000) as u32, watched: false }
+    }
+
+    /// What is lent, in words.
+    pub fn told(&self) -> String {
+        let Surroundings { store, input, output, steps, .. } = self;
+        format!("{} cells, {} inputs, {} output places, {steps} steps", store.len(), input.len(), output.len())
     }
 }
 
@@ -58,14 +76,9 @@ fn some_number(random: &mut Random, way: usize) -> i32 {
     }
 }
 
-fn inputs(random: &mut Random) -> Vec<i32> {
-    let most = random.weighted(&[(10, 0), (14, 4), (26, 60), (50, 600)]);
-    let way = random.below(10);
-    (0..random.between(0, most)).map(|_| some_number(random, way)).collect()
-}
-
-fn outputs(random: &mut Random) -> Vec<i32> {
-    let most = random.weighted(&[(6, 0), (9, 4), (25, 100), (60, 1500)]);
+/// Up to so many numbers.
+fn some_numbers(random: &mut Random, most: &[(usize, usize)]) -> Vec<i32> {
+    let most = random.weighted(most);
     let way = random.below(10);
     (0..random.between(0, most)).map(|_| some_number(random, way)).collect()
 }

@@ -20,19 +20,20 @@ enum Item {
     Jump,
 }
 
+/// How often each is picked, in thousandths.
 const ITEMS: [(usize, Item); 12] = [
-    (36, Item::Assign),
-    (14, Item::Call),
-    (4, Item::Deeper),
-    (9, Item::Branch),
-    (8, Item::Count),
-    (4, Item::Repeat),
-    (7, Item::Tested),
-    (6, Item::Read),
-    (8, Item::Write),
-    (1, Item::Halt),
-    (2, Item::Leave),
-    (1, Item::Jump),
+    (366, Item::Assign),
+    (140, Item::Call),
+    (40, Item::Deeper),
+    (90, Item::Branch),
+    (80, Item::Count),
+    (40, Item::Repeat),
+    (70, Item::Tested),
+    (60, Item::Read),
+    (80, Item::Write),
+    (4, Item::Halt),
+    (20, Item::Leave),
+    (10, Item::Jump),
 ];
 
 impl Maker<'_> {
@@ -90,7 +91,6 @@ impl Maker<'_> {
             Item::Deeper => self.recursion(fuel / 2),
             Item::Read => self.emit(|maker| maker.read(fuel)),
             Item::Write => self.emit(|maker| Some(row(6, maker.value(INTEGER, fuel), 0, 0))),
-            Item::Halt if self.random.chance(600) => self.emit(|maker| maker.assign(fuel)),
             Item::Halt => self.guarded(fuel, |maker| maker.emit(|maker| Some(maker.halt()))),
             Item::Leave => self.guarded(fuel, |maker| maker.body.push(row(4, 0, 0, 0))),
             Item::Jump => self.jump(fuel),
@@ -105,7 +105,7 @@ impl Maker<'_> {
     /// Adds the statement, or takes back the nodes made for it where there is none, or no room.
     fn emit(&mut self, make: impl FnOnce(&mut Self) -> Option<Row>) -> bool {
         let before = self.nodes.len();
-        self.daring = self.risky() && self.random.chance(700);
+        self.daring = self.random.chance(2 * self.scale.risk);
         let made = make(self);
         self.daring = false;
         let fits = self.nodes.len() <= MOST[NODES];

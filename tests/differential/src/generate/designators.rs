@@ -82,7 +82,7 @@ impl Maker<'_> {
         }
         let declared = self.variables[variable].ty;
         let mut guards = self.types.extensions(declared);
-        if self.risky() || self.risky() || self.risky() {
+        if self.random.chance(3 * self.risk()) {
             return guards;
         }
         let known: Vec<usize> = self.known.iter().filter(|(v, _)| *v == variable).map(|(_, ty)| *ty).collect();
@@ -92,8 +92,13 @@ impl Maker<'_> {
     }
 
     fn begin(&mut self, roots: &[Root]) -> Option<(usize, usize)> {
-        let own: Vec<Root> = roots.iter().copied().filter(|root| self.own(root.variable)).collect();
-        let from = if own.is_empty() || self.random.chance(400) { roots } else { &own };
+        let daring = self.daring && self.random.chance(800);
+        let preferred = |root: &Root| match daring {
+            true => !self.types.is_scalar(root.ty),
+            false => self.own(root.variable),
+        };
+        let preferred: Vec<Root> = roots.iter().copied().filter(preferred).collect();
+        let from = if preferred.is_empty() || self.random.chance(300) { roots } else { &preferred };
         let root = self.random.any(from)?;
         let node = match root.guarded {
             true => row(4, root.variable, root.ty, 0),

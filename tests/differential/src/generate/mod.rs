@@ -25,7 +25,7 @@ pub struct Scale {
     items: usize,
     /// Thousandths.
     risk: usize,
-    /// Arrays of up to 4,096 cells.
+    /// Large arrays, and many of them.
     wide: bool,
     all_fields: bool,
     all_variables: bool,
@@ -98,15 +98,16 @@ pub fn image(random: &mut Random) -> Tables {
 impl Scale {
     fn pick(random: &mut Random) -> Scale {
         let size = random.weighted(&[(70, 0), (26, 1), (4, 2)]);
+        let wide = random.chance(15);
         let full = |random: &mut Random| size == 2 && random.chance(500);
-        let risk = random.weighted(&[(35, 2), (40, 12), (25, 60)]);
+        let risk = random.weighted(&[(35, 1), (40, 10), (25, 50)]);
         Scale {
             types: 3 + [random.below(10), random.below(18), 61 - random.below(8) * random.below(2)][size],
-            globals: [random.below(7), random.below(14), random.below(40)][size],
+            globals: if wide { random.below(40) } else { [random.below(7), random.below(14), random.below(40)][size] },
             procedures: 1 + [random.below(5), random.below(10), 63 - random.below(40) * random.below(2)][size],
             items: [8, 10, 12][size],
             risk,
-            wide: random.chance(10),
+            wide,
             all_fields: full(random),
             all_variables: full(random),
             all_nodes: full(random),
@@ -116,9 +117,17 @@ impl Scale {
 }
 
 impl Maker<'_> {
-    /// Whether to do what can trap: seldom, but often in a daring statement, so that several traps meet in one.
+    /// How often to do what can trap, in thousandths: often in a daring statement, so that several traps meet in one.
+    fn risk(&self) -> usize {
+        if self.daring {
+            350
+        } else {
+            self.scale.risk
+        }
+    }
+
     fn risky(&mut self) -> bool {
-        self.random.chance(if self.daring { 350 } else { self.scale.risk })
+        self.random.chance(self.risk())
     }
 
     fn declare(&mut self) {
@@ -187,6 +196,9 @@ impl Maker<'_> {
     }
 
     fn declared_type(&mut self) -> usize {
+        if self.scale.wide && self.random.chance(500) {
+            return self.types.largest();
+        }
         let ty = self.random.below(self.types.list.len());
         let most = if self.scale.wide { 4096 } else { 60 };
         if self.types.list[ty].size > most || self.random.chance(300) {

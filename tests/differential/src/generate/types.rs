@@ -62,7 +62,7 @@ impl Types {
     }
 
     fn extend(&mut self, random: &mut Random, scale: &Scale) {
-        if random.chance(300) {
+        if random.chance(360) {
             self.add_array(random, scale);
         } else {
             self.add_record(random, scale);
@@ -70,13 +70,16 @@ impl Types {
     }
 
     fn add_array(&mut self, random: &mut Random, scale: &Scale) {
-        let element = self.part(random);
+        let arrays: Vec<usize> =
+            (3..self.list.len()).filter(|t| self.is_array(*t) && self.list[*t].depth < 4).collect();
+        let nested = if random.chance(300) { random.any(&arrays) } else { None };
+        let element = nested.unwrap_or_else(|| self.part(random));
         let most = LARGEST / self.list[element].size.max(1);
         let wanted = match random.below(100) {
+            0..=59 if scale.wide => random.between(LARGEST / 2, LARGEST),
             0..=9 => 1,
             10..=79 => random.between(2, 6),
             80..=95 => random.between(2, 40),
-            _ if scale.wide => random.between(1, LARGEST),
             _ => random.between(1, 100),
         };
         let length = wanted.min(most);
@@ -132,12 +135,20 @@ impl Types {
         part
     }
 
+    pub fn largest(&self) -> usize {
+        (0..self.list.len()).max_by_key(|t| self.list[*t].size).unwrap_or(BOOLEAN)
+    }
+
     fn records(&self) -> Vec<usize> {
         (3..self.list.len()).filter(|t| self.is_record(*t)).collect()
     }
 
     pub fn is_scalar(&self, t: usize) -> bool {
         t <= SET
+    }
+
+    fn is_array(&self, t: usize) -> bool {
+        matches!(self.list[t].shape, Shape::Array { .. })
     }
 
     pub fn is_record(&self, t: usize) -> bool {

@@ -11,6 +11,9 @@ const EDGES: [i32; 14] =
 impl Maker<'_> {
     /// An expression of the kind, with about as many operators as fuel says.
     pub fn value(&mut self, kind: usize, fuel: usize) -> usize {
+        if self.daring && kind == INTEGER && self.random.chance(120) {
+            return self.trapping();
+        }
         if fuel == 0 || self.random.chance(200) {
             return self.leaf(kind, fuel);
         }
@@ -82,6 +85,14 @@ impl Maker<'_> {
         self.dyadic(left, operator, right)
     }
 
+    /// 7 DIV 0, 7 MOD -1, or a sum that overflows.
+    fn trapping(&mut self) -> usize {
+        let (x, operator, y) = *self.random.pick(&[(7, 4, 0), (7, 5, -1), (i32::MAX, 1, 1), (i32::MIN, 2, 1)]);
+        let left = self.constant(INTEGER, x as u32);
+        let right = self.constant(INTEGER, y as u32);
+        self.dyadic(left, operator, right)
+    }
+
     fn integer(&mut self, fuel: usize) -> usize {
         match self.random.weighted(&[(6, 1), (6, 2), (4, 3), (4, 4), (6, 5), (3, 0)]) {
             0 => {
@@ -124,9 +135,10 @@ impl Maker<'_> {
         if self.risky() {
             let near = [bound as i32, bound as i32 - 1, -1, bound as i32 + 1, i32::MAX, i32::MIN, 0];
             let edge = *self.random.pick(&near);
-            return match self.random.chance(500) {
-                true => self.constant(INTEGER, edge as u32),
-                false => self.value(INTEGER, fuel / 2),
+            return match self.random.below(4) {
+                0 | 1 => self.constant(INTEGER, edge as u32),
+                2 => self.trapping(),
+                _ => self.value(INTEGER, fuel / 2),
             };
         }
         if fuel == 0 || self.random.chance(450) {

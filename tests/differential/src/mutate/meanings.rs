@@ -5,7 +5,7 @@ use crate::random::Random;
 
 type Mistake = fn(&mut Random, &mut Tables);
 
-const MISTAKES: [Mistake; 27] = [
+const MISTAKES: [Mistake; 30] = [
     other_constant_type,
     other_variable,
     other_variable,
@@ -26,6 +26,9 @@ const MISTAKES: [Mistake; 27] = [
     other_variable_type,
     other_field_type,
     other_call,
+    other_call,
+    other_element,
+    compared_objects,
     other_target,
     names_an_argument,
     other_read,
@@ -64,7 +67,7 @@ fn other_constant_type(random: &mut Random, tables: &mut Tables) {
 }
 
 fn retype(random: &mut Random, node: &mut Row) {
-    node.a = (node.a + random.between(1, 2) as u16) % 3;
+    node.a = (node.a % 3 + random.between(1, 2) as u16) % 3;
     if random.chance(800) {
         (node.b, node.c) = (0, node.c % 2);
     }
@@ -166,7 +169,10 @@ fn operand_of_another_type(random: &mut Random, tables: &mut Tables) {
 fn other_type(random: &mut Random, tables: &mut Tables) {
     let types = tables.0[TYPES].len();
     let good = |node: &Row| matches!(node.kind, 4 | 7);
-    change(random, &mut tables.0[NODES], good, |random, node| node.b = any_below(random, types + 1));
+    change(random, &mut tables.0[NODES], good, |random, node| {
+        let any = any_below(random, types);
+        node.b = *random.pick(&[any, any, any, types as u16, u16::MAX]);
+    });
 }
 
 fn other_field(random: &mut Random, tables: &mut Tables) {
@@ -274,6 +280,27 @@ fn other_call(random: &mut Random, tables: &mut Tables) {
     );
 }
 
+/// Of an array.
+fn other_element(random: &mut Random, tables: &mut Tables) {
+    let Some(at) = find(random, &tables.0[TYPES], |ty| ty.kind == 3) else { return };
+    let lower = any_below(random, at);
+    tables.0[TYPES][at].a = *random.pick(&[lower, at as u16, at as u16 + 1, u16::MAX]);
+}
+
+/// A comparison of a variable that is mostly no scalar with itself.
+fn compared_objects(random: &mut Random, tables: &mut Tables) {
+    let Some(variable) = find(random, &tables.0[VARIABLES], |variable| variable.a > 2) else { return };
+    let nodes = &mut tables.0[NODES];
+    let leaf = |node: u16| nodes.get(node as usize).is_some_and(|node| node.kind < 2);
+    let good = |node: &Row| node.kind == 5 && leaf(node.a) && leaf(node.b);
+    if let Some(at) = find(random, nodes, good) {
+        nodes[at].c = random.between(7, 8) as u16;
+        for operand in [nodes[at].a, nodes[at].b] {
+            nodes[operand as usize] = row(1, variable, 0, 0);
+        }
+    }
+}
+
 /// A statement or a node names an argument.
 fn names_an_argument(random: &mut Random, tables: &mut Tables) {
     let Some(argument) = find(random, &tables.0[NODES], |node| node.kind == 8) else { return };
@@ -289,10 +316,10 @@ fn names_an_argument(random: &mut Random, tables: &mut Tables) {
 fn other_read(random: &mut Random, tables: &mut Tables) {
     let Some(at) = find(random, &tables.0[STATEMENTS], |statement| matches!(statement.kind, 5 | 6)) else { return };
     let node = tables.0[STATEMENTS][at].a as usize;
-    if tables.0[NODES].get(node).is_some_and(|node| node.kind == 1) {
-        tables.0[NODES][node].a = any_below(random, tables.0[VARIABLES].len());
-    } else {
-        tables.0[STATEMENTS][at].kind = 11 - tables.0[STATEMENTS][at].kind;
+    match tables.0[NODES].get(node).map(|node| node.kind) {
+        Some(0) => retype(random, &mut tables.0[NODES][node]),
+        Some(1) => tables.0[NODES][node].a = any_below(random, tables.0[VARIABLES].len()),
+        _ => tables.0[STATEMENTS][at].kind = 11 - tables.0[STATEMENTS][at].kind,
     }
 }
 
@@ -332,11 +359,11 @@ fn other_body(random: &mut Random, tables: &mut Tables) {
             0 => procedure.a = procedure.a.wrapping_add(1),
             1 => procedure.a = procedure.a.wrapping_sub(1),
             2 => procedure.a = ends,
-            3 => procedure.b += 1,
-            4 => procedure.c += 1,
+            3 => procedure.b = procedure.b.wrapping_add(1),
+            4 => procedure.c = procedure.c.wrapping_add(1),
             5 => procedure.c = procedure.c.wrapping_sub(1),
-            6 => (procedure.b, procedure.c) = (procedure.b + 1, procedure.c.wrapping_sub(1)),
-            _ => (procedure.b, procedure.c) = (procedure.b.wrapping_sub(1), procedure.c + 1),
+            6 => (procedure.b, procedure.c) = (procedure.b.wrapping_add(1), procedure.c.wrapping_sub(1)),
+            _ => (procedure.b, procedure.c) = (procedure.b.wrapping_sub(1), procedure.c.wrapping_add(1)),
         },
     );
 }
