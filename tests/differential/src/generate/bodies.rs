@@ -105,7 +105,7 @@ impl Maker<'_> {
     /// Adds the statement, or takes back the nodes made for it where there is none, or no room.
     fn emit(&mut self, make: impl FnOnce(&mut Self) -> Option<Row>) -> bool {
         let before = self.nodes.len();
-        self.daring = self.random.chance(2 * self.scale.risk);
+        self.daring = self.random.chance(3 * self.scale.risk);
         let made = make(self);
         self.daring = false;
         let fits = self.nodes.len() <= MOST[NODES];

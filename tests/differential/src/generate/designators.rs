@@ -42,11 +42,22 @@ impl Maker<'_> {
     /// Any designator that the body can name, and its type.
     pub fn target(&mut self, fuel: usize) -> Option<(usize, usize)> {
         let roots = self.roots(|_, _| true);
+        if self.daring && self.random.chance(600) {
+            if let Some(whole) = self.whole_parameter(&roots) {
+                return Some(whole);
+            }
+        }
         let (mut node, mut ty) = self.begin(&roots)?;
         while self.has_parts(ty) && self.random.chance(600) {
             (node, ty) = self.descend(node, ty, None, fuel);
         }
         Some((node, ty))
+    }
+
+    /// A whole VAR record, as a target that may hold an extension.
+    fn whole_parameter(&mut self, roots: &[Root]) -> Option<(usize, usize)> {
+        let records: Vec<Root> = roots.iter().copied().filter(|root| self.can_guard(root.variable)).collect();
+        self.begin(&records)
     }
 
     fn roots(&mut self, good: impl Fn(&Self, usize) -> bool) -> Vec<Root> {
@@ -94,7 +105,7 @@ impl Maker<'_> {
     fn begin(&mut self, roots: &[Root]) -> Option<(usize, usize)> {
         let daring = self.daring && self.random.chance(800);
         let preferred = |root: &Root| match daring {
-            true => !self.types.is_scalar(root.ty),
+            true => self.types.has_array(root.ty),
             false => self.own(root.variable),
         };
         let preferred: Vec<Root> = roots.iter().copied().filter(preferred).collect();

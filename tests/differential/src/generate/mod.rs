@@ -100,7 +100,7 @@ impl Scale {
         let size = random.weighted(&[(70, 0), (26, 1), (4, 2)]);
         let wide = random.chance(15);
         let full = |random: &mut Random| size == 2 && random.chance(500);
-        let risk = random.weighted(&[(35, 1), (40, 10), (25, 50)]);
+        let risk = random.weighted(&[(35, 1), (40, 8), (25, 40)]);
         Scale {
             types: 3 + [random.below(10), random.below(18), 61 - random.below(8) * random.below(2)][size],
             globals: if wide { random.below(40) } else { [random.below(7), random.below(14), random.below(40)][size] },

@@ -70,10 +70,7 @@ impl Types {
     }
 
     fn add_array(&mut self, random: &mut Random, scale: &Scale) {
-        let arrays: Vec<usize> =
-            (3..self.list.len()).filter(|t| self.is_array(*t) && self.list[*t].depth < 4).collect();
-        let nested = if random.chance(300) { random.any(&arrays) } else { None };
-        let element = nested.unwrap_or_else(|| self.part(random));
+        let element = self.element(random);
         let most = LARGEST / self.list[element].size.max(1);
         let wanted = match random.below(100) {
             0..=59 if scale.wide => random.between(LARGEST / 2, LARGEST),
@@ -87,6 +84,19 @@ impl Types {
         let shape = Shape::Array { element, length };
         let array = Type { shape, size: size * length, fields: vec![], depth: depth + 1 };
         self.add(array, row(3, element, length, 0));
+    }
+
+    /// Mostly an array or a record, so that designators have several indexes, and arrays hold extensions.
+    fn element(&self, random: &mut Random) -> usize {
+        let not_deep = |t: &usize| self.list[*t].depth < 4;
+        let (records, arrays): (Vec<usize>, Vec<usize>) =
+            (3..self.list.len()).filter(not_deep).partition(|t| self.is_record(*t));
+        let choice = match random.below(10) {
+            0..=2 => random.any(&arrays),
+            3..=6 => random.any(&records),
+            _ => None,
+        };
+        choice.unwrap_or_else(|| self.part(random))
     }
 
     fn add_record(&mut self, random: &mut Random, scale: &Scale) {
@@ -153,6 +163,11 @@ impl Types {
 
     pub fn is_record(&self, t: usize) -> bool {
         matches!(self.list[t].shape, Shape::Record { .. })
+    }
+
+    /// Whether an object of the type has an array in it, or is one.
+    pub fn has_array(&self, t: usize) -> bool {
+        (3..=t).any(|u| self.is_array(u) && self.holds(t, u))
     }
 
     /// Whether an object of type t has one of type u in it, or is one.

@@ -132,13 +132,15 @@ impl Maker<'_> {
 
     /// An INTEGER of 0 to bound - 1, but for a seldom mistake.
     fn bounded(&mut self, bound: usize, fuel: usize) -> usize {
+        if self.daring && self.random.chance(250) {
+            return self.trapping();
+        }
         if self.risky() {
             let near = [bound as i32, bound as i32 - 1, -1, bound as i32 + 1, i32::MAX, i32::MIN, 0];
             let edge = *self.random.pick(&near);
-            return match self.random.below(4) {
-                0 | 1 => self.constant(INTEGER, edge as u32),
-                2 => self.trapping(),
-                _ => self.value(INTEGER, fuel / 2),
+            return match self.random.chance(600) {
+                true => self.constant(INTEGER, edge as u32),
+                false => self.value(INTEGER, fuel / 2),
             };
         }
         if fuel == 0 || self.random.chance(450) {
