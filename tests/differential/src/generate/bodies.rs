@@ -91,8 +91,8 @@ impl Maker<'_> {
             Item::Deeper => self.recursion(fuel / 2),
             Item::Read => self.emit(|maker| maker.read(fuel)),
             Item::Write => self.emit(|maker| Some(row(6, maker.value(INTEGER, fuel), 0, 0))),
-            Item::Halt => self.guarded(fuel, |maker| maker.emit(|maker| Some(maker.halt()))),
-            Item::Leave => self.guarded(fuel, |maker| maker.body.push(row(4, 0, 0, 0))),
+            Item::Halt => self.behind_condition(fuel, |maker| maker.emit(|maker| Some(maker.halt()))),
+            Item::Leave => self.behind_condition(fuel, |maker| maker.body.push(row(4, 0, 0, 0))),
             Item::Jump => self.jump(fuel),
             _ if nesting >= 3 => self.emit(|maker| maker.assign(fuel)),
             Item::Branch => self.branch(fuel, nesting),
@@ -179,7 +179,7 @@ impl Maker<'_> {
     }
 
     /// What ends the body or the run, behind a condition.
-    fn guarded<R>(&mut self, fuel: usize, inside: impl FnOnce(&mut Self) -> R) -> bool {
+    fn behind_condition<R>(&mut self, fuel: usize, inside: impl FnOnce(&mut Self) -> R) -> bool {
         let Some(test) = self.condition(|maker| maker.boolean(fuel.max(1))) else { return false };
         inside(self);
         self.here(test);
