@@ -373,8 +373,8 @@ impl Machine<'_> {
 
 /// The store.
 impl Machine<'_> {
-    /// The number of a cell below top that has the kind and its range. "Where an operand's cell lacks the needed kind or
-    /// range, or a .. cell is missing, no rule applies".
+    /// The number of a cell below top that has the kind and its range. "Where an operand's cell lacks the needed kind
+    /// or range, or a .. cell is missing, no rule applies".
     fn number(&self, address: usize, kind: Kind) -> Answer<i64> {
         match self.state.cells.get(address) {
             Some(cell) if address < self.state.top && cell.has(kind) => Ok(cell.number),

@@ -21,8 +21,8 @@ struct Frame {
 pub struct Watch<'a> {
     program: &'a Program,
     /// Of each type, for each offset from 0 to its size: the types with which objects are declared that begin there in
-    /// an object of the type, itself included, as a set of type rows (there are at most 64). An object without cells may
-    /// begin where the last one ends.
+    /// an object of the type, itself included, as a set of type rows (there are at most 64). An object without cells
+    /// may begin where the last one ends.
     beginnings: Vec<Vec<u64>>,
 }
 
@@ -76,8 +76,8 @@ impl<'a> Watch<'a> {
         Ok(())
     }
 
-    /// "the row lies in the body of the top frame's procedure, whose frame ends at top ..; links lead frame by frame, each
-    /// beginning where the older ends, to procedure 0's at G, whose links are 0". The frames, the top one first.
+    /// "the row lies in the body of the top frame's procedure, whose frame ends at top ..; links lead frame by frame,
+    /// each beginning where the older ends, to procedure 0's at G, whose links are 0". The frames, the top one first.
     fn frames(&self, state: &State) -> Result<Vec<Frame>, String> {
         ask(state.row < self.program.statements.len(), || format!("there is no statement {}", state.row))?;
         let mut frames = Vec::new();
@@ -113,8 +113,8 @@ impl<'a> Watch<'a> {
         })
     }
 
-    /// "every variable cell has its layout's kind and range": of the variables that are no VAR parameters, of the frame at
-    /// `base` or of the globals. They are added to `objects`.
+    /// "every variable cell has its layout's kind and range": of the variables that are no VAR parameters, of the frame
+    /// at `base` or of the globals. They are added to `objects`.
     fn variables(
         &self,
         state: &State,
@@ -133,9 +133,9 @@ impl<'a> Watch<'a> {
         Ok(())
     }
 
-    /// "each VAR parameter's type cell names its own type or, for records, an extension; at its address begins a global,
-    /// an older frame's local or value parameter, or an element or field at any depth of one, declared with the named
-    /// type."
+    /// "each VAR parameter's type cell names its own type or, for records, an extension; at its address begins a
+    /// global, an older frame's local or value parameter, or an element or field at any depth of one, declared with the
+    /// named type."
     fn var_parameters(&self, state: &State, frame: &Frame, objects: &[u64]) -> Result<(), String> {
         let parameters = self.program.parameters(frame.procedure);
         for v in parameters.filter(|&v| self.program.variables[v].kind == VAR_PARAMETER) {

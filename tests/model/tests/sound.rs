@@ -61,6 +61,10 @@ const UNSOUND: &[Damage] = &[
     ("procedure 0's first link is not 0", |s| s.cells[4].number = 1),
     ("procedure 0's second link is not 0", |s| s.cells[5].number = 1),
     ("procedure 0's third link is not 0", |s| s.cells[6].number = 1),
+    ("procedure 0's frame is not at G", |s| {
+        (s.row, s.base, s.top) = (0, 5, 8);
+        (5..8).for_each(|link| put(s, link, Kind::Link, 0));
+    }),
     ("a global has another kind", |s| put(s, 0, Kind::Set, 0)),
     ("a global without a kind", |s| s.cells[1].kind = None),
     ("a BOOLEAN is out of range", |s| s.cells[3].number = 2),
@@ -106,8 +110,8 @@ fn damaged_states() {
     }
 }
 
-/// Types with objects inside objects, also such without cells; a global and a local of procedure 0 of each type, and for
-/// each type t a procedure t + 1 with a VAR parameter and a local of that type, called with the global.
+/// Types with objects inside objects, also such without cells; a global and a local of procedure 0 of each type, and
+/// for each type t a procedure t + 1 with a VAR parameter and a local of that type, called with the global.
 fn parts() -> Tables {
     let mut tables = draft(Vec::new());
     tables.types.extend([

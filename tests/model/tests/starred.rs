@@ -1,4 +1,4 @@
-//! The starred cases of document 01, and its mistakes to shut out.
+//! The starred cases of document 01, its mistakes to shut out, and the edges of its operators.
 
 mod common;
 
@@ -117,6 +117,84 @@ fn expressions() {
     }
 }
 
+fn sets(x: i64, operator: u16, y: i64) -> Comes {
+    expression(SET, &[constant(SET, x), constant(SET, y), dyadic(0, operator, 1)])
+}
+
+/// What `x operator y` comes to, which is a BOOLEAN; x and y of the types given.
+fn boolean(x: (u16, i64), operator: u16, y: (u16, i64)) -> Comes {
+    expression(BOOLEAN, &[constant(x.0, x.1), constant(y.0, y.1), dyadic(0, operator, 1)])
+}
+
+#[test]
+fn edges_of_integer_operators() {
+    let (least, most) = (-2147483648, 2147483647);
+    let cases = [
+        ((most - 1, 1, 1), To(most)),
+        ((most, 1, 1), Trap(4)),
+        ((least, 1, -1), Trap(4)),
+        ((least + 1, 2, 1), To(least)),
+        ((least, 2, 1), Trap(4)),
+        ((0, 2, least), Trap(4)),
+        ((-65536, 3, 32768), To(least)),
+        ((65536, 3, 32768), Trap(4)),
+        ((least, 3, least), Trap(4)),
+        ((least, DIV, 2), To(-1073741824)),
+        ((least, DIV, most), To(-2)),
+        ((least, DIV, -1), Trap(5)),
+        ((-1, DIV, most), To(-1)),
+        ((least, MOD, most), To(2147483646)),
+        ((-6, MOD, 3), To(0)),
+        ((7, MOD, 0), Trap(5)),
+        ((7, MOD, -1), Trap(5)),
+    ];
+    for ((x, operator, y), expected) in cases {
+        assert_eq!(integers(x, operator, y), expected, "{x} {operator} {y}");
+    }
+    for ((a, b), expected) in
+        [((31, 0), To(0)), ((0, 31), To(4294967295)), ((-1, 0), Trap(6)), ((32, 0), Trap(6)), ((5, -1), Trap(6))]
+    {
+        assert_eq!(range(a, b), expected, "{a}..{b}");
+    }
+}
+
+#[test]
+fn edges_of_set_operators() {
+    // {0, 1} and {1, 31}: union, difference, intersection, symmetric difference
+    let (x, y) = (3, 2147483650);
+    assert_eq!([1, 2, 3, 6].map(|operator| sets(x, operator, y)), [To(2147483651), To(1), To(2), To(2147483649)]);
+    let is_in = |element| boolean((INTEGER, element), 15, (SET, y));
+    assert_eq!([0, 1, 30, 31].map(is_in), [To(0), To(1), To(0), To(1)]);
+    let in_all = |element| boolean((INTEGER, element), 15, (SET, 4294967295));
+    assert_eq!([0, 31, -1, 32, 33, -2147483648].map(in_all), [To(1), To(1), To(0), To(0), To(0), To(0)]);
+}
+
+#[test]
+fn relations_and_boolean_operators() {
+    // = # < <= > >= of a smaller, an equal and a larger right operand
+    for (y, expected) in [(-2, [0, 1, 0, 0, 1, 1]), (-1, [1, 0, 0, 1, 0, 1]), (0, [0, 1, 1, 1, 0, 0])] {
+        let relation = |c| boolean((INTEGER, -1), c, (INTEGER, y));
+        assert_eq!([7, 8, 9, 10, 11, 12].map(relation), expected.map(To), "{y}");
+    }
+    // = # & OR of all pairs
+    for (x, y, expected) in [(0, 0, [1, 0, 0, 0]), (0, 1, [0, 1, 0, 1]), (1, 0, [0, 1, 0, 1]), (1, 1, [1, 0, 1, 1])] {
+        assert_eq!([7, 8, 13, 14].map(|c| boolean((BOOLEAN, x), c, (BOOLEAN, y))), expected.map(To), "{x} {y}");
+    }
+    assert_eq!([7, 8].map(|c| boolean((SET, 1), c, (SET, 2147483649))), [To(0), To(1)]);
+    assert_eq!([7, 8].map(|c| boolean((SET, 5), c, (SET, 5))), [To(1), To(0)]);
+    let not = |x| expression(BOOLEAN, &[constant(BOOLEAN, x), row(6, 0, 0, 2)]);
+    assert_eq!([0, 1].map(not), [To(1), To(0)]);
+}
+
+#[test]
+fn both_operands_come_before_the_operator() {
+    // 99..(1 DIV 0), (1 DIV 0)..99
+    let division = |a, b, n: Row| expression(SET, &[integer(a), integer(b), dyadic(0, DIV, 1), integer(99), n]);
+    assert_eq!(division(1, 0, dyadic(3, 16, 2)), Trap(5));
+    assert_eq!(division(1, 0, dyadic(2, 16, 3)), Trap(5));
+    assert_eq!(division(1, 1, dyadic(3, 16, 2)), Trap(6));
+}
+
 /// "Row 3 record of an INTEGER, row 4 extends it by a SET".
 fn records(statements: Vec<Row>) -> Tables {
     let mut tables = draft(statements);
@@ -133,8 +211,8 @@ fn case_7_sizes_and_extension() {
     assert!(!program.extends(3, 4));
 }
 
-/// Global 0 BOOLEAN, 1 of type 3, 2 of type 4. The module body calls procedure 1 with global 2 for its VAR parameter 3 of
-/// type 3.
+/// Global 0 BOOLEAN, 1 of type 3, 2 of type 4. The module body calls procedure 1 with global 2 for its VAR parameter 3
+/// of type 3.
 fn passes_an_extension(body: &[Row], nodes: &[Row]) -> Tables {
     let mut tables = records(vec![row(CALL, 1, 1, 0), RETURN]);
     tables.variables.extend([row(0, 0, 0, 0), row(0, 3, 0, 0), row(0, 4, 0, 0), row(3, 3, 0, 0)]);

@@ -1,4 +1,5 @@
-//! Every image of `vectors/` with the answer stored there. `vectors/README.md` says where the answers come from.
+//! Every image of `vectors/` with the answer stored there. `vectors/README.md` says where the answers come from. Sound
+//! is decided after every step of every run.
 
 use model::Numbers;
 use std::fs;
@@ -108,13 +109,15 @@ fn runs_folder(name: &str) {
         let (name, lent) = parts[0].split_once(' ').unwrap();
         let lent: Vec<i64> = numbers(lent);
         let [cells, fill, places, steps] = lent[..] else { panic!("{line}") };
-        let mut store = vec![fill; cells as usize];
-        let mut output = vec![7; places as usize];
         let input: Vec<i32> = numbers(parts[1]);
-        let answer = model::run(&image(&folder, name), &input, &mut store, &mut output, steps as u32).unwrap();
-        assert_eq!(nine(&answer), numbers::<i64>(parts[2]), "{name}");
-        assert_eq!(output, numbers::<i32>(parts[3]), "{name}");
-        assert_eq!(store, numbers::<i64>(parts[4]), "{name}");
+        for run in [model::run, model::run_unwatched] {
+            let mut store = vec![fill; cells as usize];
+            let mut output = vec![7; places as usize];
+            let answer = run(&image(&folder, name), &input, &mut store, &mut output, steps as u32).unwrap();
+            assert_eq!(nine(&answer), numbers::<i64>(parts[2]), "{name}");
+            assert_eq!(output, numbers::<i32>(parts[3]), "{name}");
+            assert_eq!(store, numbers::<i64>(parts[4]), "{name}");
+        }
     }
     assert_eq!(lines.len(), images(&folder));
 }
