@@ -1,1 +1,197 @@
-fn main() {}
+//! The proved engine and the model on random images. Usage:
+//!
+//!     differential COUNT [SEED]           compare both on COUNT images
+//!     differential case SEED NUMBER       make one case again, and print it
+//!     differential replay FILE...         compare both on the images in the files
+//!     differential write DIR COUNT [SEED] write accepted images to files
+//!
+//! It exits with 1 where something differs, where a generated image is refused, or, from 20,000 images on, where
+//! something is never reached.
+
+mod case;
+mod compare;
+mod counts;
+mod generate;
+mod image;
+mod mutate;
+mod random;
+mod surroundings;
+
+use case::Case;
+use counts::Counts;
+use std::panic::{catch_unwind, AssertUnwindSafe};
+use std::path::Path;
+use std::process::ExitCode;
+use std::sync::atomic::{AtomicBool, AtomicU64, Ordering};
+use std::sync::Mutex;
+
+const SEED: u64 = 1;
+/// From so many images on all that can be reached must be.
+const ENOUGH: u64 = 20_000;
+/// Enough for the model, which follows the deepest expressions by calling itself.
+const STACK: usize = 64 << 20;
+/// Where the image of a difference is written.
+const FOLDER: &str = "target/differential";
+
+fn main() -> ExitCode {
+    let work = || {
+        let words: Vec<String> = std::env::args().skip(1).collect();
+        let words: Vec<&str> = words.iter().map(String::as_str).collect();
+        command(&words)
+    };
+    let worker = std::thread::Builder::new().stack_size(STACK).spawn(work).expect("a thread");
+    match worker.join() {
+        Ok(Some(true)) => return ExitCode::SUCCESS,
+        Ok(None) => eprintln!("usage: differential {USAGE}"),
+        _ => {}
+    }
+    ExitCode::FAILURE
+}
+
+const USAGE: &str = "COUNT [SEED] | case SEED NUMBER | replay FILE... | write DIR COUNT [SEED]";
+
+/// Whether all went well; nothing where the words are no command.
+fn command(words: &[&str]) -> Option<bool> {
+    let number = |word: &str| word.parse::<u64>().ok();
+    let done = match words {
+        ["case", seed, case] => show_case(number(seed)?, number(case)?),
+        ["replay", files @ ..] => replay(files),
+        ["write", folder, count] => write(folder, number(count)?, SEED),
+        ["write", folder, count, seed] => write(folder, number(count)?, number(seed)?),
+        [count] => compare_all(number(count)?, SEED),
+        [count, seed] => compare_all(number(count)?, number(seed)?),
+        _ => return None,
+    };
+    Some(done)
+}
+
+/// Where the first difference is, and which.
+struct Found {
+    number: u64,
+    what: String,
+}
+
+/// The cases that threads share.
+struct Work {
+    seed: u64,
+    count: u64,
+    next: AtomicU64,
+    stop: AtomicBool,
+    found: Mutex<Vec<Found>>,
+}
+
+fn compare_all(count: u64, seed: u64) -> bool {
+    let work = Work { seed, count, next: 0.into(), stop: false.into(), found: Mutex::new(vec![]) };
+    let threads = std::thread::available_parallelism().map_or(1, |threads| threads.get());
+    let mut counts = Counts::new();
+    std::thread::scope(|scope| {
+        let spawn = |_| {
+            let builder = std::thread::Builder::new().stack_size(STACK);
+            builder.spawn_scoped(scope, || work.share()).expect("a thread")
+        };
+        let workers: Vec<_> = (0..threads).map(spawn).collect();
+        for worker in workers {
+            counts.merge(&worker.join().expect("a worker catches what panics"));
+        }
+    });
+    report(&work, &counts)
+}
+
+impl Work {
+    fn share(&self) -> Counts {
+        let mut counts = Counts::new();
+        while !self.stop.load(Ordering::Relaxed) {
+            let number = self.next.fetch_add(1, Ordering::Relaxed);
+            if number >= self.count {
+                break;
+            }
+            if let Err(what) = compare(|| Case::new(self.seed, number), &mut counts) {
+                self.stop.store(true, Ordering::Relaxed);
+                self.found.lock().expect("no worker panics").push(Found { number, what });
+            }
+        }
+        counts
+    }
+}
+
+/// A panic, the model's or the test's, is a difference too.
+fn compare(make: impl FnOnce() -> Case, counts: &mut Counts) -> Result<(), String> {
+    let compared = catch_unwind(AssertUnwindSafe(|| make().compare(counts)));
+    compared.unwrap_or_else(|_| Err("a panic, as told on standard error".into()))
+}
+
+fn report(work: &Work, counts: &Counts) -> bool {
+    let mut found = work.found.lock().expect("no worker panics");
+    found.sort_by_key(|found| found.number);
+    if let Some(first) = found.first() {
+        tell(work.seed, first);
+        return false;
+    }
+    counts.print();
+    let missing = if work.count >= ENOUGH { counts.missing() } else { vec![] };
+    missing.iter().for_each(|missing| println!("never reached: {missing}"));
+    said(counts);
+    missing.is_empty()
+}
+
+fn tell(seed: u64, found: &Found) {
+    let Found { number, what } = found;
+    println!("image {number} of seed {seed}: {what}");
+    let file = Path::new(FOLDER).join(format!("{seed}-{number}.img"));
+    let written = std::fs::create_dir_all(FOLDER).and_then(|()| std::fs::write(&file, Case::new(seed, *number).image));
+    match written {
+        Ok(()) => println!("the image is in {}", file.display()),
+        Err(error) => println!("{}: {error}", file.display()),
+    }
+    println!("again: differential case {seed} {number}");
+    println!("found after {} images", number + 1);
+}
+
+/// The image's rows, as lines of a listing, and what comes of them.
+fn show_case(seed: u64, number: u64) -> bool {
+    let case = Case::new(seed, number);
+    println!("{} bytes", case.image.len());
+    if !matches!(door::check_number(&case.image) >> 16, 1..=3) {
+        image::Tables::read(&case.image).print();
+    }
+    let mut counts = Counts::new();
+    let answer = compare(|| case, &mut counts);
+    match &answer {
+        Ok(()) => said(&counts),
+        Err(what) => println!("{what}"),
+    }
+    answer.is_ok()
+}
+
+fn said(counts: &Counts) {
+    println!("{} images, {} runs, {} steps: 0 differences", counts.images, counts.runs, counts.steps);
+}
+
+fn replay(files: &[&str]) -> bool {
+    let mut counts = Counts::new();
+    for file in files {
+        let answer = match std::fs::read(file) {
+            Ok(image) => compare(|| Case::of(image), &mut counts),
+            Err(error) => Err(error.to_string()),
+        };
+        if let Err(what) = answer {
+            println!("{file}: {what}");
+            return false;
+        }
+    }
+    said(&counts);
+    true
+}
+
+fn write(folder: &str, count: u64, seed: u64) -> bool {
+    let written = std::fs::create_dir_all(folder).and_then(|()| {
+        (0..count).try_for_each(|number| {
+            let image = Case::new(seed, 2 * number).image;
+            std::fs::write(Path::new(folder).join(format!("{seed}-{number:06}.img")), image)
+        })
+    });
+    if let Err(error) = &written {
+        eprintln!("{folder}: {error}");
+    }
+    written.is_ok()
+}

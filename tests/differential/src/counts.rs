@@ -1,0 +1,205 @@
+//! What the images and runs reached, and how often.
+
+use model::program::{Program, CALL};
+use model::rules;
+
+#[derive(Clone, Copy, Debug, PartialEq, Eq)]
+pub enum Group {
+    Refusal,
+    Outcome,
+    Steps,
+    Trap,
+    Node,
+    Dyadic,
+    Monadic,
+    Statement,
+    Executed,
+    Parameter,
+    Extension,
+    Rule,
+}
+
+const GROUPS: [(Group, &str); 12] = [
+    (Group::Refusal, "refusals of runs"),
+    (Group::Outcome, "outcomes of runs"),
+    (Group::Steps, "unrefused runs by their steps"),
+    (Group::Trap, "traps"),
+    (Group::Node, "nodes in accepted images"),
+    (Group::Dyadic, "dyadic operators by their left operand"),
+    (Group::Monadic, "monadic operators by their operand"),
+    (Group::Statement, "statements in accepted images"),
+    (Group::Executed, "statements executed, in the first steps of some runs"),
+    (Group::Parameter, "parameters"),
+    (Group::Extension, "extensions of a record"),
+    (Group::Rule, "rules broken, of the model's list"),
+];
+
+const KINDS: [&str; 3] = ["BOOLEAN", "INTEGER", "SET"];
+const NODES: [&str; 9] =
+    ["constant", "variable", "field", "element", "guard", "dyadic", "monadic", "type test", "argument"];
+const STATEMENTS: [&str; 8] = ["assign", "call", "jump if FALSE", "jump", "RETURN", "read", "write", "HALT"];
+const DYADIC: [(&str, &[usize]); 16] = [
+    ("+", &[1, 2]),
+    ("-", &[1, 2]),
+    ("*", &[1, 2]),
+    ("DIV", &[1]),
+    ("MOD", &[1]),
+    ("/", &[2]),
+    ("=", &[0, 1, 2]),
+    ("#", &[0, 1, 2]),
+    ("<", &[1]),
+    ("<=", &[1]),
+    (">", &[1]),
+    (">=", &[1]),
+    ("&", &[0]),
+    ("OR", &[0]),
+    ("IN", &[1]),
+    ("..", &[1]),
+];
+const MONADIC: [(&str, &[usize]); 2] = [("-", &[1, 2]), ("~", &[0])];
+const FORMS: [&str; 3] = ["scalar", "array", "record"];
+
+/// What can be counted in a group; where nothing can, no name.
+fn names(group: Group) -> Vec<Option<String>> {
+    let all = |names: &[&str]| names.iter().map(|name| Some(name.to_string())).collect();
+    match group {
+        Group::Refusal => (0..=13).map(|number| Some(number.to_string())).collect(),
+        Group::Outcome => all(&["steps used up", "finished", "trapped"]),
+        Group::Steps => all(&["0", "1 to 9", "10 to 99", "100 to 999", "1,000 and more"]),
+        Group::Trap => (0..=10).map(|number| (number > 0).then(|| number.to_string())).collect(),
+        Group::Node => all(&NODES),
+        Group::Dyadic => operators(&DYADIC),
+        Group::Monadic => operators(&MONADIC),
+        Group::Statement | Group::Executed => all(&STATEMENTS),
+        Group::Parameter => {
+            let of = |kind: &str| FORMS.map(|form| Some(format!("{kind} {form}")));
+            [of("value"), of("VAR")].concat()
+        }
+        Group::Extension => all(&["assigned", "passed by value", "passed to VAR"]),
+        Group::Rule => rules::ALL.iter().map(|rule| Some(format!("{}: {}", rule.question, rule.words))).collect(),
+    }
+}
+
+/// Operator o, counted from 1, with operands of kind k is number 3 * (o - 1) + k.
+fn operators(list: &[(&str, &[usize])]) -> Vec<Option<String>> {
+    let of = |(name, kinds): &(&str, &[usize])| {
+        [0, 1, 2].map(|kind| kinds.contains(&kind).then(|| format!("{name} {}", KINDS[kind])))
+    };
+    list.iter().flat_map(of).collect()
+}
+
+#[derive(Clone)]
+pub struct Counts {
+    pub images: u64,
+    pub accepted_mutants: u64,
+    pub runs: u64,
+    pub steps: u64,
+    groups: Vec<Vec<u64>>,
+}
+
+impl Counts {
+    pub fn new() -> Counts {
+        let groups = GROUPS.iter().map(|(group, _)| vec![0; names(*group).len()]).collect();
+        Counts { images: 0, accepted_mutants: 0, runs: 0, steps: 0, groups }
+    }
+
+    pub fn add(&mut self, group: Group, number: usize) {
+        self.groups[group as usize][number] += 1;
+    }
+
+    pub fn merge(&mut self, other: &Counts) {
+        self.images += other.images;
+        self.accepted_mutants += other.accepted_mutants;
+        self.runs += other.runs;
+        self.steps += other.steps;
+        for (mine, others) in self.groups.iter_mut().flatten().zip(other.groups.iter().flatten()) {
+            *mine += others;
+        }
+    }
+
+    pub fn run(&mut self, numbers: &door::Numbers) {
+        self.runs += 1;
+        self.steps += u64::from(numbers.steps);
+        self.add(Group::Refusal, numbers.refusal as usize);
+        if numbers.refusal == 0 {
+            self.add(Group::Outcome, numbers.outcome as usize);
+            self.add(Group::Steps, numbers.steps.checked_ilog10().map_or(0, |digits| digits.min(3) as usize + 1));
+        }
+        if numbers.trap > 0 {
+            self.add(Group::Trap, numbers.trap as usize);
+        }
+    }
+
+    pub fn rule(&mut self, broken: &'static rules::Rule) {
+        let number = rules::ALL.iter().position(|rule| *rule == broken);
+        self.add(Group::Rule, number.expect("a rule of the list"));
+    }
+
+    /// What an accepted image has.
+    pub fn survey(&mut self, program: &Program) {
+        for node in &program.nodes {
+            self.add(Group::Node, node.kind as usize);
+            match node.kind {
+                5 => self.add(Group::Dyadic, 3 * (node.c() - 1) + program.type_of(node.a())),
+                6 => self.add(Group::Monadic, 3 * (node.c() - 1) + program.type_of(node.a())),
+                _ => {}
+            }
+        }
+        for (at, statement) in program.statements.iter().enumerate() {
+            self.add(Group::Statement, statement.kind as usize);
+            if statement.kind == 0 && program.type_of(statement.a()) != program.type_of(statement.b()) {
+                self.add(Group::Extension, 0);
+            }
+            if statement.kind == CALL {
+                self.survey_call(program, at);
+            }
+        }
+        for variable in program.variables.iter().filter(|variable| variable.kind >= 2) {
+            let form = [program.is_scalar(variable.a()), program.is_array(variable.a()), true];
+            let form = form.iter().position(|is| *is).expect("the last one is");
+            self.add(Group::Parameter, 3 * (variable.kind as usize - 2) + form);
+        }
+    }
+
+    fn survey_call(&mut self, program: &Program, call: usize) {
+        let called = program.statements[call].a();
+        for (argument, parameter) in program.named_by(call).zip(program.parameters(called)) {
+            let parameter = program.variables[parameter];
+            if program.type_of(argument) != parameter.a() {
+                self.add(Group::Extension, parameter.kind as usize - 1);
+            }
+        }
+    }
+
+    /// What was never reached, in words.
+    pub fn missing(&self) -> Vec<String> {
+        let mut missing = vec![];
+        for (group, title) in GROUPS {
+            for (name, count) in self.group(group) {
+                if count == 0 {
+                    missing.push(format!("{title}: {name}"));
+                }
+            }
+        }
+        missing
+    }
+
+    fn group(&self, group: Group) -> Vec<(String, u64)> {
+        let counts = self.groups[group as usize].iter();
+        names(group).into_iter().zip(counts).filter_map(|(name, count)| Some((name?, *count))).collect()
+    }
+
+    pub fn print(&self) {
+        for (group, title) in GROUPS {
+            println!("{title}:");
+            let counted = self.group(group);
+            if group == Group::Rule {
+                counted.iter().for_each(|(name, count)| println!("  {count:>9}  {name}"));
+            } else {
+                let parts: Vec<String> = counted.iter().map(|(name, count)| format!("{name} {count}")).collect();
+                println!("  {}", parts.join(", "));
+            }
+        }
+        println!("mutants that are accepted: {}", self.accepted_mutants);
+    }
+}
