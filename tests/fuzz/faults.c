@@ -19,9 +19,11 @@ uint32_t __wrap_door_check(const uint8_t *image, size_t length) {
 struct door_result __wrap_door_run(const uint8_t *image, size_t image_length, const int32_t *input, size_t input_length,
                                    int64_t *store, size_t store_length, int32_t *output, size_t output_length,
                                    uint32_t steps) {
+    static int32_t *used_by;
     const int64_t held = store_length > 0 ? store[store_length - 1] : 0;
-    struct door_result result = __real_door_run(image, image_length, input, input_length, store, store_length, output,
-                                                output_length, steps);
+    struct door_result result;
+    used_by = output;
+    result = __real_door_run(image, image_length, input, input_length, store, store_length, output, output_length, steps);
     switch (FAULT) {
     case 2: /* 2: SEGV on unknown address */
         if (*(const volatile uint8_t *)(image - 1) == 255)
@@ -42,7 +44,7 @@ struct door_result __wrap_door_run(const uint8_t *image, size_t image_length, co
         result.steps += result.refusal == 0 && result.outcome == 0;
         break;
     case 7: /* 7: memcmp(&a->result, &b->result, sizeof a->result) == 0 */
-        if (result.trap == 2 && held < 0)
+        if (result.refusal == 0 && held < 0)
             result.row = 0;
         break;
     case 8: /* 8: memcmp(&before, &less->result, sizeof before) == 0 */
@@ -52,6 +54,9 @@ struct door_result __wrap_door_run(const uint8_t *image, size_t image_length, co
     case 9: /* 9: same || (a->store[i] == a->fill && b->store[i] == b->fill) */
         if (result.outcome == 1 && store_length > 100)
             store[100] = held ^ 1;
+        break;
+    case 10: /* a state that is shared by the calls: only another thread can see it */
+        result.row += used_by != output;
         break;
     default:
         break;
