@@ -20,12 +20,15 @@ struct builder {
     unsigned count[TABLES];
 };
 
-static inline unsigned add(struct builder *b, int table, unsigned kind, unsigned x, unsigned y, unsigned z) {
-    const unsigned row = b->count[table]++;
-    const uint8_t bytes[8] = {(uint8_t)kind,     0,           (uint8_t)(x >> 8), (uint8_t)x,
+static inline void set_row(uint8_t *row, unsigned kind, unsigned x, unsigned y, unsigned z) {
+    const uint8_t bytes[8] = {(uint8_t)kind,     0,          (uint8_t)(x >> 8), (uint8_t)x,
                               (uint8_t)(y >> 8), (uint8_t)y, (uint8_t)(z >> 8), (uint8_t)z};
-    memcpy(b->rows[table] + 8 * row, bytes, 8);
-    return row;
+    memcpy(row, bytes, 8);
+}
+
+static inline unsigned add(struct builder *b, int table, unsigned kind, unsigned x, unsigned y, unsigned z) {
+    set_row(b->rows[table] + 8 * b->count[table], kind, x, y, z);
+    return b->count[table]++;
 }
 
 /* The three scalar types and procedure 0, which begins at statement 0. */

@@ -23,7 +23,8 @@ struct door_result __wrap_door_run(const uint8_t *image, size_t image_length, co
     const int64_t held = store_length > 0 ? store[store_length - 1] : 0;
     struct door_result result;
     used_by = output;
-    result = __real_door_run(image, image_length, input, input_length, store, store_length, output, output_length, steps);
+    result =
+        __real_door_run(image, image_length, input, input_length, store, store_length, output, output_length, steps);
     switch (FAULT) {
     case 2: /* 2: SEGV on unknown address */
         if (*(const volatile uint8_t *)(image - 1) == 255)

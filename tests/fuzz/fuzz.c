@@ -63,8 +63,9 @@ static void fill_lent(enum side side, const struct lent *lent_, const uint8_t *i
 static void run(enum side side, const struct lent *lent_, uint32_t steps, struct left *left) {
     int64_t *store = lent(store_area, side, 8 * lent_->cells);
     int32_t *output = lent(output_area, side, 4 * lent_->places);
-    left->result = door_run(lent(image_area, side, lent_->image), lent_->image, lent(input_area, side, 4 * lent_->inputs),
-                            lent_->inputs, store, lent_->cells, output, lent_->places, steps);
+    left->result =
+        door_run(lent(image_area, side, lent_->image), lent_->image, lent(input_area, side, 4 * lent_->inputs),
+                 lent_->inputs, store, lent_->cells, output, lent_->places, steps);
     memcpy(left->store, store, 8 * lent_->cells);
     memcpy(left->output, output, 4 * lent_->places);
 }

@@ -1,9 +1,8 @@
-/* Changes of an image that leave most of its form: the tables are taken apart, a row is changed, inserted or removed, and
- * the tables are put together again with their counts and the length mended. Where rows move, what names them moves
+/* Changes of an image that leave most of its form: the tables are taken apart, a row is changed, inserted or removed,
+ * and the tables are put together again with their counts and the length mended. Where rows move, what names them moves
  * along. Some changes keep each node named exactly once: an operator around a node, two names that change places, a new
  * statement with nodes of its own. So the questions after the ninth, and the run, are reached. */
 #include <stdbool.h>
-#include <stdlib.h>
 
 #include "builder.h"
 #include "form.h"
@@ -43,8 +42,8 @@ static void set_number(int table, unsigned row, int which, unsigned n) {
 /* The table whose rows the number names, or -1. */
 static int named_table(int table, unsigned kind, int which) {
     static const int8_t nodes[9][3] = {
-        {TYPES, -1, -1}, {VARIABLES, -1, -1}, {NODES, -1, -1},     {NODES, NODES, -1}, {VARIABLES, TYPES, -1},
-        {NODES, NODES, -1}, {NODES, -1, -1},  {VARIABLES, TYPES, -1}, {NODES, -1, -1},
+        {TYPES, -1, -1},    {VARIABLES, -1, -1}, {NODES, -1, -1},        {NODES, NODES, -1}, {VARIABLES, TYPES, -1},
+        {NODES, NODES, -1}, {NODES, -1, -1},     {VARIABLES, TYPES, -1}, {NODES, -1, -1},
     };
     static const int8_t statements[8][3] = {
         {NODES, NODES, -1}, {PROCEDURES, NODES, -1}, {NODES, STATEMENTS, -1}, {-1, STATEMENTS, -1},
@@ -77,22 +76,15 @@ static void move_names(int table, unsigned from, int by) {
             }
 }
 
-static void make_row(uint8_t *row, unsigned kind, unsigned x, unsigned y, unsigned z) {
-    const uint8_t bytes[8] = {(uint8_t)kind,     0,          (uint8_t)(x >> 8), (uint8_t)x,
-                              (uint8_t)(y >> 8), (uint8_t)y, (uint8_t)(z >> 8), (uint8_t)z};
-    memcpy(row, bytes, 8);
-}
-
-static bool insert_row(int table, unsigned at, const uint8_t *row) {
+static void insert_row(int table, unsigned at, const uint8_t *row) {
     uint8_t copy[8];
     if (b.count[table] >= room[table])
-        return false;
+        return;
     memcpy(copy, row, 8);
     memmove(row_at(table, at + 1), row_at(table, at), 8 * (b.count[table] - at));
     memcpy(row_at(table, at), copy, 8);
     b.count[table]++;
     move_names(table, at, 1);
-    return true;
 }
 
 static void remove_row(int table, unsigned at) {
@@ -121,7 +113,7 @@ static unsigned field_type(unsigned type, unsigned field) {
 static bool is_type(unsigned type, unsigned kind) { return type < b.count[TYPES] && kind_at(TYPES, type) == kind; }
 
 static unsigned type_of(unsigned node) {
-    const unsigned x = number(NODES, node, A), y = number(NODES, node, B), operator = number(NODES, node, C);
+    const unsigned x = number(NODES, node, A), y = number(NODES, node, B), op = number(NODES, node, C);
     unsigned type;
     switch (kind_at(NODES, node)) {
     case CONSTANT:
@@ -133,7 +125,7 @@ static unsigned type_of(unsigned node) {
     case TEST:
         return BOOLEAN;
     case DYADIC:
-        return operator == 16 ? SET : operator >= 7 ? BOOLEAN : x < node ? type_of(x) : NONE;
+        return op == 16 ? SET : op >= 7 ? BOOLEAN : x < node ? type_of(x) : NONE;
     case FIELD:
         type = x < node ? type_of(x) : NONE;
         return is_type(type, RECORD) ? field_type(type, y) : NONE;
@@ -178,7 +170,10 @@ static unsigned operator_for(unsigned type, bool dyadic) {
     static const uint8_t of_sets[] = {1, 2, 3, 6};
     if (!dyadic)
         return type == BOOLEAN ? 2 : 1;
-    return below(16) == 0 ? 1 + below(16) : type == BOOLEAN ? 13 + below(2) : type == SET ? of_sets[below(4)] : 1 + below(5);
+    return below(16) == 0    ? 1 + below(16)
+           : type == BOOLEAN ? 13 + below(2)
+           : type == SET     ? of_sets[below(4)]
+                             : 1 + below(5);
 }
 
 static unsigned new_expression(unsigned type, unsigned p, unsigned depth);
@@ -300,9 +295,9 @@ static void wrap(unsigned node) {
     memcpy(row, row_at(NODES, node), 8);
     insert_row(NODES, node, row); /* what named the node names the row behind this copy of it: the operator */
     if (dyadic)
-        make_row(row, DYADIC, first ? node - 1 : node, first ? node : node - 1, operator_for(type, true));
+        set_row(row, DYADIC, first ? node - 1 : node, first ? node : node - 1, operator_for(type, true));
     else
-        make_row(row, MONADIC, node, 0, operator_for(type, false));
+        set_row(row, MONADIC, node, 0, operator_for(type, false));
     memcpy(row_at(NODES, node + 1), row, 8);
 }
 
@@ -368,14 +363,13 @@ static void new_statement(unsigned behind) {
         b.count[NODES] = before;
         return;
     }
-    make_row(row, kind, x, y, 0);
+    set_row(row, kind, x, y, 0);
     insert_row(STATEMENTS, behind + 1, row);
 }
 
 /* A type, a global, or a procedure that returns at once: behind the others, where they break no rule. */
 static void new_declaration(void) {
-    const unsigned type = below(b.count[TYPES]), next = b.count[FIELDS];
-    unsigned count = below(3), globals = first_own(0);
+    const unsigned type = below(b.count[TYPES]), next = b.count[FIELDS], count = below(3);
     uint8_t row[8];
     switch (below(4)) {
     case 0:
@@ -390,8 +384,8 @@ static void new_declaration(void) {
         add(&b, TYPES, RECORD, is_type(type, RECORD) ? type + 1 : 0, next, count);
         break;
     case 2:
-        make_row(row, GLOBAL, type, 0, 0);
-        insert_row(VARIABLES, globals, row);
+        set_row(row, GLOBAL, type, 0, 0);
+        insert_row(VARIABLES, first_own(0), row);
         break;
     default:
         if (b.count[PROCEDURES] >= room[PROCEDURES] || b.count[VARIABLES] + 3 > room[VARIABLES] ||

@@ -1,7 +1,7 @@
 /* Memory and steps at their limits: limits [--long]
  *
- * Every image here is made by hand, and what is expected of it is by document 01. All that is lent lies directly before a
- * page that cannot be touched, and then directly behind one. --long runs two loops with all 4,294,967,295 steps. */
+ * Every image here is made by hand, and what is expected of it is by document 01. All that is lent lies directly before
+ * a page that cannot be touched, and then directly behind one. --long runs two loops with all 4,294,967,295 steps. */
 #define _GNU_SOURCE
 #include <time.h>
 
@@ -83,7 +83,8 @@ static struct builder b;
 static uint8_t image[LONGEST];
 
 static struct lending made(size_t cells, size_t places, uint32_t steps) {
-    return (struct lending){.image = image, .length = bytes(&b, image), .cells = cells, .places = places, .steps = steps};
+    return (struct lending){
+        .image = image, .length = bytes(&b, image), .cells = cells, .places = places, .steps = steps};
 }
 
 static unsigned integer(unsigned number) { return add(&b, NODES, CONSTANT, INTEGER, 0, number); }
@@ -196,7 +197,8 @@ static void nothing_lent(void) {
     expect_result("a read without input", run(l), trapped(8, 0, 1));
     l.input = seven;
     l.inputs = 1;
-    expect_result("a read of the only input", run(l), (struct door_result){.outcome = 1, .row = 1, .steps = 2, .read = 1});
+    expect_result("a read of the only input", run(l),
+                  (struct door_result){.outcome = 1, .row = 1, .steps = 2, .read = 1});
     expect(store_of(4)[0] == 7, "what was read");
     one(WRITE, variable);
     expect_result("a write without places", run(made(4, 0, 9)), trapped(9, 0, 1));
@@ -229,8 +231,8 @@ static void loops(uint32_t steps, bool print) {
     expect(store_of(4)[0] == (int64_t)(steps == ALL_STEPS ? INT32_MAX : steps / 2 + steps % 2), "what was counted");
     end = seconds();
     if (print)
-        printf("load: %10" PRIu32 " steps: GOTO itself %.2f s, %.1f ns a step; counting %.2f s, %.1f ns a step\n", steps,
-               between - began, 1e9 * (between - began) / steps, end - between, 1e9 * (end - between) / steps);
+        printf("load: %10" PRIu32 " steps: GOTO itself %.2f s, %.1f ns a step; counting %.2f s, %.1f ns a step\n",
+               steps, between - began, 1e9 * (between - began) / steps, end - between, 1e9 * (end - between) / steps);
 }
 
 static void finishing_early(void) {
