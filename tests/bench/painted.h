@@ -4,11 +4,11 @@
 
 #include <pthread.h>
 #include <stdint.h>
-#include <stdio.h>
-#include <stdlib.h>
 #include <string.h>
 #include <sys/mman.h>
 #include <unistd.h>
+
+#include "file.h"
 
 /* What is measured: it makes its call, and gives the address of its own frame. */
 typedef uintptr_t painted_call(void *given);
@@ -21,26 +21,6 @@ struct painted {
     void *given;
     size_t used;
 };
-
-static void fail(const char *what) {
-    perror(what);
-    exit(2);
-}
-
-/* The bytes of a file; the caller frees them. */
-static uint8_t *read_file(const char *name, size_t *length) {
-    FILE *file = fopen(name, "rb");
-    uint8_t *bytes;
-    long size;
-    if (!file || fseek(file, 0, SEEK_END) != 0 || (size = ftell(file)) < 0 || fseek(file, 0, SEEK_SET) != 0)
-        fail(name);
-    *length = (size_t)size;
-    bytes = malloc(*length + 1);
-    if (!bytes || fread(bytes, 1, *length, file) != *length)
-        fail(name);
-    fclose(file);
-    return bytes;
-}
 
 /* Memory for a stack of so many bytes, in whole pages; a page that cannot be touched lies below it. */
 static struct painted painted_stack(size_t size) {

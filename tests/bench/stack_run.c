@@ -6,54 +6,17 @@
  * that cannot be touched lies below it. What is reported is the distance from the caller's frame down to the lowest
  * byte that has changed. It fails where that exceeds DOOR_RUN_STACK of door.h. */
 #define _GNU_SOURCE
+#include "builder.h"
 #include "door.h"
 #include "painted.h"
 
 #define CELLS 65536
 #define PLACES 16
 #define STEPS 1000
-#define LONGEST 29713
 
 static int64_t store[CELLS];
 static int32_t output[PLACES];
 static const int32_t input[1];
-
-/* ---- an image in the making: rows are appended table by table, and bytes() puts the tables together */
-
-enum { TYPES, FIELDS, VARIABLES, PROCEDURES, NODES, STATEMENTS, TABLES };
-enum { MOST_NODES = 2048 };
-
-struct builder {
-    uint8_t rows[TABLES][8 * MOST_NODES];
-    unsigned count[TABLES];
-};
-
-static unsigned add(struct builder *b, int table, unsigned kind, unsigned x, unsigned y, unsigned z) {
-    const unsigned row = b->count[table]++;
-    const uint8_t bytes[8] = {(uint8_t)kind,     0,           (uint8_t)(x >> 8), (uint8_t)x,
-                              (uint8_t)(y >> 8), (uint8_t)y, (uint8_t)(z >> 8), (uint8_t)z};
-    memcpy(b->rows[table] + 8 * row, bytes, 8);
-    return row;
-}
-
-static size_t bytes(const struct builder *b, uint8_t *image) {
-    size_t at = 5;
-    for (int t = 0; t < TABLES; t++) {
-        image[at] = (uint8_t)(b->count[t] >> 8);
-        image[at + 1] = (uint8_t)b->count[t];
-        memcpy(image + at + 2, b->rows[t], 8 * b->count[t]);
-        at += 2 + 8 * b->count[t];
-    }
-    image[0] = 1;
-    for (int i = 0; i < 4; i++)
-        image[1 + i] = (uint8_t)(at >> (24 - 8 * i));
-    return at;
-}
-
-/* Kinds of nodes and statements; operators 1 are + and -. */
-enum { CONSTANT, VARIABLE, FIELD, ELEMENT, GUARD, DYADIC, MONADIC, TEST, ARGUMENT };
-enum { ASSIGN, CALL, UNLESS, GO, RETURN, READ, WRITE, HALT };
-enum { GLOBAL, LOCAL, VALUE, VAR };
 
 static unsigned constant(struct builder *b, unsigned number) { return add(b, NODES, CONSTANT, 1, 0, number); }
 
@@ -134,10 +97,7 @@ static const struct {
 
 static size_t build(void (*make)(struct builder *b), uint8_t *image) {
     static struct builder b;
-    memset(&b, 0, sizeof b);
-    for (unsigned scalar = 0; scalar < 3; scalar++)
-        add(&b, TYPES, scalar, 0, 0, 0);
-    add(&b, PROCEDURES, 0, 0, 0, 0);
+    begin(&b);
     make(&b);
     return bytes(&b, image);
 }

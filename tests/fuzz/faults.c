@@ -1,0 +1,66 @@
+/* Deliberate faults, to see that the harness finds them: FAULT is the number of one. The linker's --wrap puts these
+ * calls between harness and engine. The comment of each is what the fuzzer then says; tests/fuzz/run compares. */
+#include "door.h"
+
+uint32_t __real_door_check(const uint8_t *image, size_t length);
+uint32_t __wrap_door_check(const uint8_t *image, size_t length);
+struct door_result __real_door_run(const uint8_t *image, size_t image_length, const int32_t *input, size_t input_length,
+                                   int64_t *store, size_t store_length, int32_t *output, size_t output_length,
+                                   uint32_t steps);
+struct door_result __wrap_door_run(const uint8_t *image, size_t image_length, const int32_t *input, size_t input_length,
+                                   int64_t *store, size_t store_length, int32_t *output, size_t output_length,
+                                   uint32_t steps);
+
+uint32_t __wrap_door_check(const uint8_t *image, size_t length) {
+    const uint32_t answer = __real_door_check(image, length);
+    return FAULT == 1 && door_refusal(answer) == 10 ? 0 : answer; /* 1: check == r.refusal * 65536 + r.fault */
+}
+
+struct door_result __wrap_door_run(const uint8_t *image, size_t image_length, const int32_t *input, size_t input_length,
+                                   int64_t *store, size_t store_length, int32_t *output, size_t output_length,
+                                   uint32_t steps) {
+    static int32_t *used_by;
+    const int64_t held = store_length > 0 ? store[store_length - 1] : 0;
+    struct door_result result;
+    used_by = output;
+    result =
+        __real_door_run(image, image_length, input, input_length, store, store_length, output, output_length, steps);
+    switch (FAULT) {
+    case 2: /* 2: SEGV on unknown address */
+        if (*(const volatile uint8_t *)(image - 1) == 255)
+            result.row = 0;
+        break;
+    case 3: /* 3: SEGV on unknown address */
+        *(volatile int64_t *)(store + store_length) = 0;
+        break;
+    case 4: /* 4: SEGV on unknown address */
+        if (input_length > 0)
+            *(volatile int32_t *)(input) = 0;
+        break;
+    case 5: /* 5: left->output[i] == PLACE */
+        if (result.refusal == 13 && output_length > 0)
+            output[output_length - 1] = 0;
+        break;
+    case 6: /* 6: memcmp(&before, &less->result, sizeof before) == 0 */
+        result.steps += result.refusal == 0 && result.outcome == 0;
+        break;
+    case 7: /* 7: memcmp(&a->result, &b->result, sizeof a->result) == 0 */
+        if (result.refusal == 0 && held < 0)
+            result.row = 0;
+        break;
+    case 8: /* 8: memcmp(&before, &less->result, sizeof before) == 0 */
+        if (result.trap == 3)
+            result.row++;
+        break;
+    case 9: /* 9: same || (a->store[i] == a->fill && b->store[i] == b->fill) */
+        if (result.outcome == 1 && store_length > 100)
+            store[100] = held ^ 1;
+        break;
+    case 10: /* a state that is shared by the calls: only another thread can see it */
+        result.row += used_by != output;
+        break;
+    default:
+        break;
+    }
+    return result;
+}

@@ -1,0 +1,271 @@
+/* Memory and steps at their limits: limits [--long]
+ *
+ * Every image here is made by hand, and what is expected of it is by document 01. All that is lent lies directly before
+ * a page that cannot be touched, and then directly behind one. --long runs two loops with all 4,294,967,295 steps. */
+#define _GNU_SOURCE
+#include <time.h>
+
+#include "builder.h"
+#include "door.h"
+#include "expect.h"
+#include "guarded.h"
+#include "smallest.h"
+
+#define ALL_STEPS UINT32_MAX
+#define MOST_CELLS 1100000
+#define FILL (-7)
+
+static struct guarded image_area, input_area, store_area, output_area;
+static enum side side;
+
+/* ---- what is lent */
+
+struct lending {
+    const uint8_t *image;
+    size_t length;
+    const int32_t *input;
+    size_t inputs, cells, places;
+    uint32_t steps;
+};
+
+static int64_t *store_of(size_t cells) { return lent(store_area, side, 8 * cells); }
+
+/* Whether the cells from one on, and all before the store and behind it that can be seen, are as before the run. */
+static bool untouched(size_t from, size_t cells) {
+    const int64_t *store = store_of(cells), *all = (const int64_t *)store_area.begin;
+    for (size_t i = 0; i < store_area.size / 8; i++)
+        if ((all + i < store || all + i >= store + from) && all[i] != FILL)
+            return false;
+    return true;
+}
+
+/* A run on memory at the guard pages; image and input cannot be written. The check is asked too. */
+static struct door_result run(struct lending l) {
+    uint8_t *image = lent(image_area, side, l.length);
+    int32_t *input = lent(input_area, side, 4 * l.inputs), *output = lent(output_area, side, 4 * l.places);
+    struct door_result result;
+    uint32_t answer;
+    protect(image_area, PROT_READ | PROT_WRITE);
+    protect(input_area, PROT_READ | PROT_WRITE);
+    if (l.length > 0)
+        memcpy(image, l.image, l.length);
+    if (l.inputs > 0)
+        memcpy(input, l.input, 4 * l.inputs);
+    protect(image_area, PROT_READ);
+    protect(input_area, PROT_READ);
+    for (size_t i = 0; i < store_area.size / 8; i++)
+        ((int64_t *)store_area.begin)[i] = FILL;
+    for (size_t i = 0; i < l.places; i++)
+        output[i] = FILL;
+    answer = door_check(image, l.length);
+    result = door_run(image, l.length, input, l.inputs, store_of(l.cells), l.cells, output, l.places, l.steps);
+    expect(door_refusal(answer) == (result.refusal < 12 ? result.refusal : 0), "check and run say the same refusal");
+    expect(door_row(answer) == result.fault, "check and run say the same row");
+    for (size_t i = result.written; i < l.places; i++)
+        expect(output[i] == FILL, "a place that was not written keeps its number");
+    return result;
+}
+
+static struct door_result refusal(uint32_t number) { return (struct door_result){.refusal = number}; }
+static struct door_result used_up(uint32_t steps, uint32_t row) {
+    return (struct door_result){.row = row, .steps = steps};
+}
+static struct door_result trapped(uint32_t trap, uint32_t row, uint32_t steps) {
+    return (struct door_result){.outcome = 2, .trap = trap, .row = row, .steps = steps};
+}
+static struct door_result finished(uint32_t row, uint32_t steps) {
+    return (struct door_result){.outcome = 1, .row = row, .steps = steps};
+}
+
+/* ---- images */
+
+static struct builder b;
+static uint8_t image[LONGEST];
+
+static struct lending made(size_t cells, size_t places, uint32_t steps) {
+    return (struct lending){
+        .image = image, .length = bytes(&b, image), .cells = cells, .places = places, .steps = steps};
+}
+
+static unsigned integer(unsigned number) { return add(&b, NODES, CONSTANT, INTEGER, 0, number); }
+
+/* A global x of type INTEGER. */
+static unsigned with_x(void) {
+    begin(&b);
+    return add(&b, VARIABLES, GLOBAL, INTEGER, 0, 0);
+}
+
+/* GOTO itself */
+static void endless(void) {
+    begin(&b);
+    add(&b, STATEMENTS, GO, 0, 0, 0);
+}
+
+/* x := x + 1; GOTO the first */
+static void counting(void) {
+    const unsigned x = with_x(), target = add(&b, NODES, VARIABLE, x, 0, 0), read = add(&b, NODES, VARIABLE, x, 0, 0);
+    add(&b, STATEMENTS, ASSIGN, target, add(&b, NODES, DYADIC, read, integer(1), 1), 0);
+    add(&b, STATEMENTS, GO, 0, 0, 0);
+}
+
+/* RETURN, with so many cells of globals and a local array of two: G + F0 is five more. */
+static void returning(unsigned globals) {
+    begin(&b);
+    while (globals > 0) {
+        const unsigned length = globals < 4096 ? globals : 4096;
+        if (b.count[TYPES] == 3 || length < 4096)
+            add(&b, TYPES, ARRAY, INTEGER, length, 0);
+        add(&b, VARIABLES, GLOBAL, b.count[TYPES] - 1, 0, 0);
+        globals -= length;
+    }
+    add(&b, TYPES, ARRAY, INTEGER, 2, 0);
+    add(&b, VARIABLES, LOCAL, b.count[TYPES] - 1, 0, 0);
+    b.rows[PROCEDURES][7] = 1; /* a local */
+    add(&b, STATEMENTS, RETURN, 0, 0, 0);
+}
+
+/* One statement on x and its operand, then RETURN */
+static void one(unsigned kind, unsigned (*operand)(unsigned)) {
+    const unsigned x = with_x();
+    add(&b, STATEMENTS, kind, operand(x), 0, 0);
+    add(&b, STATEMENTS, RETURN, 0, 0, 0);
+}
+
+static unsigned variable(unsigned x) { return add(&b, NODES, VARIABLE, x, 0, 0); }
+
+/* ---- tests */
+
+static void image_lengths(void) {
+    uint8_t five[5] = {1, 0, 0, 0, 5};
+    const uint8_t zero[1] = {0};
+    for (size_t length = 0; length <= 5; length++)
+        expect_result("a beginning of an image", run((struct lending){.image = smallest, .length = length, .cells = 3}),
+                      refusal(length == 0 ? 1 : 2));
+    expect_result("version 0", run((struct lending){.image = zero, .length = 1}), refusal(1));
+    expect_result("five bytes that say so", run((struct lending){.image = five, .length = 5}), refusal(3));
+    five[4] = 4;
+    expect_result("four of four bytes", run((struct lending){.image = five, .length = 4}), refusal(2));
+    for (size_t length = 6; length < sizeof smallest; length++)
+        expect_result("a beginning of an image", run((struct lending){.image = smallest, .length = length, .cells = 3}),
+                      refusal(2));
+    expect_result("the smallest image",
+                  run((struct lending){.image = smallest, .length = sizeof smallest, .cells = 3, .steps = 9}),
+                  finished(0, 1));
+}
+
+/* A store of so many cells: refused, and untouched, or the globals and the frame zeroed and the rest untouched. */
+static void store_length(unsigned globals, size_t cells, uint32_t expected) {
+    const size_t needed = (size_t)globals + 5;
+    struct door_result result;
+    bool zeroed = true;
+    returning(globals);
+    result = run(made(cells, 4, 9));
+    expect_result("a store", result, expected ? refusal(expected) : finished(0, 1));
+    expect(untouched(expected ? 0 : needed, cells), "cells that are not the program's");
+    for (size_t i = 0; !expected && i < needed; i++)
+        zeroed = zeroed && store_of(cells)[i] == 0;
+    expect(zeroed, "cells of the globals and the frame");
+}
+
+static void store_lengths(void) {
+    store_length(0, 0, 13);
+    store_length(0, 4, 13);
+    store_length(0, 5, 0);
+    store_length(5, 0, 13);
+    store_length(5, 1, 13);
+    store_length(5, 9, 13);
+    store_length(5, 10, 0);
+    store_length(5, 65536, 0);
+    store_length(5, 65537, 12);
+    /* the largest G + F0 that fits, one more, and the most that an image can have: the check accepts all three */
+    store_length(65531, 65535, 13);
+    store_length(65531, 65536, 0);
+    store_length(65531, 65537, 12);
+    store_length(65532, 65536, 13);
+    store_length(65532, 65537, 12);
+    store_length(255 * 4096, 0, 13);
+    store_length(255 * 4096, 65536, 13);
+    store_length(255 * 4096, 65537, 12);
+    store_length(255 * 4096, 255 * 4096 + 5, 12);
+}
+
+static void nothing_lent(void) {
+    static const int32_t seven[1] = {7};
+    struct lending l;
+    one(READ, variable);
+    l = made(4, 0, 9);
+    expect_result("a read without input", run(l), trapped(8, 0, 1));
+    l.input = seven;
+    l.inputs = 1;
+    expect_result("a read of the only input", run(l),
+                  (struct door_result){.outcome = 1, .row = 1, .steps = 2, .read = 1});
+    expect(store_of(4)[0] == 7, "what was read");
+    one(WRITE, variable);
+    expect_result("a write without places", run(made(4, 0, 9)), trapped(9, 0, 1));
+    expect_result("a write to the only place", run(made(4, 1, 9)),
+                  (struct door_result){.outcome = 1, .row = 1, .steps = 2, .written = 1});
+    expect_result("no steps", run(made(4, 1, 0)), used_up(0, 0));
+    one(HALT, integer);
+    expect_result("HALT with all steps", run(made(4, 0, ALL_STEPS)),
+                  (struct door_result){.outcome = 2, .trap = 10, .steps = 1});
+}
+
+static double seconds(void) {
+    struct timespec now;
+    clock_gettime(CLOCK_PROCESS_CPUTIME_ID, &now);
+    return (double)now.tv_sec + 1e-9 * (double)now.tv_nsec;
+}
+
+/* An endless loop uses up its steps; the counting one has counted half of them. */
+static void loops(uint32_t steps, bool print) {
+    const double began = seconds();
+    double between, end;
+    endless();
+    expect_result("GOTO itself", run(made(3, 0, steps)), used_up(steps, 0));
+    between = seconds();
+    counting();
+    if (steps == ALL_STEPS) /* the last step is addition 2,147,483,648, the first that overflows */
+        expect_result("counting", run(made(4, 0, steps)), trapped(4, 0, steps));
+    else
+        expect_result("counting", run(made(4, 0, steps)), used_up(steps, steps % 2));
+    expect(store_of(4)[0] == (int64_t)(steps == ALL_STEPS ? INT32_MAX : steps / 2 + steps % 2), "what was counted");
+    end = seconds();
+    if (print)
+        printf("load: %10" PRIu32 " steps: GOTO itself %.2f s, %.1f ns a step; counting %.2f s, %.1f ns a step\n",
+               steps, between - began, 1e9 * (between - began) / steps, end - between, 1e9 * (end - between) / steps);
+}
+
+static void finishing_early(void) {
+    expect_result("RETURN with all steps",
+                  run((struct lending){.image = smallest, .length = sizeof smallest, .cells = 3, .steps = ALL_STEPS}),
+                  finished(0, 1));
+    returning(5);
+    expect_result("RETURN with all steps and cells", run(made(65536, 0, ALL_STEPS)), finished(0, 1));
+}
+
+int main(int count, char **words) {
+    const bool whole = count == 2 && strcmp(words[1], "--long") == 0;
+    static const uint32_t few[] = {0, 1, 2, 3, 1000000};
+    if (count > 1 && !whole) {
+        fprintf(stderr, "usage: limits [--long]\n");
+        return 2;
+    }
+    image_area = guarded(LONGEST);
+    input_area = guarded(64);
+    store_area = guarded(8 * (size_t)MOST_CELLS);
+    output_area = guarded(64);
+    for (side = 0; side < SIDES; side++) {
+        image_lengths();
+        store_lengths();
+        nothing_lent();
+        finishing_early();
+        for (size_t i = 0; i < sizeof few / sizeof few[0]; i++)
+            loops(few[i], false);
+    }
+    side = BEFORE_GUARD;
+    loops(10000000, true);
+    loops(100000000, true);
+    if (whole)
+        loops(ALL_STEPS, true);
+    return expected_all("limits");
+}
