@@ -38,7 +38,8 @@ def quotes(text):
                 block[2].append(line)
         elif line.strip():
             named = re.search(r'`([^`]+)`:$', line)
-            block = (number, named[1], []) if named and not ANY.search(named[1]) else None
+            quoted = named and FILE.fullmatch(named[1]) and not ANY.search(named[1])
+            block = (number, named[1], []) if quoted else None
             found += [block] if block else []
     return [block for block in found if block[2]]
 
