@@ -87,3 +87,26 @@ impl Case {
         }
     }
 }
+
+#[cfg(test)]
+mod tests {
+    use super::Case;
+    use crate::image::Tables;
+
+    #[test]
+    fn a_case_can_be_made_again() {
+        let images: Vec<Vec<u8>> = (0..50).map(|number| Case::new(1, number).image).collect();
+        for (number, image) in images.iter().enumerate() {
+            assert_eq!(&Case::new(1, number as u64).image, image);
+            assert_ne!(&Case::new(2, number as u64).image, image);
+        }
+    }
+
+    #[test]
+    fn bytes_and_back() {
+        for number in 0..50 {
+            let image = Case::new(1, 2 * number).image;
+            assert_eq!(Tables::read(&image).bytes(), image);
+        }
+    }
+}

@@ -7,7 +7,9 @@ pub const PROCEDURES: usize = 3;
 pub const NODES: usize = 4;
 pub const STATEMENTS: usize = 5;
 
-const NAMES: [&str; 6] = ["type", "field", "var", "procedure", "node", "statement"];
+/// How a line of a listing begins for a row of each table, and what follows the row's number.
+const NAMES: [(&str, &str); 6] =
+    [("type", " ="), ("field", " ="), ("var", " ="), ("procedure", " ="), ("node", " ="), ("statement", ":")];
 
 /// The most rows that each table can have.
 pub const MOST: [usize; 6] = [64, 256, 256, 64, 2048, 1024];
@@ -67,9 +69,9 @@ impl Tables {
 
     /// A line of a listing for each row.
     pub fn print(&self) {
-        for (name, rows) in NAMES.iter().zip(&self.0) {
+        for ((name, sign), rows) in NAMES.iter().zip(&self.0) {
             for (at, row) in rows.iter().enumerate() {
-                println!("{name} {at} = row {} {} {} {} {}", row.kind, row.zero, row.a, row.b, row.c);
+                println!("{name} {at}{sign} row {} {} {} {} {}", row.kind, row.zero, row.a, row.b, row.c);
             }
         }
     }

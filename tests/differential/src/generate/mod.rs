@@ -99,11 +99,12 @@ impl Scale {
     fn pick(random: &mut Random) -> Scale {
         let size = random.weighted(&[(70, 0), (26, 1), (4, 2)]);
         let wide = random.chance(15);
+        let few = random.below(10) * random.below(10).min(1);
         let full = |random: &mut Random| size == 2 && random.chance(500);
         let risk = random.weighted(&[(35, 1), (40, 8), (25, 40)]);
         Scale {
             types: 3 + [random.below(10), random.below(18), 61 - random.below(8) * random.below(2)][size],
-            globals: if wide { random.below(40) } else { [random.below(7), random.below(14), random.below(40)][size] },
+            globals: [few, random.below(20), random.below(40)][if wide { 2 } else { size }],
             procedures: 1 + [random.below(5), random.below(10), 63 - random.below(40) * random.below(2)][size],
             items: [8, 10, 12][size],
             risk,

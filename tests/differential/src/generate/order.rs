@@ -4,7 +4,7 @@ use crate::image::Row;
 use crate::random::Random;
 
 /// The children of a node.
-pub fn children(node: &Row) -> Vec<usize> {
+fn children(node: &Row) -> Vec<usize> {
     let (a, b) = (node.a as usize, node.b as usize);
     match node.kind {
         2 | 6 | 8 => vec![a],
@@ -14,7 +14,7 @@ pub fn children(node: &Row) -> Vec<usize> {
 }
 
 /// The nodes that a statement names; `parameters` has how many arguments each procedure takes.
-pub fn named(statement: &Row, parameters: &[usize]) -> Vec<usize> {
+fn named(statement: &Row, parameters: &[usize]) -> Vec<usize> {
     let (a, b) = (statement.a as usize, statement.b as usize);
     match statement.kind {
         0 => vec![a, b],

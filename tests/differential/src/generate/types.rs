@@ -45,7 +45,7 @@ impl Types {
             types.add(scalar, row(kind, 0, 0, 0));
         }
         while types.list.len() < scale.types {
-            types.extend(random, scale);
+            types.add_type(random, scale);
         }
         types
     }
@@ -61,7 +61,7 @@ impl Types {
         self.rows.push(row);
     }
 
-    fn extend(&mut self, random: &mut Random, scale: &Scale) {
+    fn add_type(&mut self, random: &mut Random, scale: &Scale) {
         if random.chance(360) {
             self.add_array(random, scale);
         } else {
