@@ -28,7 +28,7 @@ struct lending {
     uint32_t steps;
 };
 
-static int64_t *store_of(size_t cells) { return lent(store_area, side, 8 * cells); }
+static int64_t *store_of(size_t cells) { return beside(store_area, side, 8 * cells); }
 
 /* Whether the cells from one on, and all before the store and behind it that can be seen, are as before the run. */
 static bool untouched(size_t from, size_t cells) {
@@ -41,8 +41,8 @@ static bool untouched(size_t from, size_t cells) {
 
 /* A run on memory at the guard pages; image and input cannot be written. The check is asked too. */
 static struct door_result run(struct lending l) {
-    uint8_t *image = lent(image_area, side, l.length);
-    int32_t *input = lent(input_area, side, 4 * l.inputs), *output = lent(output_area, side, 4 * l.places);
+    uint8_t *image = beside(image_area, side, l.length);
+    int32_t *input = beside(input_area, side, 4 * l.inputs), *output = beside(output_area, side, 4 * l.places);
     struct door_result result;
     uint32_t answer;
     protect(image_area, PROT_READ | PROT_WRITE);
