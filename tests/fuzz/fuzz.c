@@ -44,30 +44,30 @@ struct left {
 static const int64_t fills[] = {0, -1, 1, 7, INT64_MIN, INT64_MAX, 4294967296, 0x0101010101010101};
 #define COUNT(array) (sizeof(array) / sizeof(array)[0])
 
-static void fill_lent(enum side side, const struct lent *lent_, const uint8_t *inputs, const uint8_t *image,
+static void fill_lent(enum side side, const struct lent *given, const uint8_t *inputs, const uint8_t *image,
                       int64_t fill) {
-    int64_t *store = lent(store_area, side, 8 * lent_->cells);
-    int32_t *output = lent(output_area, side, 4 * lent_->places);
+    int64_t *store = beside(store_area, side, 8 * given->cells);
+    int32_t *output = beside(output_area, side, 4 * given->places);
     protect(image_area, PROT_READ | PROT_WRITE);
     protect(input_area, PROT_READ | PROT_WRITE);
-    memcpy(lent(image_area, side, lent_->image), image, lent_->image);
-    memcpy(lent(input_area, side, 4 * lent_->inputs), inputs, 4 * lent_->inputs);
+    memcpy(beside(image_area, side, given->image), image, given->image);
+    memcpy(beside(input_area, side, 4 * given->inputs), inputs, 4 * given->inputs);
     protect(image_area, PROT_READ);
     protect(input_area, PROT_READ);
-    for (size_t i = 0; i < lent_->cells; i++)
+    for (size_t i = 0; i < given->cells; i++)
         store[i] = fill;
-    for (size_t i = 0; i < lent_->places; i++)
+    for (size_t i = 0; i < given->places; i++)
         output[i] = PLACE;
 }
 
-static void run(enum side side, const struct lent *lent_, uint32_t steps, struct left *left) {
-    int64_t *store = lent(store_area, side, 8 * lent_->cells);
-    int32_t *output = lent(output_area, side, 4 * lent_->places);
+static void run(enum side side, const struct lent *given, uint32_t steps, struct left *left) {
+    int64_t *store = beside(store_area, side, 8 * given->cells);
+    int32_t *output = beside(output_area, side, 4 * given->places);
     left->result =
-        door_run(lent(image_area, side, lent_->image), lent_->image, lent(input_area, side, 4 * lent_->inputs),
-                 lent_->inputs, store, lent_->cells, output, lent_->places, steps);
-    memcpy(left->store, store, 8 * lent_->cells);
-    memcpy(left->output, output, 4 * lent_->places);
+        door_run(beside(image_area, side, given->image), given->image, beside(input_area, side, 4 * given->inputs),
+                 given->inputs, store, given->cells, output, given->places, steps);
+    memcpy(left->store, store, 8 * given->cells);
+    memcpy(left->output, output, 4 * given->places);
 }
 
 /* The number of statements of an accepted image. */
@@ -82,45 +82,45 @@ static bool only_refusal(struct door_result r) {
     return r.outcome == 0 && r.trap == 0 && r.halt == 0 && r.row == 0 && r.steps == 0 && r.read == 0 && r.written == 0;
 }
 
-static void promised_of_refusal(uint32_t check, const struct lent *lent_, const struct left *left) {
+static void promised_of_refusal(uint32_t check, const struct lent *given, const struct left *left) {
     const struct door_result r = left->result;
     PROMISED(r.refusal <= 13);
     if (r.refusal >= 1 && r.refusal <= 11)
         PROMISED(check == r.refusal * 65536 + r.fault);
     else
         PROMISED(check == 0 && r.fault == 0);
-    PROMISED((check == 0 && lent_->cells > 65536) == (r.refusal == 12));
+    PROMISED((check == 0 && given->cells > 65536) == (r.refusal == 12));
     if (r.refusal == 0)
         return;
     PROMISED(only_refusal(r));
-    for (size_t i = 0; i < lent_->cells; i++)
+    for (size_t i = 0; i < given->cells; i++)
         PROMISED(left->store[i] == left->fill);
-    for (size_t i = 0; i < lent_->places; i++)
+    for (size_t i = 0; i < given->places; i++)
         PROMISED(left->output[i] == PLACE);
 }
 
-static void promised_of_run(const uint8_t *image, const struct lent *lent_, const struct left *left) {
+static void promised_of_run(const uint8_t *image, const struct lent *given, const struct left *left) {
     const struct door_result r = left->result;
     PROMISED(r.outcome <= 2);
     PROMISED((r.trap != 0) == (r.outcome == 2) && r.trap <= 10);
     PROMISED(r.halt == 0 || r.trap == 10);
     PROMISED(r.row < statements_of(image));
-    PROMISED(r.steps <= lent_->steps);
-    PROMISED(r.outcome == 0 ? r.steps == lent_->steps : r.steps >= 1);
-    PROMISED(r.read <= lent_->inputs && r.written <= lent_->places);
-    PROMISED(r.trap != 8 || r.read == lent_->inputs);
-    PROMISED(r.trap != 9 || r.written == lent_->places);
+    PROMISED(r.steps <= given->steps);
+    PROMISED(r.outcome == 0 ? r.steps == given->steps : r.steps >= 1);
+    PROMISED(r.read <= given->inputs && r.written <= given->places);
+    PROMISED(r.trap != 8 || r.read == given->inputs);
+    PROMISED(r.trap != 9 || r.written == given->places);
     PROMISED(r.read + r.written <= r.steps);
-    for (size_t i = r.written; i < lent_->places; i++)
+    for (size_t i = r.written; i < given->places; i++)
         PROMISED(left->output[i] == PLACE);
 }
 
 /* Two runs that differ in place and in what the store held: the same but for the cells that neither wrote. A number
  * that was written is a value, a link, an address or a type. */
-static void promised_of_both(const struct lent *lent_, const struct left *a, const struct left *b) {
+static void promised_of_both(const struct lent *given, const struct left *a, const struct left *b) {
     PROMISED(memcmp(&a->result, &b->result, sizeof a->result) == 0);
-    PROMISED(memcmp(a->output, b->output, 4 * lent_->places) == 0);
-    for (size_t i = 0; i < lent_->cells; i++) {
+    PROMISED(memcmp(a->output, b->output, 4 * given->places) == 0);
+    for (size_t i = 0; i < given->cells; i++) {
         const bool same = a->store[i] == b->store[i];
         PROMISED(same || (a->store[i] == a->fill && b->store[i] == b->fill));
         PROMISED(!same || (a->store[i] >= INT32_MIN && a->store[i] <= UINT32_MAX));
@@ -130,13 +130,13 @@ static void promised_of_both(const struct lent *lent_, const struct left *a, con
 
 /* A step that finishes or traps is the last, and changes no row and no count but its own: with one step less the run
  * stands before it. */
-static void promised_before_last(const struct lent *lent_, const struct left *all, const struct left *less) {
+static void promised_before_last(const struct lent *given, const struct left *all, const struct left *less) {
     struct door_result before = all->result;
     before.outcome = before.trap = 0;
     before.halt = 0;
     before.steps--;
     PROMISED(memcmp(&before, &less->result, sizeof before) == 0);
-    PROMISED(memcmp(all->output, less->output, 4 * lent_->places) == 0);
+    PROMISED(memcmp(all->output, less->output, 4 * given->places) == 0);
 }
 
 static struct lent parse(const uint8_t *data, size_t head, size_t size) {
@@ -170,7 +170,7 @@ int LLVMFuzzerTestOneInput(const uint8_t *data, size_t size) {
     for (enum side side = 0; side < SIDES; side++) {
         left[side].fill = fills[(data[FILL] + side) % COUNT(fills)];
         fill_lent(side, &given, data + HEAD, data + head, left[side].fill);
-        check[side] = door_check(lent(image_area, side, given.image), given.image);
+        check[side] = door_check(beside(image_area, side, given.image), given.image);
         run(side, &given, given.steps, &left[side]);
         promised_of_refusal(check[side], &given, &left[side]);
         if (left[side].result.refusal == 0)

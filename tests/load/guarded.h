@@ -34,10 +34,10 @@ static inline struct guarded guarded(size_t most) {
     return area;
 }
 
-/* Where so many bytes begin that lie directly behind the first guard page, or directly before the last. */
+/* Where so many bytes begin that lie directly behind the first guard page, or directly before the last one. */
 enum side { BEHIND_GUARD, BEFORE_GUARD, SIDES };
 
-static inline void *lent(struct guarded area, enum side side, size_t bytes) {
+static inline void *beside(struct guarded area, enum side side, size_t bytes) {
     return side == BEHIND_GUARD ? area.begin : area.begin + area.size - bytes;
 }
 

@@ -28,7 +28,7 @@ struct lending {
     uint32_t steps;
 };
 
-static int64_t *store_of(size_t cells) { return lent(store_area, side, 8 * cells); }
+static int64_t *store_of(size_t cells) { return beside(store_area, side, 8 * cells); }
 
 /* Whether the cells from one on, and all before the store and behind it that can be seen, are as before the run. */
 static bool untouched(size_t from, size_t cells) {
@@ -41,8 +41,8 @@ static bool untouched(size_t from, size_t cells) {
 
 /* A run on memory at the guard pages; image and input cannot be written. The check is asked too. */
 static struct door_result run(struct lending l) {
-    uint8_t *image = lent(image_area, side, l.length);
-    int32_t *input = lent(input_area, side, 4 * l.inputs), *output = lent(output_area, side, 4 * l.places);
+    uint8_t *image = beside(image_area, side, l.length);
+    int32_t *input = beside(input_area, side, 4 * l.inputs), *output = beside(output_area, side, 4 * l.places);
     struct door_result result;
     uint32_t answer;
     protect(image_area, PROT_READ | PROT_WRITE);
@@ -124,7 +124,7 @@ static void returning(unsigned globals) {
     add(&b, STATEMENTS, RETURN, 0, 0, 0);
 }
 
-/* One statement on x and its operand, then RETURN */
+/* One statement whose operand may name x, then RETURN */
 static void one(unsigned kind, unsigned (*operand)(unsigned)) {
     const unsigned x = with_x();
     add(&b, STATEMENTS, kind, operand(x), 0, 0);
@@ -132,6 +132,10 @@ static void one(unsigned kind, unsigned (*operand)(unsigned)) {
 }
 
 static unsigned variable(unsigned x) { return add(&b, NODES, VARIABLE, x, 0, 0); }
+static unsigned nine(unsigned x) {
+    (void)x;
+    return integer(9);
+}
 
 /* ---- tests */
 
@@ -205,9 +209,9 @@ static void nothing_lent(void) {
     expect_result("a write to the only place", run(made(4, 1, 9)),
                   (struct door_result){.outcome = 1, .row = 1, .steps = 2, .written = 1});
     expect_result("no steps", run(made(4, 1, 0)), used_up(0, 0));
-    one(HALT, integer);
+    one(HALT, nine);
     expect_result("HALT with all steps", run(made(4, 0, ALL_STEPS)),
-                  (struct door_result){.outcome = 2, .trap = 10, .steps = 1});
+                  (struct door_result){.outcome = 2, .trap = 10, .halt = 9, .steps = 1});
 }
 
 static double seconds(void) {

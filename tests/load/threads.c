@@ -83,8 +83,8 @@ static void at_once(const struct program *programs, unsigned count, unsigned thr
 static void begin(struct program *p, const char *name) {
     uint8_t *data = read_file(name, &p->length);
     const struct guarded image = guarded(p->length), input = guarded(4 * INPUTS);
-    p->image = lent(image, BEFORE_GUARD, p->length);
-    p->input = lent(input, BEFORE_GUARD, 4 * INPUTS);
+    p->image = beside(image, BEFORE_GUARD, p->length);
+    p->input = beside(input, BEFORE_GUARD, 4 * INPUTS);
     memcpy(p->image, data, p->length);
     for (int i = 0; i < INPUTS; i++)
         p->input[i] = 1000 + i;
