@@ -10,6 +10,7 @@ README.md:
 - of `crate::name` the crate has such a function, struct or enum;
 - of `crate/Module`: `name`, `name` the module, in specs/ or proofs/, defines or proves each name;
 - of `crate/must-fail/name` there is such an edit;
+- of a decision's number, as D17, docs/DECISIONS.md has the entry;
 - no line has more than 120 characters, but for rows of tables.
 Each mistake is a line; the exit status is 1 where there is one."""
 import pathlib
@@ -22,6 +23,7 @@ FILE = re.compile(r'(?:crates|docs|examples|include|rust|tests|tools|vectors|\.c
 ANY = re.compile('[A-Z]{2,}(?=[/.]|$)|NNNNN')
 ITEM = r'(?:pub )?(?:extern "C" )?(?:fn|struct|enum) '
 DEFINES = r'(?:unfoldable |abbrev )?(?:pub )?(?:record |data )?'
+DECISIONS = set(re.findall(r'^\*\*(D[0-9]+)\.', (TOP / 'docs/DECISIONS.md').read_text(encoding='utf-8'), re.MULTILINE))
 MODULE = re.compile(r'`([a-z_]+)/([A-Z]\w*)`(?::((?:(?:,| and)?\s+`[^`\s/]+`)+))?')
 
 
@@ -83,6 +85,8 @@ def mistakes(text):
             yield f'there is no {token}'
         if edit and not (CRATES / edit[1] / 'must-fail' / f'{edit[2]}.edit').is_file():
             yield f'there is no edit {token}'
+    for number in sorted(set(re.findall(r'\bD[1-9][0-9]*\b', prose)) - DECISIONS):
+        yield f'there is no decision {number}'
     for crate, module, names in MODULE.findall(prose):
         if not modules(crate, module):
             yield f'there is no module {crate}/{module}'
@@ -107,6 +111,7 @@ BROKEN = [
     '`sets/Sets`: `memberOf` and `remember`',
     '`sets/Members`: `member-union`, `member`',
     '`sets/must-fail/none`',
+    'D17 and D999',
 ]
 
 
