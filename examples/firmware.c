@@ -1,5 +1,5 @@
-/* A door reader's main loop: it keeps an image in force, takes a new one only where the check accepts it, and asks the
- * program about each fob. Build it from the top of the repository:
+/* A door reader's main loop: it keeps an image in force, takes a new one only where the check accepts it and the store
+ * suits it, and asks the program about each fob. Build it from the top of the repository:
  *
  *     gcc -std=c11 -O2 -Wall -Wextra -Wpedantic -Werror -I include -o target/firmware examples/firmware.c \
  *         target/staticlib/libdoor.a
@@ -131,16 +131,26 @@ static void show_refusal(uint32_t refusal, uint32_t row) {
 /* Where the next image is to be put, IMAGE_BYTES at most. */
 static uint8_t *receive_buffer(void) { return images[1U - in_force]; }
 
+/* Whether the store suits an image that the check accepts: 0, 12 or 13. A run of no steps asks it, and runs nothing. */
+static uint32_t store_refusal(const uint8_t *image, size_t length) {
+    static const int32_t no_input[1] = {0};
+    return door_run(image, length, no_input, 0, store, lent_cells, output, READER_OUTPUTS, 0).refusal;
+}
+
 /* An image of so many bytes has come. Where it is refused, the old one stays in force. */
 static void image_received(size_t length) {
     const uint32_t answer = door_check(receive_buffer(), length);
-    if (answer == DOOR_ACCEPTED) {
+    uint32_t refusal = door_refusal(answer);
+    if (refusal == DOOR_ACCEPTED) {
+        refusal = store_refusal(receive_buffer(), length);
+    }
+    if (refusal == DOOR_ACCEPTED) {
         in_force = 1U - in_force;
         in_force_length = length;
         show("in force\n");
     } else {
         show("refused: ");
-        show_refusal(door_refusal(answer), door_row(answer));
+        show_refusal(refusal, door_row(answer));
         show(in_force_length > 0U ? "; the old image stays\n" : "; there is no image yet\n");
     }
 }

@@ -96,8 +96,9 @@ struct door_result {
 /* Checks an image, and runs it from the fresh state, with at most `steps` steps. A run cannot be continued: the next
  * call begins anew.
  *
- * A refusal, 1 to 13, leaves store and output as they were, and every other number 0: so `refusal` is asked first, and
- * `outcome` only where it is DOOR_ACCEPTED. Where door_check accepted the same bytes, 1 to 11 do not come.
+ * A refusal, 1 to 13, leaves store and output as they were, and every number but `refusal` and `fault` 0: so `refusal`
+ * is asked first, and `outcome` only where it is DOOR_ACCEPTED. Where door_check accepted the same bytes, 1 to 11 do not
+ * come; with 0 steps a run asks for 12 and 13, and runs nothing.
  *
  * Without a refusal, whatever the outcome, `store` has afterwards the number of every cell, also of those above the
  * last frame, and `output` has what was written in its first `written` places and keeps the others. The step that traps

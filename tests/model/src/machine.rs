@@ -210,7 +210,8 @@ impl<'a> Machine<'a> {
         Ok(Step::GoesOn)
     }
 
-    /// "RETURN restores row, base and top (the ended frame's base); in procedure 0 it finishes."
+    /// "RETURN restores row, base and top (the ended frame's base); in procedure 0 it finishes." It has no use for the
+    /// first link, the caller's procedure.
     fn return_(&mut self) -> Answer<Step> {
         if self.program.procedure_at(self.state.row) == 0 {
             return Ok(Step::Finished);

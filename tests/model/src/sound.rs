@@ -77,7 +77,8 @@ impl<'a> Watch<'a> {
     }
 
     /// "the row lies in the body of the top frame's procedure, whose frame ends at top ..; links lead frame by frame,
-    /// each beginning where the older ends, to procedure 0's at G, whose links are 0". The frames, the top one first.
+    /// each beginning where the older ends, to procedure 0's at G, whose links are 0". The frames, the top one first; its
+    /// procedure is the one whose body has the row.
     fn frames(&self, state: &State) -> Result<Vec<Frame>, String> {
         ask(state.row < self.program.statements.len(), || format!("there is no statement {}", state.row))?;
         let mut frames = Vec::new();
