@@ -1,30 +1,40 @@
 //! Runs a door program on inputs, and prints how it ended and what it wrote:
 //!     cargo run --offline -p door --example run vectors/input/members-1.img 1234 19800
 //! It lends 8,192 cells, 64 output places and 100,000 steps. Exits 1 where the image is refused or the run does not
-//! finish.
-use std::error::Error;
+//! finish, 2 where the image cannot be read or an input is no number.
+use door::Outcome;
 use std::process::ExitCode;
 
 fn main() -> ExitCode {
-    match by_words(std::env::args().skip(1)) {
-        Ok(door::Outcome::Finished) => ExitCode::SUCCESS,
-        Ok(_) => ExitCode::from(1),
-        Err(error) => {
-            println!("{error}");
-            ExitCode::from(1)
+    match image_and_input(std::env::args().skip(1)) {
+        Ok((image, input)) => run(&image, &input),
+        Err(message) => {
+            eprintln!("{message}");
+            ExitCode::from(2)
         }
     }
 }
 
-fn by_words(mut words: impl Iterator<Item = String>) -> Result<door::Outcome, Box<dyn Error>> {
-    let image = std::fs::read(words.next().ok_or("usage: run IMAGE [INPUT...]")?)?;
-    let input = words.map(|word| word.parse()).collect::<Result<Vec<i32>, _>>()?;
+fn image_and_input(mut words: impl Iterator<Item = String>) -> Result<(Vec<u8>, Vec<i32>), String> {
+    let name = words.next().ok_or("usage: run IMAGE [INPUT...]")?;
+    let image = std::fs::read(&name).map_err(|error| format!("{name}: {error}"))?;
+    let number = |word: String| word.parse().map_err(|error| format!("{word}: {error}"));
+    let input = words.map(number).collect::<Result<_, _>>()?;
+    Ok((image, input))
+}
+
+fn run(image: &[u8], input: &[i32]) -> ExitCode {
     let mut store = vec![0; 8192];
     let mut output = [0; 64];
-    let report = door::run(&image, &input, &mut store, &mut output, 100_000)?;
-    println!("{}, statement {}, {} steps, {} inputs read", report.outcome, report.row, report.steps, report.read);
-    for number in &output[..report.written] {
-        println!("{number}");
+    match door::run(image, input, &mut store, &mut output, 100_000) {
+        Ok(report) => {
+            println!("{report}");
+            output[..report.written].iter().for_each(|number| println!("{number}"));
+            ExitCode::from(u8::from(report.outcome != Outcome::Finished))
+        }
+        Err(refusal) => {
+            println!("{refusal}");
+            ExitCode::from(1)
+        }
     }
-    Ok(report.outcome)
 }

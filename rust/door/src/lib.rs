@@ -19,19 +19,23 @@
 //! # Ok::<(), Refusal>(())
 //! ```
 //!
+//! The examples name files from `rust/door` on.
+//!
 //! # The library
 //!
-//! `build.rs` links `libdoor.a`: the file that the environment variable `DOOR_LIBRARY` names (from the top of the
-//! repository on), or else `target/staticlib/libdoor.a`, which `rt staticlib door` builds. It is for x86-64 and has no
-//! heap and no state. It needs no other library.
+//! `build.rs` links `libdoor.a`: the file that the environment variable `DOOR_LIBRARY` names (a relative name counts
+//! from the top of the repository), or else `target/staticlib/libdoor.a`, which `rt staticlib door` builds. It is for
+//! x86-64 with the System V calling convention; this crate builds for Linux alone. It has no heap and no state. Of other
+//! libraries it needs `memset` alone, which every Rust program has.
 //!
 //! # Stack
 //!
 //! [`run`] needs up to [`RUN_STACK`] bytes of stack, for the deepest expression that an image may have; [`check`] needs
 //! [`CHECK_STACK`]. A main thread has that, and so has a thread of `std::thread` with its default of 2 MiB. Give a
-//! smaller thread at least `RUN_STACK` and 16 KiB for itself ([`std::thread::Builder::stack_size`]). Where the stack
-//! runs out the process ends, as for every Rust function that calls itself too deep. The two numbers are measured, not
-//! proved.
+//! smaller thread ([`std::thread::Builder::stack_size`]) `RUN_STACK`, or `CHECK_STACK` where it only checks; 16 KiB for
+//! the thread itself; and what your own frames hold. A local array of [`STORE_MAX`] cells is 512 KiB more, so let a
+//! large store be a `Vec`. Where the stack runs out the process ends, as for every Rust function that calls itself too
+//! deep. The two numbers are measured, not proved.
 //!
 //! # Threads
 //!
@@ -48,10 +52,10 @@ pub const IMAGE_MAX: usize = 29_713;
 /// The largest store that [`run`] takes, in cells.
 pub const STORE_MAX: usize = 65_536;
 
-/// The stack that [`check`] needs, in bytes.
+/// The stack that [`check`] needs, in bytes. A thread needs more, see [Stack](crate#stack).
 pub const CHECK_STACK: usize = 20_992;
 
-/// The stack that [`run`] needs at most, in bytes. See [Stack](crate#stack).
+/// The stack that [`run`] needs at most, in bytes. A thread needs more, see [Stack](crate#stack).
 ///
 /// ```
 /// let image = std::fs::read("../../vectors/input/members-1.img").expect("an image");
@@ -67,18 +71,48 @@ pub const RUN_STACK: usize = 606_208;
 ///
 /// ```
 /// let refusal = door::check(b"\x02").unwrap_err();
-/// assert_eq!((refusal.number, refusal.row), (1, 0));
-/// assert_eq!(refusal.to_string(), "refusal 1, row 0: there is no first byte, or it is not 1");
+/// assert_eq!((refusal.number, refusal.row), (door::Refusal::VERSION, 0));
+/// assert_eq!(refusal.to_string(), "refusal 1: there is no first byte, or it is not 1");
 /// ```
+///
+/// Print it with `{}`: what `main` returns is printed with `{:?}`, without the reason.
 #[derive(Clone, Copy, Debug, PartialEq, Eq, Hash)]
 pub struct Refusal {
-    /// The question: 1 to 11 from [`check`], 1 to 13 from [`run`].
+    /// The question: 1 to 11 from [`check`], 1 to 13 from [`run`]. The constants below name them.
     pub number: u32,
-    /// The lowest row at fault, from 0 on; 0 for questions 1 to 3, 12 and 13. `include/door.h` says of which table.
+    /// The lowest row at fault, from 0 on, of the [table](Refusal::table); 0 where there is none. It is the count of
+    /// types where no record claims a field, and the count of procedures where no procedure claims a variable.
     pub row: u32,
 }
 
 impl Refusal {
+    /// There is no first byte, or it is not 1.
+    pub const VERSION: u32 = 1;
+    /// Bytes 1 to 4 are missing, or are not the image's length.
+    pub const LENGTH: u32 = 2;
+    /// A count is out of range, or the tables do not fill the image.
+    pub const TABLES: u32 = 3;
+    /// A type row, or an own field of a record, breaks its rule; or no record claims a field.
+    pub const TYPE: u32 = 4;
+    /// A variable row breaks its form.
+    pub const VARIABLE: u32 = 5;
+    /// A procedure row breaks its rule; or no procedure claims a variable.
+    pub const PROCEDURE: u32 = 6;
+    /// A node is not well formed, or names a row that is not there.
+    pub const NODE: u32 = 7;
+    /// A statement is not well formed, or names a row that is not there.
+    pub const STATEMENT: u32 = 8;
+    /// A node is named never, or more than once.
+    pub const NAMES: u32 = 9;
+    /// A node has no type.
+    pub const NODE_TYPE: u32 = 10;
+    /// A statement breaks a type rule, or names another procedure's variable.
+    pub const RULE: u32 = 11;
+    /// The store has more than [`STORE_MAX`] cells.
+    pub const STORE_ABOVE: u32 = 12;
+    /// The store has fewer cells than the globals and the module body's frame.
+    pub const STORE_BELOW: u32 = 13;
+
     /// What is wrong, in a few words.
     ///
     /// ```
@@ -87,27 +121,50 @@ impl Refusal {
     /// ```
     pub fn reason(&self) -> &'static str {
         match self.number {
-            1 => "there is no first byte, or it is not 1",
-            2 => "bytes 1 to 4 are missing, or are not the image's length",
-            3 => "a count is out of range, or the tables do not fill the image",
-            4 => "a type row, or an own field of a record, breaks its rule",
-            5 => "a variable row breaks its form",
-            6 => "a procedure row breaks its rule",
-            7 => "a node is not well formed, or names a row that is not there",
-            8 => "a statement is not well formed, or names a row that is not there",
-            9 => "a node is named never, or more than once",
-            10 => "a node has no type",
-            11 => "a statement breaks a type rule, or names another procedure's variable",
-            12 => "the store has more than 65,536 cells",
-            13 => "the store has fewer cells than the globals and the module body's frame",
+            Refusal::VERSION => "there is no first byte, or it is not 1",
+            Refusal::LENGTH => "bytes 1 to 4 are missing, or are not the image's length",
+            Refusal::TABLES => "a count is out of range, or the tables do not fill the image",
+            Refusal::TYPE => "a type row, or an own field of a record, breaks its rule",
+            Refusal::VARIABLE => "a variable row breaks its form",
+            Refusal::PROCEDURE => "a procedure row breaks its rule",
+            Refusal::NODE => "a node is not well formed, or names a row that is not there",
+            Refusal::STATEMENT => "a statement is not well formed, or names a row that is not there",
+            Refusal::NAMES => "a node is named never, or more than once",
+            Refusal::NODE_TYPE => "a node has no type",
+            Refusal::RULE => "a statement breaks a type rule, or names another procedure's variable",
+            Refusal::STORE_ABOVE => "the store has more than 65,536 cells",
+            Refusal::STORE_BELOW => "the store has fewer cells than the globals and the module body's frame",
             _ => "no question has this number",
+        }
+    }
+
+    /// The table of the row at fault, where the question is about rows: "type", "variable", "procedure", "node" or
+    /// "statement".
+    ///
+    /// ```
+    /// let refusal = door::Refusal { number: 9, row: 23 };
+    /// assert_eq!(refusal.table(), Some("node"));
+    /// assert_eq!(refusal.to_string(), "refusal 9, node row 23: a node is named never, or more than once");
+    /// ```
+    pub fn table(&self) -> Option<&'static str> {
+        match self.number {
+            Refusal::TYPE => Some("type"),
+            Refusal::VARIABLE => Some("variable"),
+            Refusal::PROCEDURE => Some("procedure"),
+            Refusal::NODE | Refusal::NAMES | Refusal::NODE_TYPE => Some("node"),
+            Refusal::STATEMENT | Refusal::RULE => Some("statement"),
+            _ => None,
         }
     }
 }
 
 impl fmt::Display for Refusal {
     fn fmt(&self, f: &mut fmt::Formatter<'_>) -> fmt::Result {
-        write!(f, "refusal {}, row {}: {}", self.number, self.row, self.reason())
+        write!(f, "refusal {}", self.number)?;
+        if let Some(table) = self.table() {
+            write!(f, ", {table} row {}", self.row)?;
+        }
+        write!(f, ": {}", self.reason())
     }
 }
 
@@ -198,6 +255,8 @@ impl fmt::Display for Trap {
     }
 }
 
+impl std::error::Error for Trap {}
+
 /// How a run that was not refused ended.
 ///
 /// ```
@@ -233,7 +292,9 @@ impl fmt::Display for Outcome {
 ///
 /// let image = std::fs::read("../../vectors/special/smallest.img").expect("an image");
 /// let report = door::run(&image, &[], &mut [0; 3], &mut [], 100);
-/// assert_eq!(report, Ok(Report { outcome: Outcome::Finished, row: 0, steps: 1, read: 0, written: 0 }));
+/// let expected = Report { outcome: Outcome::Finished, row: 0, steps: 1, read: 0, written: 0 };
+/// assert_eq!(report, Ok(expected));
+/// assert_eq!(expected.to_string(), "finished, statement 0, 1 step, 0 inputs read, 0 outputs written");
 /// ```
 #[derive(Clone, Copy, Debug, PartialEq, Eq, Hash)]
 pub struct Report {
@@ -247,6 +308,15 @@ pub struct Report {
     pub read: usize,
     /// Outputs written: so many of the first output places. The others keep what they held.
     pub written: usize,
+}
+
+impl fmt::Display for Report {
+    fn fmt(&self, f: &mut fmt::Formatter<'_>) -> fmt::Result {
+        let plural = |count: usize| if count == 1 { "" } else { "s" };
+        let Report { outcome, row, steps, read, written } = *self;
+        write!(f, "{outcome}, statement {row}, {steps} step{}", plural(steps as usize))?;
+        write!(f, ", {read} input{} read, {written} output{} written", plural(read), plural(written))
+    }
 }
 
 /// The nine numbers of a run, in document 01's order: `struct door_result` of `include/door.h`.
@@ -347,9 +417,14 @@ pub fn check(image: &[u8]) -> Result<(), Refusal> {
 
 /// Checks an image, and runs it from the fresh state with at most `steps` steps.
 ///
-/// `store` holds the program's variables and the frames of its calls; what it held before does not matter. Afterwards
-/// it has the number of every cell, and `output` what was written in its first places. A refusal leaves both as they
-/// were.
+/// `store` holds the program's variables and the frames of its calls. What it held before does not matter to the run.
+/// Afterwards the globals come first: an INTEGER is its number, FALSE 0, TRUE 1, and a SET has bit i for element i (0 to
+/// 4,294,967,295). The frames follow (document 01); cells that the run did not reach keep what they held. The store holds
+/// what the program saw: clear it where that must not stay. `output` has what was written in its first places. A
+/// refusal leaves both as they were.
+///
+/// With [`STORE_MAX`] cells every program begins that can begin at all; `doordump FILE.img` says how many a program
+/// needs to begin. `steps` is the only limit on time. `docs/FIRMWARE.md` says more about cells, steps and time.
 ///
 /// ```
 /// use door::{Outcome, Trap};
@@ -364,7 +439,7 @@ pub fn check(image: &[u8]) -> Result<(), Refusal> {
 ///
 /// // the store is too small
 /// let refusal = door::run(&image, &[1234, 19800], &mut store[..8], &mut output, 10_000).unwrap_err();
-/// assert_eq!(refusal.number, 13);
+/// assert_eq!(refusal.number, door::Refusal::STORE_BELOW);
 /// # Ok::<(), door::Refusal>(())
 /// ```
 pub fn run(image: &[u8], input: &[i32], store: &mut [i64], output: &mut [i32], steps: u32) -> Result<Report, Refusal> {

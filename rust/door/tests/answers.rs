@@ -19,24 +19,38 @@ fn run(name: &str) -> Result<Report, Refusal> {
 #[test]
 fn each_refusal_of_the_check() {
     let refused = [
-        ("doorrun/00013.img", 1, 0, "there is no first byte, or it is not 1"),
-        ("doorrun/00015.img", 2, 0, "bytes 1 to 4 are missing, or are not the image's length"),
-        ("doorrun/00045.img", 3, 0, "a count is out of range, or the tables do not fill the image"),
-        ("doorrun/00031.img", 4, 7, "a type row, or an own field of a record, breaks its rule"),
-        ("doorrun/00011.img", 5, 16, "a variable row breaks its form"),
-        ("doorrun/00030.img", 6, 1, "a procedure row breaks its rule"),
-        ("doorrun/00006.img", 7, 22, "a node is not well formed, or names a row that is not there"),
-        ("doorrun/00001.img", 8, 43, "a statement is not well formed, or names a row that is not there"),
-        ("doorrun/00017.img", 9, 23, "a node is named never, or more than once"),
-        ("doorrun/00010.img", 10, 268, "a node has no type"),
-        ("doorrun/00018.img", 11, 4, "a statement breaks a type rule, or names another procedure's variable"),
+        ("doorrun/00013.img", 1, 0, None, "there is no first byte, or it is not 1"),
+        ("doorrun/00015.img", 2, 0, None, "bytes 1 to 4 are missing, or are not the image's length"),
+        ("doorrun/00045.img", 3, 0, None, "a count is out of range, or the tables do not fill the image"),
+        ("doorrun/00031.img", 4, 7, Some("type"), "a type row, or an own field of a record, breaks its rule"),
+        ("doorrun/00011.img", 5, 16, Some("variable"), "a variable row breaks its form"),
+        ("doorrun/00030.img", 6, 1, Some("procedure"), "a procedure row breaks its rule"),
+        ("doorrun/00006.img", 7, 22, Some("node"), "a node is not well formed, or names a row that is not there"),
+        (
+            "doorrun/00001.img",
+            8,
+            43,
+            Some("statement"),
+            "a statement is not well formed, or names a row that is not there",
+        ),
+        ("doorrun/00017.img", 9, 23, Some("node"), "a node is named never, or more than once"),
+        ("doorrun/00010.img", 10, 268, Some("node"), "a node has no type"),
+        (
+            "doorrun/00018.img",
+            11,
+            4,
+            Some("statement"),
+            "a statement breaks a type rule, or names another procedure's variable",
+        ),
     ];
-    for (name, number, row, reason) in refused {
+    for (name, number, row, table, reason) in refused {
         let refusal = Refusal { number, row };
         assert_eq!(door::check(&image(name)), Err(refusal), "{name}");
         assert_eq!(door::check_number(&image(name)), number * 65_536 + row, "{name}");
         assert_eq!(run(name), Err(refusal), "{name}");
-        assert_eq!(refusal.to_string(), format!("refusal {number}, row {row}: {reason}"));
+        let at = table.map_or(String::new(), |table| format!(", {table} row {row}"));
+        assert_eq!(refusal.table(), table);
+        assert_eq!(refusal.to_string(), format!("refusal {number}{at}: {reason}"));
     }
     assert_eq!(door::check(&image("special/smallest.img")), Ok(()));
 }
@@ -45,10 +59,10 @@ fn each_refusal_of_the_check() {
 fn each_refusal_of_the_run_alone() {
     let smallest = image("special/smallest.img");
     let lend = |cells| door::run(&smallest, &[], &mut vec![0; cells], &mut [], STEPS);
-    assert_eq!(lend(2).map_err(|refusal| (refusal.number, refusal.row)), Err((13, 0)));
+    assert_eq!(lend(2), Err(Refusal { number: 13, row: 0 }));
     assert!(lend(3).is_ok());
     assert!(lend(door::STORE_MAX).is_ok());
-    assert_eq!(lend(door::STORE_MAX + 1).map_err(|refusal| (refusal.number, refusal.row)), Err((12, 0)));
+    assert_eq!(lend(door::STORE_MAX + 1), Err(Refusal { number: 12, row: 0 }));
 }
 
 #[test]
@@ -99,6 +113,14 @@ fn inputs_outputs_and_cells() {
 }
 
 #[test]
+fn a_report_in_words() {
+    let report = Report { outcome: Outcome::Finished, row: 12, steps: 43, read: 2, written: 1 };
+    assert_eq!(report.to_string(), "finished, statement 12, 43 steps, 2 inputs read, 1 output written");
+    let report = Report { outcome: Outcome::Trapped(Trap::Halt(3)), row: 0, steps: 1, read: 1, written: 0 };
+    assert_eq!(report.to_string(), "trapped: HALT(3), statement 0, 1 step, 1 input read, 0 outputs written");
+}
+
+#[test]
 #[should_panic(expected = "no run has outcome 3 with trap 0")]
 fn numbers_with_no_outcome() {
     let _ = Numbers { outcome: 3, ..Numbers::default() }.report();
@@ -110,11 +132,34 @@ fn numbers_with_no_trap() {
     let _ = Numbers { outcome: 2, trap: 11, ..Numbers::default() }.report();
 }
 
+const HEADER: &str = include_str!("../../../include/door.h");
+
+#[test]
+fn the_refusals_are_those_of_the_header() {
+    let named = [
+        ("VERSION", Refusal::VERSION),
+        ("LENGTH", Refusal::LENGTH),
+        ("TABLES", Refusal::TABLES),
+        ("TYPE", Refusal::TYPE),
+        ("VARIABLE", Refusal::VARIABLE),
+        ("PROCEDURE", Refusal::PROCEDURE),
+        ("NODE", Refusal::NODE),
+        ("STATEMENT", Refusal::STATEMENT),
+        ("NAMES", Refusal::NAMES),
+        ("NODE_TYPE", Refusal::NODE_TYPE),
+        ("RULE", Refusal::RULE),
+        ("STORE_ABOVE", Refusal::STORE_ABOVE),
+        ("STORE_BELOW", Refusal::STORE_BELOW),
+    ];
+    let refused = HEADER.lines().filter_map(|line| line.strip_prefix("#define DOOR_REFUSED_"));
+    let refused: Vec<String> = refused.map(|line| line.split("u ").next().unwrap_or(line).to_string()).collect();
+    assert_eq!(refused, named.map(|(name, number)| format!("{name} {number}")));
+}
+
 #[test]
 fn the_limits_are_those_of_the_header() {
-    let header = include_str!("../../../include/door.h");
     let limit = |name: &str| {
-        let line = header.lines().find_map(|line| line.strip_prefix(&format!("#define {name} ")));
+        let line = HEADER.lines().find_map(|line| line.strip_prefix(&format!("#define {name} ")));
         line.and_then(|number| number.parse().ok())
     };
     assert_eq!(limit("DOOR_IMAGE_MAX"), Some(door::IMAGE_MAX));

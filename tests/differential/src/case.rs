@@ -6,7 +6,11 @@ use crate::generate;
 use crate::mutate;
 use crate::random::Random;
 use crate::surroundings::{other_steps, Surroundings};
+use listing::image_of;
 use model::Program;
+
+/// Is told of each run that both sides agree on.
+pub type Watcher<'a> = &'a mut dyn FnMut(&Surroundings, &door::Numbers);
 
 pub struct Case {
     pub image: Vec<u8>,
@@ -21,7 +25,7 @@ impl Case {
         let mut random = Random::new(seed, number);
         let tables = generate::image(&mut random);
         let good = number.is_multiple_of(2);
-        let image = if good { tables.bytes() } else { mutate::image(&mut random, tables) };
+        let image = if good { image_of(&tables) } else { mutate::image(&mut random, tables) };
         Case { image, good, random }
     }
 
@@ -32,29 +36,29 @@ impl Case {
     }
 
     /// Compares check and runs; `Err` is the first difference, in words.
-    pub fn compare(mut self, counts: &mut Counts) -> Result<(), String> {
+    pub fn compare(mut self, counts: &mut Counts, watcher: Watcher) -> Result<(), String> {
         counts.images += 1;
         match compare::check(&self.image)? {
-            Ok(program) => self.compare_runs(&program, counts),
+            Ok(program) => self.compare_runs(&program, counts, watcher),
             Err(fault) => {
                 counts.rule(fault.rule);
                 if self.good {
                     return Err(format!("a generated image is refused by {} at {}", fault.refusal, fault.row));
                 }
                 let needed = self.random.below(60);
-                self.compare_run(needed, counts)
+                self.compare_run(needed, counts, watcher)
             }
         }
     }
 
-    fn compare_runs(&mut self, program: &Program, counts: &mut Counts) -> Result<(), String> {
+    fn compare_runs(&mut self, program: &Program, counts: &mut Counts, watcher: Watcher) -> Result<(), String> {
         if !self.good {
             counts.accepted_mutants += 1;
         }
         counts.survey(program);
         let needed = program.globals() + program.frame(0);
         for _ in 0..self.random.between(2, 4) {
-            self.compare_run(needed, counts)?;
+            self.compare_run(needed, counts, watcher)?;
         }
         if self.random.chance(60) {
             self.follow(program, needed, counts);
@@ -63,13 +67,16 @@ impl Case {
     }
 
     /// A run, and where it came to its end, sometimes again with more steps, one less, or as many.
-    fn compare_run(&mut self, needed: usize, counts: &mut Counts) -> Result<(), String> {
+    fn compare_run(&mut self, needed: usize, counts: &mut Counts, watcher: Watcher) -> Result<(), String> {
         let mut lent = Surroundings::pick(&mut self.random, needed);
         let numbers = compare::run(&self.image, &lent)?;
         counts.run(&numbers);
+        watcher(&lent, &numbers);
         if numbers.outcome > 0 && self.random.chance(400) {
             lent.steps = other_steps(&mut self.random, numbers.steps);
-            counts.run(&compare::run(&self.image, &lent)?);
+            let numbers = compare::run(&self.image, &lent)?;
+            counts.run(&numbers);
+            watcher(&lent, &numbers);
         }
         Ok(())
     }
@@ -91,7 +98,6 @@ impl Case {
 #[cfg(test)]
 mod tests {
     use super::Case;
-    use crate::image::Tables;
 
     #[test]
     fn a_case_can_be_made_again() {
@@ -99,14 +105,6 @@ mod tests {
         for (number, image) in images.iter().enumerate() {
             assert_eq!(&Case::new(1, number as u64).image, image);
             assert_ne!(&Case::new(2, number as u64).image, image);
-        }
-    }
-
-    #[test]
-    fn bytes_and_back() {
-        for number in 0..50 {
-            let image = Case::new(1, 2 * number).image;
-            assert_eq!(Tables::read(&image).bytes(), image);
         }
     }
 }

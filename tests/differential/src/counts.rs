@@ -1,5 +1,6 @@
 //! What the images and runs reached, and how often.
 
+use listing::SCALARS;
 use model::program::{Program, CALL};
 use model::rules;
 
@@ -34,7 +35,6 @@ const GROUPS: [(Group, &str); 12] = [
     (Group::Rule, "rules broken, of the model's list"),
 ];
 
-const KINDS: [&str; 3] = ["BOOLEAN", "INTEGER", "SET"];
 const NODES: [&str; 9] =
     ["constant", "variable", "field", "element", "guard", "dyadic", "monadic", "type test", "argument"];
 const STATEMENTS: [&str; 8] = ["assign", "call", "jump if FALSE", "jump", "RETURN", "read", "write", "HALT"];
@@ -83,7 +83,7 @@ fn names(group: Group) -> Vec<Option<String>> {
 /// Operator o, counted from 1, with operands of kind k is number 3 * (o - 1) + k.
 fn operators(list: &[(&str, &[usize])]) -> Vec<Option<String>> {
     let of = |(name, kinds): &(&str, &[usize])| {
-        [0, 1, 2].map(|kind| kinds.contains(&kind).then(|| format!("{name} {}", KINDS[kind])))
+        [0, 1, 2].map(|kind| kinds.contains(&kind).then(|| format!("{name} {}", SCALARS[kind])))
     };
     list.iter().flat_map(of).collect()
 }
@@ -189,17 +189,25 @@ impl Counts {
         names(group).into_iter().zip(counts).filter_map(|(name, count)| Some((name?, *count))).collect()
     }
 
-    pub fn print(&self) {
+    /// All counts, in words.
+    pub fn told(&self) -> String {
+        let mut lines = vec![];
         for (group, title) in GROUPS {
-            println!("{title}:");
+            lines.push(format!("{title}:"));
             let counted = self.group(group);
             if group == Group::Rule {
-                counted.iter().for_each(|(name, count)| println!("  {count:>9}  {name}"));
+                lines.extend(counted.iter().map(|(name, count)| format!("  {count:>9}  {name}")));
             } else {
                 let parts: Vec<String> = counted.iter().map(|(name, count)| format!("{name} {count}")).collect();
-                println!("  {}", parts.join(", "));
+                lines.push(format!("  {}", parts.join(", ")));
             }
         }
-        println!("mutants that are accepted: {}", self.accepted_mutants);
+        lines.push(format!("mutants that are accepted: {}", self.accepted_mutants));
+        lines.join("\n")
+    }
+
+    /// The sum of a comparison that found no difference.
+    pub fn sum(&self) -> String {
+        format!("{} images, {} runs, {} steps: 0 differences", self.images, self.runs, self.steps)
     }
 }

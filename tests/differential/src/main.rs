@@ -1,7 +1,7 @@
 //! The proved engine and the model on random images. Usage:
 //!
 //!     differential COUNT [SEED]           compare both on COUNT images
-//!     differential case SEED NUMBER       make one case again, and print it
+//!     differential case SEED NUMBER       make one image again, print its listing and what comes of it, and compare
 //!     differential replay FILE...         compare both on the images in the files
 //!     differential write DIR COUNT [SEED] write accepted images to files
 //!
@@ -17,20 +17,23 @@ mod mutate;
 mod random;
 mod surroundings;
 
-use case::Case;
+use case::{Case, Watcher};
 use counts::Counts;
+use listing::{listing_of, tables_of};
+use std::io::{self, Write};
 use std::panic::{catch_unwind, AssertUnwindSafe};
-use std::path::Path;
+use std::path::{Path, PathBuf};
 use std::process::ExitCode;
 use std::sync::atomic::{AtomicBool, AtomicU64, Ordering};
 use std::sync::Mutex;
+use surroundings::Surroundings;
 
 const SEED: u64 = 1;
 /// From so many images on all that can be reached must be.
 const ENOUGH: u64 = 20_000;
 /// Enough for the model, which follows the deepest expressions by calling itself.
 const STACK: usize = 64 << 20;
-/// Where the image of a difference is written.
+/// Where the image of a difference, or of a case, is written.
 const FOLDER: &str = "target/differential";
 
 fn main() -> ExitCode {
@@ -105,7 +108,7 @@ impl Work {
             if number >= self.count {
                 break;
             }
-            if let Err(what) = compare(|| Case::new(self.seed, number), &mut counts) {
+            if let Err(what) = compare(|| Case::new(self.seed, number), &mut counts, &mut |_, _| {}) {
                 self.stop.store(true, Ordering::Relaxed);
                 self.found.lock().expect("no worker panics").push(Found { number, what });
             }
@@ -115,8 +118,8 @@ impl Work {
 }
 
 /// A panic, the model's or the test's, is a difference too.
-fn compare(make: impl FnOnce() -> Case, counts: &mut Counts) -> Result<(), String> {
-    let compared = catch_unwind(AssertUnwindSafe(|| make().compare(counts)));
+fn compare(make: impl FnOnce() -> Case, counts: &mut Counts, watcher: Watcher) -> Result<(), String> {
+    let compared = catch_unwind(AssertUnwindSafe(|| make().compare(counts, watcher)));
     compared.unwrap_or_else(|_| Err("a panic, as told on standard error".into()))
 }
 
@@ -127,71 +130,92 @@ fn report(work: &Work, counts: &Counts) -> bool {
         tell(work.seed, first);
         return false;
     }
-    counts.print();
+    say(&counts.told());
     let missing = if work.count >= ENOUGH { counts.missing() } else { vec![] };
-    missing.iter().for_each(|missing| println!("never reached: {missing}"));
-    said(counts);
+    missing.iter().for_each(|missing| say(&format!("never reached: {missing}")));
+    say(&counts.sum());
     missing.is_empty()
 }
 
 fn tell(seed: u64, found: &Found) {
     let Found { number, what } = found;
-    println!("image {number} of seed {seed}: {what}");
-    let file = Path::new(FOLDER).join(format!("{seed}-{number}.img"));
-    let written = std::fs::create_dir_all(FOLDER).and_then(|()| std::fs::write(&file, Case::new(seed, *number).image));
-    match written {
-        Ok(()) => println!("the image is in {}", file.display()),
-        Err(error) => println!("{}: {error}", file.display()),
-    }
-    println!("again: differential case {seed} {number}");
-    println!("found after {} images", number + 1);
+    say(&format!("image {number} of seed {seed}: {what}"));
+    write_and_tell(seed, *number);
+    say(&format!("again: differential case {seed} {number}"));
+    say(&format!("found after {} images", number + 1));
 }
 
-/// The image's rows, as lines of a listing, and what comes of them.
+/// Writes a case's image to FOLDER, and says where it is.
+fn write_and_tell(seed: u64, number: u64) {
+    match write_image(FOLDER, seed, number) {
+        Ok(file) => say(&format!("the image is in {}", file.display())),
+        Err(error) => say(&format!("{FOLDER}: {error}")),
+    }
+}
+
+/// The image's listing, what the check answers, and each run.
 fn show_case(seed: u64, number: u64) -> bool {
     let case = Case::new(seed, number);
-    println!("{} bytes", case.image.len());
-    if !matches!(door::check_number(&case.image) >> 16, 1..=3) {
-        image::Tables::read(&case.image).print();
+    write_and_tell(seed, number);
+    match tables_of(&case.image) {
+        Ok(tables) => say(&listing_of(&tables)),
+        Err(question) => say(&format!("{} bytes without a listing, by {question}", case.image.len())),
+    }
+    match door::check(&case.image) {
+        Ok(()) => say("check: accepted"),
+        Err(refusal) => say(&format!("check: {refusal}")),
     }
     let mut counts = Counts::new();
-    let answer = compare(|| case, &mut counts);
+    let mut watcher = |lent: &Surroundings, numbers: &door::Numbers| {
+        say(&format!("run with {}: {}", lent.told(), nine_numbers(numbers)));
+    };
+    let answer = compare(|| case, &mut counts, &mut watcher);
     match &answer {
-        Ok(()) => said(&counts),
-        Err(what) => println!("{what}"),
+        Ok(()) => say(&counts.sum()),
+        Err(what) => say(what),
     }
     answer.is_ok()
 }
 
-fn said(counts: &Counts) {
-    println!("{} images, {} runs, {} steps: 0 differences", counts.images, counts.runs, counts.steps);
+/// As `doorrun` prints them.
+fn nine_numbers(numbers: &door::Numbers) -> String {
+    let door::Numbers { refusal, fault, outcome, trap, halt, row, steps, read, written } = numbers;
+    format!("{refusal} {fault} {outcome} {trap} {halt} {row} {steps} {read} {written}")
+}
+
+/// Prints a line. Who closes standard output has read enough: the exit status still says what was found.
+fn say(line: &str) {
+    let _ = writeln!(io::stdout(), "{line}");
 }
 
 fn replay(files: &[&str]) -> bool {
     let mut counts = Counts::new();
     for file in files {
         let answer = match std::fs::read(file) {
-            Ok(image) => compare(|| Case::of(image), &mut counts),
+            Ok(image) => compare(|| Case::of(image), &mut counts, &mut |_, _| {}),
             Err(error) => Err(error.to_string()),
         };
         if let Err(what) = answer {
-            println!("{file}: {what}");
+            say(&format!("{file}: {what}"));
             return false;
         }
     }
-    said(&counts);
+    say(&counts.sum());
     true
 }
 
 fn write(folder: &str, count: u64, seed: u64) -> bool {
-    let written = std::fs::create_dir_all(folder).and_then(|()| {
-        (0..count).try_for_each(|number| {
-            let image = Case::new(seed, 2 * number).image;
-            std::fs::write(Path::new(folder).join(format!("{seed}-{number:06}.img")), image)
-        })
-    });
+    let written = (0..count).try_for_each(|at| write_image(folder, seed, 2 * at).map(drop));
     if let Err(error) = &written {
         eprintln!("{folder}: {error}");
     }
     written.is_ok()
+}
+
+/// Writes a case's image to a file with seed and number in its name, and says which.
+fn write_image(folder: &str, seed: u64, number: u64) -> io::Result<PathBuf> {
+    let file = Path::new(folder).join(format!("{seed}-{number}.img"));
+    std::fs::create_dir_all(folder)?;
+    std::fs::write(&file, Case::new(seed, number).image)?;
+    Ok(file)
 }

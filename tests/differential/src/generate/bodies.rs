@@ -2,7 +2,8 @@
 
 use super::types::{BOOLEAN, INTEGER};
 use super::Maker;
-use crate::image::{row, Row, MOST, NODES, STATEMENTS};
+use crate::image::{most_rows, row};
+use listing::{Row, NODES, STATEMENTS};
 
 #[derive(Clone, Copy)]
 enum Item {
@@ -108,7 +109,7 @@ impl Maker<'_> {
         self.daring = self.random.chance(3 * self.scale.risk);
         let made = make(self);
         self.daring = false;
-        let fits = self.nodes.len() <= MOST[NODES];
+        let fits = self.nodes.len() <= most_rows(NODES);
         match made {
             Some(statement) if fits => self.body.push(statement),
             _ => self.nodes.truncate(before),
@@ -290,7 +291,7 @@ impl Maker<'_> {
             self.emit(|maker| Some(row(6, maker.chain(chain), 0, 0)));
         }
         if self.scale.all_statements {
-            while self.statements.len() + self.body.len() + 1 < MOST[STATEMENTS] {
+            while self.statements.len() + self.body.len() + 1 < most_rows(STATEMENTS) {
                 let next = self.body.len() + 1;
                 self.body.push(row(3, 0, next, 0));
             }

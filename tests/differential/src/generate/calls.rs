@@ -2,7 +2,8 @@
 
 use super::types::INTEGER;
 use super::{Maker, Procedure, VALUE};
-use crate::image::{row, Row};
+use crate::image::row;
+use listing::Row;
 
 impl Maker<'_> {
     /// A call of a later procedure, which ends by itself; seldom of any.

@@ -7,8 +7,9 @@ mod order;
 mod types;
 mod values;
 
-use crate::image::{row, Row, Tables, MOST, NODES, STATEMENTS};
+use crate::image::{most_rows, row};
 use crate::random::Random;
+use listing::{Row, Tables, NODES, STATEMENTS, VARIABLES};
 use types::{Types, BOOLEAN, INTEGER, SET};
 
 pub const GLOBAL: u8 = 0;
@@ -138,8 +139,8 @@ impl Maker<'_> {
             self.procedures.push(procedure);
         }
         self.globals = match self.scale.all_variables {
-            true => MOST[2] - owned.len(),
-            false => self.scale.globals.min(MOST[2] - owned.len()),
+            true => most_rows(VARIABLES) - owned.len(),
+            false => self.scale.globals.min(most_rows(VARIABLES) - owned.len()),
         };
         for number in 0..self.globals {
             let ty = if number < 40 { self.declared_type() } else { BOOLEAN };
@@ -154,7 +155,7 @@ impl Maker<'_> {
 
     /// Adds a procedure's variables behind those of the procedures before; rows count without the globals.
     fn declare_procedure(&mut self, number: usize, owned: &mut Vec<Variable>) -> Procedure {
-        let room = MOST[2] - owned.len();
+        let room = most_rows(VARIABLES) - owned.len();
         let parameters = if number == 0 { 0 } else { self.random.below(5) };
         let locals = self.random.weighted(&[(15, 0), (35, 1), (30, 2), (20, 4)]);
         let mut procedure = Procedure { first: owned.len(), parameters: 0, locals: 0, depth: None };
@@ -230,17 +231,16 @@ impl Maker<'_> {
         }
         let variables = self.variables.iter().map(|v| row(v.kind as usize, v.ty, 0, 0)).collect();
         let procedures = self.procedures.iter().zip(starts).map(|(p, start)| row(0, *start, p.parameters, p.locals));
-        let tables = [self.types.rows, self.types.fields, variables, procedures.collect(), self.nodes, self.statements];
-        Tables(tables)
+        [self.types.rows, self.types.fields, variables, procedures.collect(), self.nodes, self.statements]
     }
 
     fn node_room(&self) -> usize {
-        MOST[NODES].saturating_sub(self.nodes.len())
+        most_rows(NODES).saturating_sub(self.nodes.len())
     }
 
     /// How many statements more the body may have, those that end this body and the later ones left out.
     fn statement_room(&self) -> usize {
         let later = self.procedures.len() - self.procedure;
-        MOST[STATEMENTS].saturating_sub(self.statements.len() + self.body.len() + later + 16)
+        most_rows(STATEMENTS).saturating_sub(self.statements.len() + self.body.len() + later + 16)
     }
 }

@@ -1,7 +1,7 @@
 //! Another order of the nodes: any in which children stand below and a call's arguments together.
 
-use crate::image::Row;
 use crate::random::Random;
+use listing::Row;
 
 /// The children of a node.
 fn children(node: &Row) -> Vec<usize> {

@@ -1,8 +1,9 @@
 //! Random type rows and their fields, with sizes and relations.
 
 use super::Scale;
-use crate::image::{row, Row, MOST};
+use crate::image::{most_rows, row};
 use crate::random::Random;
+use listing::{Row, FIELDS};
 
 pub const BOOLEAN: usize = 0;
 pub const INTEGER: usize = 1;
@@ -116,7 +117,7 @@ impl Types {
 
     /// How many fields to give a record; the last one takes up what is left where the table shall be full.
     fn own_fields(&self, random: &mut Random, scale: &Scale) -> usize {
-        let left = MOST[1] - self.fields.len();
+        let left = most_rows(FIELDS) - self.fields.len();
         if scale.all_fields && self.list.len() + 1 == scale.types {
             return left;
         }

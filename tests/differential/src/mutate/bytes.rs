@@ -1,6 +1,6 @@
 //! Damage to an image's bytes, whatever they mean: questions 1 to 3, and any.
 
-use crate::image::mend_length;
+use crate::image::{mend_length, most_rows};
 use crate::random::Random;
 
 pub fn damage(random: &mut Random, bytes: &mut Vec<u8>) {
@@ -57,7 +57,7 @@ fn wrong_count(random: &mut Random, bytes: &mut [u8]) {
     let table = random.below(places.len());
     let at = places[table];
     let count = u16::from_be_bytes([bytes[at], bytes[at + 1]]);
-    let most = crate::image::MOST[table] as u16;
+    let most = most_rows(table) as u16;
     let wrong = *random.pick(&[0, 2, most, most + 1, count.wrapping_sub(1), count.wrapping_add(1), u16::MAX]);
     bytes[at..at + 2].copy_from_slice(&wrong.to_be_bytes());
 }

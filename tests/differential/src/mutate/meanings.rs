@@ -1,7 +1,8 @@
 //! Damage that keeps a row's form and changes what it means, for the questions that are asked last.
 
-use crate::image::{row, Row, Tables, FIELDS, NODES, PROCEDURES, STATEMENTS, TYPES, VARIABLES};
+use crate::image::row;
 use crate::random::Random;
+use listing::{Row, Tables, FIELDS, NODES, PROCEDURES, STATEMENTS, TYPES, VARIABLES};
 
 type Mistake = fn(&mut Random, &mut Tables);
 
@@ -63,7 +64,7 @@ fn any_below(random: &mut Random, count: usize) -> u16 {
 }
 
 fn other_constant_type(random: &mut Random, tables: &mut Tables) {
-    change(random, &mut tables.0[NODES], |node| node.kind == 0, retype);
+    change(random, &mut tables[NODES], |node| node.kind == 0, retype);
 }
 
 fn retype(random: &mut Random, node: &mut Row) {
@@ -78,16 +79,16 @@ fn names_variable(node: &Row) -> bool {
 }
 
 fn other_variable(random: &mut Random, tables: &mut Tables) {
-    let variables = tables.0[VARIABLES].len();
+    let variables = tables[VARIABLES].len();
     let guards = random.chance(500);
     let good = |node: &Row| names_variable(node) && (node.kind != 1 || !guards);
-    change(random, &mut tables.0[NODES], good, |random, node| node.a = any_below(random, variables));
+    change(random, &mut tables[NODES], good, |random, node| node.a = any_below(random, variables));
 }
 
 /// Mostly that of another procedure.
 fn variable_of_the_same_type(random: &mut Random, tables: &mut Tables) {
-    let variables = tables.0[VARIABLES].clone();
-    change(random, &mut tables.0[NODES], names_variable, |random, node| {
+    let variables = tables[VARIABLES].clone();
+    change(random, &mut tables[NODES], names_variable, |random, node| {
         let named = variables.get(node.a as usize).copied();
         let same = |other: &Row| named.is_some_and(|named| other.a == named.a && other.kind != 0);
         if let Some(at) = find(random, &variables, same) {
@@ -99,23 +100,23 @@ fn variable_of_the_same_type(random: &mut Random, tables: &mut Tables) {
 /// What is a designator no more: of a target, a VAR argument, or what a field or element is one of.
 fn leaf_to_constant(random: &mut Random, tables: &mut Tables) {
     let of_argument = random.chance(500);
-    let arguments: Vec<u16> = tables.0[NODES].iter().filter(|node| node.kind == 8).map(|node| node.a).collect();
-    let mut leaves: Vec<usize> = (0..tables.0[NODES].len()).filter(|at| tables.0[NODES][*at].kind == 1).collect();
+    let arguments: Vec<u16> = tables[NODES].iter().filter(|node| node.kind == 8).map(|node| node.a).collect();
+    let mut leaves: Vec<usize> = (0..tables[NODES].len()).filter(|at| tables[NODES][*at].kind == 1).collect();
     if of_argument {
         leaves.retain(|at| arguments.contains(&(*at as u16)));
     }
     if let Some(at) = random.any(&leaves) {
-        let named = tables.0[NODES][at].a as usize;
-        let ty = tables.0[VARIABLES].get(named).map_or(0, |variable| variable.a as usize);
-        tables.0[NODES][at] = row(0, ty.min(2), 0, random.below(2));
+        let named = tables[NODES][at].a as usize;
+        let ty = tables[VARIABLES].get(named).map_or(0, |variable| variable.a as usize);
+        tables[NODES][at] = row(0, ty.min(2), 0, random.below(2));
     }
 }
 
 fn constant_to_variable(random: &mut Random, tables: &mut Tables) {
-    let variables = tables.0[VARIABLES].clone();
+    let variables = tables[VARIABLES].clone();
     change(
         random,
-        &mut tables.0[NODES],
+        &mut tables[NODES],
         |node| node.kind == 0,
         |random, node| {
             if let Some(at) = find(random, &variables, |variable| variable.a == node.a) {
@@ -127,11 +128,11 @@ fn constant_to_variable(random: &mut Random, tables: &mut Tables) {
 
 /// The HALT of a body's end or another, with a node that is no INTEGER constant.
 fn halt_of_something(random: &mut Random, tables: &mut Tables) {
-    let Some(at) = find(random, &tables.0[STATEMENTS], |statement| matches!(statement.kind, 6 | 7)) else { return };
-    tables.0[STATEMENTS][at].kind = 7;
-    let node = tables.0[STATEMENTS][at].a as usize;
-    if node < tables.0[NODES].len() && random.chance(700) {
-        retype(random, &mut tables.0[NODES][node]);
+    let Some(at) = find(random, &tables[STATEMENTS], |statement| matches!(statement.kind, 6 | 7)) else { return };
+    tables[STATEMENTS][at].kind = 7;
+    let node = tables[STATEMENTS][at].a as usize;
+    if node < tables[NODES].len() && random.chance(700) {
+        retype(random, &mut tables[NODES][node]);
     }
 }
 
@@ -139,7 +140,7 @@ fn other_operator(random: &mut Random, tables: &mut Tables) {
     let kind = random.between(5, 6) as u8;
     change(
         random,
-        &mut tables.0[NODES],
+        &mut tables[NODES],
         |node| node.kind == kind,
         |random, node| {
             node.c = match node.kind {
@@ -155,21 +156,21 @@ fn operand_of_another_type(random: &mut Random, tables: &mut Tables) {
     let dyadic = random.between(1, 16);
     let (kind, operator) = *random.pick(&[(5, dyadic), (5, dyadic), (5, dyadic), (6, 1), (6, 2), (3, 0)]);
     let good = |node: &Row| node.kind == kind && node.c as usize == operator;
-    let Some(at) = find(random, &tables.0[NODES], good) else { return };
-    let node = tables.0[NODES][at];
+    let Some(at) = find(random, &tables[NODES], good) else { return };
+    let node = tables[NODES][at];
     let operand = if kind == 3 || kind == 5 && random.chance(500) { node.b } else { node.a } as usize;
-    if operand < at && tables.0[NODES][operand].kind == 0 {
-        retype(random, &mut tables.0[NODES][operand]);
-    } else if operand < at && tables.0[NODES][operand].kind == 1 {
-        tables.0[NODES][operand].a = any_below(random, tables.0[VARIABLES].len());
+    if operand < at && tables[NODES][operand].kind == 0 {
+        retype(random, &mut tables[NODES][operand]);
+    } else if operand < at && tables[NODES][operand].kind == 1 {
+        tables[NODES][operand].a = any_below(random, tables[VARIABLES].len());
     }
 }
 
 /// Of a guard or a test.
 fn other_type(random: &mut Random, tables: &mut Tables) {
-    let types = tables.0[TYPES].len();
+    let types = tables[TYPES].len();
     let good = |node: &Row| matches!(node.kind, 4 | 7);
-    change(random, &mut tables.0[NODES], good, |random, node| {
+    change(random, &mut tables[NODES], good, |random, node| {
         let any = any_below(random, types);
         node.b = *random.pick(&[any, any, any, types as u16, u16::MAX]);
     });
@@ -178,7 +179,7 @@ fn other_type(random: &mut Random, tables: &mut Tables) {
 fn other_field(random: &mut Random, tables: &mut Tables) {
     change(
         random,
-        &mut tables.0[NODES],
+        &mut tables[NODES],
         |node| node.kind == 2,
         |random, node| match random.below(3) {
             0 => node.b = node.b.wrapping_add(1),
@@ -189,7 +190,7 @@ fn other_field(random: &mut Random, tables: &mut Tables) {
 }
 
 fn other_child(random: &mut Random, tables: &mut Tables) {
-    let nodes = &mut tables.0[NODES];
+    let nodes = &mut tables[NODES];
     let good = |node: &Row| matches!(node.kind, 2 | 3 | 5 | 6 | 8);
     if let Some(at) = find(random, nodes, good) {
         let lower = any_below(random, at + 1);
@@ -205,11 +206,11 @@ type Name = (usize, usize, bool);
 
 fn names(tables: &Tables) -> Vec<Name> {
     let mut names = vec![];
-    for (at, node) in tables.0[NODES].iter().enumerate() {
+    for (at, node) in tables[NODES].iter().enumerate() {
         names.extend(matches!(node.kind, 2 | 3 | 5 | 6 | 8).then_some((NODES, at, false)));
         names.extend(matches!(node.kind, 3 | 5).then_some((NODES, at, true)));
     }
-    for (at, statement) in tables.0[STATEMENTS].iter().enumerate() {
+    for (at, statement) in tables[STATEMENTS].iter().enumerate() {
         names.extend(matches!(statement.kind, 0 | 2 | 5 | 6 | 7).then_some((STATEMENTS, at, false)));
         names.extend((statement.kind == 0).then_some((STATEMENTS, at, true)));
     }
@@ -217,7 +218,7 @@ fn names(tables: &Tables) -> Vec<Name> {
 }
 
 fn named_at(tables: &mut Tables, (table, at, second): Name) -> &mut u16 {
-    let row = &mut tables.0[table][at];
+    let row = &mut tables[table][at];
     if second {
         &mut row.b
     } else {
@@ -241,10 +242,10 @@ fn swap_names(random: &mut Random, tables: &mut Tables) {
 }
 
 fn other_variable_type(random: &mut Random, tables: &mut Tables) {
-    let types = tables.0[TYPES].len();
+    let types = tables[TYPES].len();
     change(
         random,
-        &mut tables.0[VARIABLES],
+        &mut tables[VARIABLES],
         |_| true,
         |random, variable| match random.below(4) {
             0 => variable.kind = random.below(4) as u8,
@@ -254,15 +255,15 @@ fn other_variable_type(random: &mut Random, tables: &mut Tables) {
 }
 
 fn other_field_type(random: &mut Random, tables: &mut Tables) {
-    let types = tables.0[TYPES].len();
-    change(random, &mut tables.0[FIELDS], |_| true, |random, field| field.a = any_below(random, types));
+    let types = tables[TYPES].len();
+    change(random, &mut tables[FIELDS], |_| true, |random, field| field.a = any_below(random, types));
 }
 
 fn other_call(random: &mut Random, tables: &mut Tables) {
-    let procedures = tables.0[PROCEDURES].clone();
+    let procedures = tables[PROCEDURES].clone();
     change(
         random,
-        &mut tables.0[STATEMENTS],
+        &mut tables[STATEMENTS],
         |statement| statement.kind == 1,
         |random, call| {
             let parameters = procedures.get(call.a as usize).map_or(0, |procedure| procedure.b);
@@ -282,15 +283,15 @@ fn other_call(random: &mut Random, tables: &mut Tables) {
 
 /// Of an array.
 fn other_element(random: &mut Random, tables: &mut Tables) {
-    let Some(at) = find(random, &tables.0[TYPES], |ty| ty.kind == 3) else { return };
+    let Some(at) = find(random, &tables[TYPES], |ty| ty.kind == 3) else { return };
     let lower = any_below(random, at);
-    tables.0[TYPES][at].a = *random.pick(&[lower, at as u16, at as u16 + 1, u16::MAX]);
+    tables[TYPES][at].a = *random.pick(&[lower, at as u16, at as u16 + 1, u16::MAX]);
 }
 
 /// A comparison of a variable that is mostly no scalar with itself.
 fn compared_objects(random: &mut Random, tables: &mut Tables) {
-    let Some(variable) = find(random, &tables.0[VARIABLES], |variable| variable.a > 2) else { return };
-    let nodes = &mut tables.0[NODES];
+    let Some(variable) = find(random, &tables[VARIABLES], |variable| variable.a > 2) else { return };
+    let nodes = &mut tables[NODES];
     let leaf = |node: u16| nodes.get(node as usize).is_some_and(|node| node.kind < 2);
     let good = |node: &Row| node.kind == 5 && leaf(node.a) && leaf(node.b);
     if let Some(at) = find(random, nodes, good) {
@@ -303,7 +304,7 @@ fn compared_objects(random: &mut Random, tables: &mut Tables) {
 
 /// A statement or a node names an argument.
 fn names_an_argument(random: &mut Random, tables: &mut Tables) {
-    let Some(argument) = find(random, &tables.0[NODES], |node| node.kind == 8) else { return };
+    let Some(argument) = find(random, &tables[NODES], |node| node.kind == 8) else { return };
     let names = names(tables);
     let good = |name: &&Name| name.0 == STATEMENTS || name.1 > argument;
     let choices: Vec<Name> = names.iter().filter(good).copied().collect();
@@ -314,46 +315,46 @@ fn names_an_argument(random: &mut Random, tables: &mut Tables) {
 
 /// A read into a variable of another type, or of what is written.
 fn other_read(random: &mut Random, tables: &mut Tables) {
-    let Some(at) = find(random, &tables.0[STATEMENTS], |statement| matches!(statement.kind, 5 | 6)) else { return };
-    let node = tables.0[STATEMENTS][at].a as usize;
-    match tables.0[NODES].get(node).map(|node| node.kind) {
-        Some(0) => retype(random, &mut tables.0[NODES][node]),
-        Some(1) => tables.0[NODES][node].a = any_below(random, tables.0[VARIABLES].len()),
-        _ => tables.0[STATEMENTS][at].kind = 11 - tables.0[STATEMENTS][at].kind,
+    let Some(at) = find(random, &tables[STATEMENTS], |statement| matches!(statement.kind, 5 | 6)) else { return };
+    let node = tables[STATEMENTS][at].a as usize;
+    match tables[NODES].get(node).map(|node| node.kind) {
+        Some(0) => retype(random, &mut tables[NODES][node]),
+        Some(1) => tables[NODES][node].a = any_below(random, tables[VARIABLES].len()),
+        _ => tables[STATEMENTS][at].kind = 11 - tables[STATEMENTS][at].kind,
     }
 }
 
 /// An argument holds another variable.
 fn other_argument(random: &mut Random, tables: &mut Tables) {
-    let variables = tables.0[VARIABLES].len();
-    let Some(argument) = find(random, &tables.0[NODES], |node| node.kind == 8) else { return };
-    let held = tables.0[NODES][argument].a as usize;
-    if tables.0[NODES].get(held).is_some_and(|node| node.kind == 1) {
-        tables.0[NODES][held].a = any_below(random, variables);
+    let variables = tables[VARIABLES].len();
+    let Some(argument) = find(random, &tables[NODES], |node| node.kind == 8) else { return };
+    let held = tables[NODES][argument].a as usize;
+    if tables[NODES].get(held).is_some_and(|node| node.kind == 1) {
+        tables[NODES][held].a = any_below(random, variables);
     }
 }
 
 fn guard_of_another_parameter(random: &mut Random, tables: &mut Tables) {
-    let types = tables.0[TYPES].clone();
+    let types = tables[TYPES].clone();
     let no_record = |variable: &Row| types.get(variable.a as usize).is_some_and(|ty| ty.kind != 4);
-    let other = find(random, &tables.0[VARIABLES], |variable| variable.kind == 3 && no_record(variable));
+    let other = find(random, &tables[VARIABLES], |variable| variable.kind == 3 && no_record(variable));
     let good = |node: &Row| matches!(node.kind, 4 | 7);
     if let Some(other) = other {
-        change(random, &mut tables.0[NODES], good, |_, node| node.a = other as u16);
+        change(random, &mut tables[NODES], good, |_, node| node.a = other as u16);
     }
 }
 
 fn other_target(random: &mut Random, tables: &mut Tables) {
-    let statements = tables.0[STATEMENTS].len();
+    let statements = tables[STATEMENTS].len();
     let good = |statement: &Row| matches!(statement.kind, 2 | 3);
-    change(random, &mut tables.0[STATEMENTS], good, |random, jump| jump.b = any_below(random, statements + 1));
+    change(random, &mut tables[STATEMENTS], good, |random, jump| jump.b = any_below(random, statements + 1));
 }
 
 fn other_body(random: &mut Random, tables: &mut Tables) {
-    let ends = tables.0[STATEMENTS].len() as u16;
+    let ends = tables[STATEMENTS].len() as u16;
     change(
         random,
-        &mut tables.0[PROCEDURES],
+        &mut tables[PROCEDURES],
         |_| true,
         |random, procedure| match random.below(8) {
             0 => procedure.a = procedure.a.wrapping_add(1),
@@ -373,18 +374,18 @@ fn too_large(random: &mut Random, tables: &mut Tables) {
     if random.chance(400) {
         let good = |ty: &Row| ty.kind == 3;
         let length = *random.pick(&[0, 1, 2, 4095, 4096, 4097, 1000, u16::MAX]);
-        return change(random, &mut tables.0[TYPES], good, |_, ty| ty.b = length);
+        return change(random, &mut tables[TYPES], good, |_, ty| ty.b = length);
     }
-    let count = tables.0[TYPES].len();
+    let count = tables[TYPES].len();
     let cells = *random.pick(&[2047, 2048, 2049, 4095, 4096]);
-    tables.0[TYPES].push(row(3, random.below(3), cells, 0));
-    let fields = tables.0[FIELDS].len();
+    tables[TYPES].push(row(3, random.below(3), cells, 0));
+    let fields = tables[FIELDS].len();
     if random.chance(500) {
         let length = *random.pick(&[1, 2, 3, 16, 17, 4096]);
-        tables.0[TYPES].push(row(3, count, length, 0));
+        tables[TYPES].push(row(3, count, length, 0));
     } else {
-        tables.0[TYPES].push(row(4, 0, fields, 2));
-        tables.0[FIELDS].push(row(0, count, 0, 0));
-        tables.0[FIELDS].push(row(0, *random.pick(&[0, count]), 0, 0));
+        tables[TYPES].push(row(4, 0, fields, 2));
+        tables[FIELDS].push(row(0, count, 0, 0));
+        tables[FIELDS].push(row(0, *random.pick(&[0, count]), 0, 0));
     }
 }

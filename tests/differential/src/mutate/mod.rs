@@ -4,8 +4,8 @@ mod bytes;
 mod meanings;
 mod rows;
 
-use crate::image::Tables;
 use crate::random::Random;
+use listing::{image_of, Tables};
 
 /// An image with one mistake or a few. It can still be one that is accepted.
 pub fn image(random: &mut Random, mut tables: Tables) -> Vec<u8> {
@@ -14,7 +14,7 @@ pub fn image(random: &mut Random, mut tables: Tables) -> Vec<u8> {
     for _ in 0..mistakes - usize::from(in_bytes) {
         damage(random, &mut tables);
     }
-    let mut bytes = tables.bytes();
+    let mut bytes = image_of(&tables);
     if in_bytes {
         bytes::damage(random, &mut bytes);
     }

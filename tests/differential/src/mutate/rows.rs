@@ -1,7 +1,8 @@
 //! Damage to rows, whatever they mean. Counts and length are mended, so that later questions are asked too.
 
-use crate::image::{row, Row, Tables, MOST};
+use crate::image::{most_rows, row};
 use crate::random::Random;
+use listing::{Row, Tables, FIELDS, STATEMENTS};
 
 pub fn damage(random: &mut Random, tables: &mut Tables) {
     let table = random.below(6);
@@ -9,12 +10,12 @@ pub fn damage(random: &mut Random, tables: &mut Tables) {
         0..=8 => any_row(random, tables, table, wrong_number),
         9 => any_row(random, tables, table, |random, row, _, _| row.zero = random.between(1, 255) as u8),
         10..=12 => any_row(random, tables, table, wrong_kind),
-        13 => swap(random, &mut tables.0[table]),
-        14 => remove(random, &mut tables.0[table]),
-        15 => duplicate(random, &mut tables.0[table]),
+        13 => swap(random, &mut tables[table]),
+        14 => remove(random, &mut tables[table]),
+        15 => duplicate(random, &mut tables[table]),
         16 | 17 => append(random, tables, table),
-        18 => insert(random, &mut tables.0[table]),
-        _ => too_many(random, &mut tables.0[table], MOST[table]),
+        18 => insert(random, &mut tables[table]),
+        _ => too_many(random, &mut tables[table], most_rows(table)),
     }
 }
 
@@ -25,10 +26,10 @@ fn any_row(
     table: usize,
     change: impl Fn(&mut Random, &mut Row, usize, &[usize]),
 ) {
-    let counts: Vec<usize> = tables.0.iter().map(Vec::len).collect();
+    let counts: Vec<usize> = tables.iter().map(Vec::len).collect();
     if counts[table] > 0 {
         let at = random.below(counts[table]);
-        change(random, &mut tables.0[table][at], at, &counts);
+        change(random, &mut tables[table][at], at, &counts);
     }
 }
 
@@ -92,8 +93,8 @@ fn insert(random: &mut Random, rows: &mut Vec<Row>) {
 
 /// A row that keeps its own form, behind the last: unclaimed, unnamed, or after the last body's end.
 fn append(random: &mut Random, tables: &mut Tables, table: usize) {
-    let fields = tables.0[1].len();
-    let statements = tables.0[5].len();
+    let fields = tables[FIELDS].len();
+    let statements = tables[STATEMENTS].len();
     let array = row(3, random.below(3), 2, 0);
     let added = [
         *random.pick(&[row(4, 0, fields, 0), array]),
@@ -103,7 +104,7 @@ fn append(random: &mut Random, tables: &mut Tables, table: usize) {
         row(0, random.below(2), 0, 1),
         row(4, 0, 0, 0),
     ];
-    tables.0[table].push(added[table]);
+    tables[table].push(added[table]);
 }
 
 fn too_many(random: &mut Random, rows: &mut Vec<Row>, most: usize) {
