@@ -106,7 +106,7 @@ def answer_in(text):
     """Refusal and row, as they stand in a line of the text."""
     if re.search(r'^accepted; ', text, re.M):
         return 0, 0
-    found = re.search(r'^refused by question ([0-9]+)(?: at ([a-z]+) row ([0-9]+))?$', text, re.M)
+    found = re.search(r'^refused by question ([0-9]+)(?: at ([a-z]+) row ([0-9]+)(?: \(there is none: .*\))?)?$', text, re.M)
     if not found or TABLES.get(int(found[1])) != found[2]:
         return None
     return int(found[1]), int(found[3] or 0)
