@@ -1,8 +1,10 @@
 #!/usr/bin/env python3
 """Compares what doordump prints with the outputs in this folder and with the answers of vectors/: see run."""
+import os
 import pathlib
 import random
 import re
+import shutil
 import subprocess
 import sys
 import tempfile
@@ -64,12 +66,36 @@ def rows(room):
     expected = (HERE / 'first-row-4.txt').read_text(encoding='utf-8')
     if dumped(first, '--row', '4') != (0, expected):
         fail(f'--row 4: {dumped(first, "--row", "4")}')
-    if dumped(first, '--row', '9') != (2, ''):
-        fail('--row 9: the image has no such statement')
-    status, text = dumped(room / '08-jump.img', '--row', '1')
-    said = 'no run stops at a statement of this image: it is refused before its first step\n'
-    if status != 1 or not text.endswith(said):
-        fail('--row of a refused image')
+    said = '\nno run stops at a statement of this image: it is refused before its first step\n'
+    for name, row in ('08-jump', '1'), ('08-jump', '500'), ('02-length', '3'):
+        expected = (HERE / f'{name}.txt').read_text(encoding='utf-8')
+        if dumped(room / f'{name}.img', '--row', row) != (1, expected + said):
+            fail(f'{name}: --row {row} of a refused image')
+
+
+def commands(room):
+    """Words of the command, in any order; names of any bytes; a reader of the text that wants no more."""
+    number = "doordump: --row needs the number of a statement row, not '%s'\n"
+    for words, status, said in [
+            ([], 2, 'doordump: no file is named\n'), (['--rwo', '4'], 2, 'doordump: there is no option --rwo\n'),
+            (['--row', 'abc', 'first.img'], 2, number % 'abc'), (['first.img', '--row'], 2, number % ''),
+            (['first.img', 'first.img'], 2, 'doordump: one file at a time\n'), (['-h'], 0, ''), (['--help'], 0, ''),
+            (['first.img', '--row', '4'], 0, ''), (['--row=4', 'first.img'], 0, ''),
+            (['first.img', '--row', '9'], 2, 'doordump: first.img has statement rows 0 to 8, and no 9\n'),
+            (['none.img'], 2, 'doordump: none.img: ')]:
+        done = subprocess.run([DOORDUMP, *words], cwd=room, capture_output=True, check=False)
+        if done.returncode != status or not done.stderr.decode().startswith(said) or bool(said) != bool(done.stderr):
+            fail(f'{words}: exit status {done.returncode}, {done.stderr!r}')
+    shutil.copy(room / 'first.img', os.fsencode(room) + b'/\xff.img')
+    done = subprocess.run([DOORDUMP, b'\xff.img'], cwd=room, capture_output=True, check=False)
+    if done.returncode != 0 or not done.stdout.startswith('\ufffd.img: version 1, 305 bytes'.encode()):
+        fail(f'a name of other bytes: {done}')
+    reader, writer = os.pipe()
+    os.close(reader)
+    done = subprocess.run([DOORDUMP, 'first.img'], cwd=room, stdout=writer, stderr=subprocess.PIPE, check=False)
+    os.close(writer)
+    if (done.returncode, done.stderr) != (0, b''):
+        fail(f'a closed pipe: {done}')
 
 
 def answers():
@@ -106,7 +132,8 @@ def answer_in(text):
     """Refusal and row, as they stand in a line of the text."""
     if re.search(r'^accepted; ', text, re.M):
         return 0, 0
-    found = re.search(r'^refused by question ([0-9]+)(?: at ([a-z]+) row ([0-9]+))?$', text, re.M)
+    no_row = r'(?: \(there is none: .*\))?'
+    found = re.search(rf'^refused by question ([0-9]+)(?: at ([a-z]+) row ([0-9]+){no_row})?$', text, re.M)
     if not found or TABLES.get(int(found[1])) != found[2]:
         return None
     return int(found[1]), int(found[3] or 0)
@@ -190,6 +217,7 @@ def main():
         room = pathlib.Path(name)
         outputs = stored(room)
         rows(room)
+        commands(room)
         known = vectors(room)
         refused = damaged(room, known)
         tried = hostile(room)

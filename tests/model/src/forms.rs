@@ -5,6 +5,7 @@ use crate::image::Row;
 use crate::program::*;
 use crate::rules::{self, Rule};
 use crate::types::{BOOLEAN, SET};
+use crate::words::{counted, node_kind, statement_kind, variable_kind};
 use crate::{ask, Fault};
 
 /// "Does each variable row keep its form, type row existing, no global after another kind?"
@@ -12,7 +13,7 @@ pub(crate) fn question_5(program: &Program) -> Result<(), Fault> {
     let globals = program.global_count();
     for (v, row) in program.variables.iter().enumerate() {
         ask(row.kind <= VAR_PARAMETER, &rules::VARIABLE_KIND, v, || format!("variable {v} is of kind {}", row.kind))?;
-        ask(row.zero == 0, &rules::VARIABLE_ZERO_BYTE, v, || format!("variable {v} has the byte {}", row.zero))?;
+        ask(row.zero == 0, &rules::VARIABLE_ZERO_BYTE, v, || format!("variable {v} has the second byte {}", row.zero))?;
         ask((row.b, row.c) == (0, 0), &rules::VARIABLE_UNUSED, v, || {
             format!("variable {v} has b {}, c {}", row.b, row.c)
         })?;
@@ -31,13 +32,15 @@ pub(crate) fn question_6(program: &Program) -> Result<(), Fault> {
     let mut unused_variable = program.global_count();
     for (p, row) in program.procedures.iter().enumerate() {
         ask(row.kind == 0, &rules::PROCEDURE_KIND, p, || format!("procedure {p} is of kind {}", row.kind))?;
-        ask(row.zero == 0, &rules::PROCEDURE_ZERO_BYTE, p, || format!("procedure {p} has the byte {}", row.zero))?;
+        ask(row.zero == 0, &rules::PROCEDURE_ZERO_BYTE, p, || {
+            format!("procedure {p} has the second byte {}", row.zero)
+        })?;
         body_rule(program, p, row)?;
         unused_variable = variables_rule(program, p, row, unused_variable)?;
     }
     let all = program.variables.len();
     ask(unused_variable == all, &rules::VARIABLE_CLAIMED, program.procedures.len(), || {
-        format!("globals and procedures claim {unused_variable} variable rows of {all}")
+        format!("globals and procedures claim {unused_variable} of {}", counted(all, "variable row"))
     })
 }
 
@@ -46,11 +49,13 @@ pub(crate) fn question_6(program: &Program) -> Result<(), Fault> {
 fn body_rule(program: &Program, p: usize, row: &Row) -> Result<(), Fault> {
     if p == 0 {
         ask(row.a == 0, &rules::MODULE_BODY_START, p, || format!("procedure 0 begins at statement {}", row.a))?;
-        ask(row.b == 0, &rules::MODULE_BODY_PARAMETERS, p, || format!("procedure 0 has {} parameters", row.b))?;
+        ask(row.b == 0, &rules::MODULE_BODY_PARAMETERS, p, || {
+            format!("procedure 0 has {}", counted(row.b(), "parameter"))
+        })?;
     }
     let all = program.statements.len();
     ask(row.a() < all, &rules::BODY_START, p, || {
-        format!("procedure {p} begins at statement {}, the statement table has {all} rows", row.a)
+        format!("procedure {p} begins at statement {}, the statement table has {}", row.a, counted(all, "row"))
     })?;
     ask(!program.body(p).is_empty(), &rules::BODY_NOT_EMPTY, p, || {
         format!("procedure {p} begins at statement {}, the next at {}", row.a, program.body(p).end)
@@ -61,7 +66,8 @@ fn body_rule(program: &Program, p: usize, row: &Row) -> Result<(), Fault> {
 fn variables_rule(program: &Program, p: usize, row: &Row, first: usize) -> Result<usize, Fault> {
     let (locals, end, all) = (first + row.b(), first + row.b() + row.c(), program.variables.len());
     ask(end <= all, &rules::ENOUGH_VARIABLES, p, || {
-        format!("procedure {p} has {} variables from {first} on, the variable table has {all} rows", end - first)
+        let (count, all) = (counted(end - first, "variable"), counted(all, "row"));
+        format!("procedure {p} has {count} from variable {first} on, the variable table has {all}")
     })?;
     for v in first..end {
         let kind = program.variables[v].kind;
@@ -69,7 +75,7 @@ fn variables_rule(program: &Program, p: usize, row: &Row, first: usize) -> Resul
             true => (kind == VALUE_PARAMETER || kind == VAR_PARAMETER, &rules::PARAMETER_KIND),
             false => (kind == LOCAL, &rules::LOCAL_KIND),
         };
-        ask(good, rule, p, || format!("variable {v} of procedure {p} is of kind {kind}"))?;
+        ask(good, rule, p, || format!("variable {v} of procedure {p} is of kind {}", variable_kind(kind)))?;
     }
     Ok(end)
 }
@@ -81,8 +87,8 @@ pub(crate) fn question_7(program: &Program) -> Result<(), Fault> {
 
 fn node_form(program: &Program, n: usize, row: &Row) -> Result<(), Fault> {
     ask(row.kind <= ARGUMENT, &rules::NODE_KIND, n, || format!("node {n} is of kind {}", row.kind))?;
-    ask(row.zero == 0, &rules::NODE_ZERO_BYTE, n, || format!("node {n} has the byte {}", row.zero))?;
-    ask_unused(node_unused(row), &rules::NODE_UNUSED, n, "node", row)?;
+    ask(row.zero == 0, &rules::NODE_ZERO_BYTE, n, || format!("node {n} has the second byte {}", row.zero))?;
+    ask_unused(node_unused(row), &rules::NODE_UNUSED, n, row, || format!("node {n} of kind {}", node_kind(row.kind)))?;
     match row.kind {
         CONSTANT => constant_form(n, row)?,
         VARIABLE => ask_variable(program, n, row)?,
@@ -97,7 +103,8 @@ fn node_form(program: &Program, n: usize, row: &Row) -> Result<(), Fault> {
     program.children(n).try_for_each(|child| ask_child(program, n, child))?;
     match row.kind {
         FIELD | ELEMENT => ask(program.is_designator(row.a()), &rules::PART_OF_DESIGNATOR, n, || {
-            format!("node {n} is part of node {}, which is of kind {}", row.a, program.nodes[row.a()].kind)
+            let kind = node_kind(program.nodes[row.a()].kind);
+            format!("node {n} is part of node {}, which is of kind {kind}", row.a)
         }),
         DYADIC => ask((1..=16).contains(&row.c), &rules::DYADIC_OPERATOR, n, || {
             format!("node {n} has the dyadic operator {}", row.c)
@@ -119,10 +126,14 @@ fn node_unused(row: &Row) -> [u16; 3] {
     }
 }
 
-fn ask_unused(unused: [u16; 3], rule: &'static Rule, at: usize, table: &str, row: &Row) -> Result<(), Fault> {
-    ask(unused == [0, 0, 0], rule, at, || {
-        format!("{table} {at} of kind {} has a {}, b {}, c {}", row.kind, row.a, row.b, row.c)
-    })
+fn ask_unused(
+    unused: [u16; 3],
+    rule: &'static Rule,
+    at: usize,
+    row: &Row,
+    what: impl FnOnce() -> String,
+) -> Result<(), Fault> {
+    ask(unused == [0, 0, 0], rule, at, || format!("{} has a {}, b {}, c {}", what(), row.a, row.b, row.c))
 }
 
 /// "0 constant: a type (0 to 2); b × 65,536 + c is the value, two's complement for INTEGER, 0 or 1 for BOOLEAN."
@@ -136,7 +147,7 @@ fn constant_form(n: usize, row: &Row) -> Result<(), Fault> {
 fn ask_variable(program: &Program, n: usize, row: &Row) -> Result<(), Fault> {
     let all = program.variables.len();
     ask(row.a() < all, &rules::NODE_VARIABLE, n, || {
-        format!("node {n} names variable {}, the variable table has {all} rows", row.a)
+        format!("node {n} names variable {}, the variable table has {}", row.a, counted(all, "row"))
     })
 }
 
@@ -144,7 +155,7 @@ fn ask_variable(program: &Program, n: usize, row: &Row) -> Result<(), Fault> {
 fn ask_child(program: &Program, n: usize, child: usize) -> Result<(), Fault> {
     let all = program.nodes.len();
     ask(child < all, &rules::CHILD_EXISTS, n, || {
-        format!("node {n} names node {child}, the node table has {all} rows")
+        format!("node {n} names node {child}, the node table has {}", counted(all, "row"))
     })?;
     ask(child < n, &rules::CHILD_LOWER, n, || format!("node {n} names node {child}, which is not lower"))?;
     ask(program.nodes[child].kind != ARGUMENT, &rules::CHILD_NO_ARGUMENT, n, || {
@@ -159,15 +170,18 @@ pub(crate) fn question_8(program: &Program) -> Result<(), Fault> {
 
 fn statement_form(program: &Program, s: usize, row: &Row) -> Result<(), Fault> {
     ask(row.kind <= HALT, &rules::STATEMENT_KIND, s, || format!("statement {s} is of kind {}", row.kind))?;
-    ask(row.zero == 0, &rules::STATEMENT_ZERO_BYTE, s, || format!("statement {s} has the byte {}", row.zero))?;
-    ask_unused(statement_unused(row), &rules::STATEMENT_UNUSED, s, "statement", row)?;
+    ask(row.zero == 0, &rules::STATEMENT_ZERO_BYTE, s, || format!("statement {s} has the second byte {}", row.zero))?;
+    ask_unused(statement_unused(row), &rules::STATEMENT_UNUSED, s, row, || {
+        format!("statement {s} of kind {}", statement_kind(row.kind))
+    })?;
     match row.kind {
         CALL => call_form(program, s, row)?,
         _ => program.named_by(s).try_for_each(|n| ask_named(program, s, n))?,
     }
     if let ASSIGN | READ = row.kind {
         ask(program.is_designator(row.a()), &rules::TARGET_DESIGNATOR, s, || {
-            format!("statement {s} has the target node {}, which is of kind {}", row.a, program.nodes[row.a()].kind)
+            let kind = node_kind(program.nodes[row.a()].kind);
+            format!("statement {s} has the target node {}, which is of kind {kind}", row.a)
         })?;
     }
     let body = program.body(program.procedure_at(s));
@@ -177,7 +191,7 @@ fn statement_form(program: &Program, s: usize, row: &Row) -> Result<(), Fault> {
         })?;
     }
     ask(s + 1 < body.end || matches!(row.kind, JUMP | RETURN | HALT), &rules::BODY_END, s, || {
-        format!("statement {s} is the last of its body and of kind {}", row.kind)
+        format!("statement {s} is the last of its body and of kind {}", statement_kind(row.kind))
     })
 }
 
@@ -194,9 +208,12 @@ fn statement_unused(row: &Row) -> [u16; 3] {
 /// "Only calls name kind 8."
 fn ask_named(program: &Program, s: usize, n: usize) -> Result<(), Fault> {
     let all = program.nodes.len();
-    ask(n < all, &rules::STATEMENT_NODE, s, || format!("statement {s} names node {n}, the node table has {all} rows"))?;
+    ask(n < all, &rules::STATEMENT_NODE, s, || {
+        format!("statement {s} names node {n}, the node table has {}", counted(all, "row"))
+    })?;
     ask(program.nodes[n].kind != ARGUMENT, &rules::ONLY_CALLS_NAME_ARGUMENTS, s, || {
-        format!("statement {s} of kind {} names node {n}, which is an argument", program.statements[s].kind)
+        let kind = statement_kind(program.statements[s].kind);
+        format!("statement {s} of kind {kind} names node {n}, which is an argument")
     })
 }
 
@@ -204,7 +221,8 @@ fn ask_named(program: &Program, s: usize, n: usize) -> Result<(), Fault> {
 fn call_form(program: &Program, s: usize, row: &Row) -> Result<(), Fault> {
     let (p, first) = (row.a(), row.b());
     ask(p < program.procedures.len(), &rules::CALLED_PROCEDURE, s, || {
-        format!("statement {s} calls procedure {p}, the procedure table has {} rows", program.procedures.len())
+        let all = counted(program.procedures.len(), "row");
+        format!("statement {s} calls procedure {p}, the procedure table has {all}")
     })?;
     ask(p != 0, &rules::MODULE_BODY_CALLED, s, || format!("statement {s} calls procedure 0"))?;
     let count = program.procedures[p].b();
@@ -213,12 +231,13 @@ fn call_form(program: &Program, s: usize, row: &Row) -> Result<(), Fault> {
     })?;
     let all = program.nodes.len();
     ask(first + count <= all, &rules::ARGUMENTS_EXIST, s, || {
-        format!("statement {s} has {count} arguments from node {first} on, the node table has {all} rows")
+        let (count, all) = (counted(count, "argument"), counted(all, "row"));
+        format!("statement {s} has {count} from node {first} on, the node table has {all}")
     })?;
     for n in first..first + count {
         let kind = program.nodes[n].kind;
         ask(kind == ARGUMENT, &rules::ARGUMENT_KIND, s, || {
-            format!("statement {s} has the argument node {n}, which is of kind {kind}")
+            format!("statement {s} has the argument node {n}, which is of kind {}", node_kind(kind))
         })?;
     }
     Ok(())

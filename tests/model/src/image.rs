@@ -1,6 +1,7 @@
 //! The image: bytes, rows, six tables. Questions 1 to 3.
 
 use crate::rules::{self, Rule};
+use crate::words::counted;
 use crate::{ask, Fault};
 use std::ops::RangeInclusive;
 
@@ -61,10 +62,10 @@ fn question_1(image: &[u8]) -> Result<(), Fault> {
 
 /// "Are bytes 1 to 4 present, equal to the image's length?"
 fn question_2(image: &[u8]) -> Result<(), Fault> {
-    ask(image.len() >= 5, &rules::LENGTH_PRESENT, 0, || format!("the image has {} bytes", image.len()))?;
+    ask(image.len() >= 5, &rules::LENGTH_PRESENT, 0, || format!("the image has {}", counted(image.len(), "byte")))?;
     let length = u32::from_be_bytes([image[1], image[2], image[3], image[4]]);
     ask(u64::from(length) == image.len() as u64, &rules::LENGTH, 0, || {
-        format!("bytes 1 to 4 say {length}, the image has {} bytes", image.len())
+        format!("bytes 1 to 4 say {length}, the image has {}", counted(image.len(), "byte"))
     })
 }
 
@@ -78,7 +79,9 @@ fn question_3(mut rest: &[u8]) -> Result<Tables, Fault> {
         nodes: table(&mut rest, "node", 0..=2048, &rules::NODE_COUNT)?,
         statements: table(&mut rest, "statement", 1..=1024, &rules::STATEMENT_COUNT)?,
     };
-    ask(rest.is_empty(), &rules::NOTHING_LEFT, 0, || format!("{} bytes follow the last statement row", rest.len()))?;
+    ask(rest.is_empty(), &rules::NOTHING_LEFT, 0, || {
+        format!("the image has {} after the last statement row", counted(rest.len(), "byte"))
+    })?;
     Ok(tables)
 }
 
@@ -90,13 +93,13 @@ fn table(
     in_range: &'static Rule,
 ) -> Result<Vec<Row>, Fault> {
     ask(rest.len() >= 2, &rules::COUNT_PRESENT, 0, || {
-        format!("the {name} table's count is cut off, {} bytes are left for it", rest.len())
+        format!("the {name} table's count is cut off, with {} left for it", counted(rest.len(), "byte"))
     })?;
     let count = usize::from(u16::from_be_bytes([rest[0], rest[1]]));
     ask(counts.contains(&count), in_range, 0, || format!("the {name} table's count is {count}"))?;
     let rows = &rest[2..];
     ask(rows.len() >= 8 * count, &rules::ROWS_PRESENT, 0, || {
-        format!("the {name} table's count is {count}, but {} bytes follow it", rows.len())
+        format!("the {name} table's count is {count}, with {} left for its rows", counted(rows.len(), "byte"))
     })?;
     let (rows, after) = rows.split_at(8 * count);
     *rest = after;

@@ -13,6 +13,7 @@
 //! | `machine` | Tagged machine: store, evaluation, statements |
 //! | `sound` | Sound |
 //! | `rules` | Each thing that a question asks, as a sentence |
+//! | `words` | The words of a fault's detail |
 
 mod forms;
 pub mod image;
@@ -23,6 +24,7 @@ pub mod rules;
 pub mod sound;
 pub mod types;
 mod typing;
+pub mod words;
 
 pub use image::{tables, Row, Tables};
 pub use machine::{Cell, Machine, State, Step};

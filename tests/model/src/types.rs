@@ -2,6 +2,7 @@
 
 use crate::image::Row;
 use crate::program::Program;
+use crate::words::{counted, type_row};
 use crate::{ask, rules, Fault};
 
 /// The scalar types' rows, and their kinds.
@@ -86,7 +87,7 @@ pub(crate) fn question_4(program: &mut Program) -> Result<(), Fault> {
     let mut unused_field = 0;
     for t in 0..program.types.len() {
         let row = program.types[t];
-        ask(row.zero == 0, &rules::TYPE_ZERO_BYTE, t, || format!("type {t} has the byte {}", row.zero))?;
+        ask(row.zero == 0, &rules::TYPE_ZERO_BYTE, t, || format!("type {t} has the second byte {}", row.zero))?;
         let shape = match (t, row.kind) {
             (BOOLEAN..=SET, _) => scalar(t, &row)?,
             (_, ARRAY) => array(program, t, &row)?,
@@ -97,7 +98,7 @@ pub(crate) fn question_4(program: &mut Program) -> Result<(), Fault> {
     }
     let (claimed, all) = (unused_field, program.fields.len());
     ask(claimed == all, &rules::FIELD_CLAIMED, program.types.len(), || {
-        format!("records claim {claimed} field rows of {all}")
+        format!("records claim {claimed} of {}", counted(all, "field row"))
     })
 }
 
@@ -132,7 +133,7 @@ fn record(program: &Program, t: usize, row: &Row, unused_field: &mut usize) -> R
     if let Some(base) = row.a().checked_sub(1) {
         ask(base < t, &rules::BASE_LOWER, t, || format!("type {t} has base {base}"))?;
         ask(program.is_record(base), &rules::BASE_RECORD, t, || {
-            format!("type {t} has base {base}, which is no record")
+            format!("type {t} has base {}, which is no record", type_row(base))
         })?;
         shape = program.shapes[base].clone();
     }
@@ -156,7 +157,8 @@ fn own_fields(program: &Program, t: usize, row: &Row, unused_field: &mut usize) 
         format!("type {t} begins at field {first}, the next unused is {unused}")
     })?;
     ask(first + count <= all, &rules::OWN_FIELDS, t, || {
-        format!("type {t} claims {count} fields from {first} on, the field table has {all}")
+        let (count, all) = (counted(count, "field"), counted(all, "row"));
+        format!("type {t} claims {count} from field {first} on, the field table has {all}")
     })?;
     *unused_field = first + count;
     (first..first + count).map(|f| own_field(t, f, &program.fields[f])).collect()
@@ -165,7 +167,9 @@ fn own_fields(program: &Program, t: usize, row: &Row, unused_field: &mut usize) 
 /// "A field row has kind 0 and type a."
 fn own_field(t: usize, f: usize, row: &Row) -> Result<usize, Fault> {
     ask(row.kind == 0, &rules::FIELD_KIND, t, || format!("field {f} of type {t} is of kind {}", row.kind))?;
-    ask(row.zero == 0, &rules::FIELD_ZERO_BYTE, t, || format!("field {f} of type {t} has the byte {}", row.zero))?;
+    ask(row.zero == 0, &rules::FIELD_ZERO_BYTE, t, || {
+        format!("field {f} of type {t} has the second byte {}", row.zero)
+    })?;
     ask((row.b, row.c) == (0, 0), &rules::FIELD_UNUSED, t, || {
         format!("field {f} of type {t} has b {}, c {}", row.b, row.c)
     })?;

@@ -3,6 +3,7 @@
 use crate::image::Row;
 use crate::program::*;
 use crate::types::{BOOLEAN, INTEGER, SET};
+use crate::words::{counted, dyadic_operator, monadic_operator, node_kind, type_row, variable_kind};
 use crate::{ask, rules, Fault};
 
 /// "Has each node a type?"
@@ -33,11 +34,11 @@ fn node_type(program: &Program, n: usize, row: &Row) -> Result<usize, Fault> {
 fn field_type(program: &Program, n: usize, row: &Row) -> Result<usize, Fault> {
     let of = program.type_of(row.a());
     ask(program.is_record(of), &rules::FIELD_OF_RECORD, n, || {
-        format!("node {n} is a field of node {}, whose type {of} is no record", row.a)
+        format!("node {n} is a field of node {}, whose type {} is no record", row.a, type_row(of))
     })?;
     let fields = program.fields_of(of);
     ask(row.b() < fields.len(), &rules::FIELD_EXISTS, n, || {
-        format!("node {n} is field {} of type {of}, which has {} fields", row.b, fields.len())
+        format!("node {n} is field {} of type {of}, which has {}", row.b, counted(fields.len(), "field"))
     })?;
     Ok(fields[row.b()].t)
 }
@@ -46,10 +47,10 @@ fn field_type(program: &Program, n: usize, row: &Row) -> Result<usize, Fault> {
 fn element_type(program: &Program, n: usize, row: &Row) -> Result<usize, Fault> {
     let (of, index) = (program.type_of(row.a()), program.type_of(row.b()));
     ask(program.is_array(of), &rules::ELEMENT_OF_ARRAY, n, || {
-        format!("node {n} is an element of node {}, whose type {of} is no array", row.a)
+        format!("node {n} is an element of node {}, whose type {} is no array", row.a, type_row(of))
     })?;
     ask(index == INTEGER, &rules::INDEX_INTEGER, n, || {
-        format!("node {n} has the index node {}, whose type is {index}", row.b)
+        format!("node {n} has the index node {}, whose type is {}", row.b, type_row(index))
     })?;
     Ok(program.types[of].a())
 }
@@ -58,13 +59,14 @@ fn element_type(program: &Program, n: usize, row: &Row) -> Result<usize, Fault> 
 fn ask_guarded(program: &Program, n: usize, row: &Row) -> Result<(), Fault> {
     let variable = &program.variables[row.a()];
     ask(variable.kind == VAR_PARAMETER, &rules::GUARDED_PARAMETER, n, || {
-        format!("node {n} names variable {}, which is of kind {}", row.a, variable.kind)
+        format!("node {n} names variable {}, which is of kind {}", row.a, variable_kind(variable.kind))
     })?;
     ask(program.is_record(variable.a()), &rules::GUARDED_RECORD, n, || {
-        format!("node {n} names variable {}, whose type {} is no record", row.a, variable.a)
+        format!("node {n} names variable {}, whose type {} is no record", row.a, type_row(variable.a()))
     })?;
     ask(program.extends(row.b(), variable.a()), &rules::GUARD_EXTENDS, n, || {
-        format!("node {n} names type {}, which does not extend variable {}'s type {}", row.b, row.a, variable.a)
+        let named = type_row(row.b());
+        format!("node {n} names type {named}, which does not extend variable {}'s type {}", row.a, variable.a)
     })
 }
 
@@ -84,7 +86,10 @@ fn dyadic_type(program: &Program, n: usize, row: &Row) -> Result<usize, Fault> {
         15 => ((x, y) == (INTEGER, SET), &rules::IN, BOOLEAN),
         _ => (integers, &rules::RANGE, SET),
     };
-    ask(good, rule, n, || format!("node {n} has operator {} with operands of types {x} and {y}", row.c))?;
+    ask(good, rule, n, || {
+        let (operator, x, y) = (dyadic_operator(row.c), type_row(x), type_row(y));
+        format!("node {n} has operator {operator} with operands of types {x} and {y}")
+    })?;
     Ok(yields)
 }
 
@@ -95,7 +100,10 @@ fn monadic_type(program: &Program, n: usize, row: &Row) -> Result<usize, Fault> 
         1 => (x == INTEGER || x == SET, &rules::MONADIC_MINUS),
         _ => (x == BOOLEAN, &rules::NOT),
     };
-    ask(good, rule, n, || format!("node {n} has monadic operator {} with an operand of type {x}", row.c))?;
+    ask(good, rule, n, || {
+        let (operator, x) = (monadic_operator(row.c), type_row(x));
+        format!("node {n} has monadic operator {operator} with an operand of type {x}")
+    })?;
     Ok(x)
 }
 
@@ -138,7 +146,7 @@ fn ask_own_variables(program: &Program, s: usize) -> Result<(), Fault> {
 fn ask_assignment(program: &Program, s: usize, row: &Row) -> Result<(), Fault> {
     let (target, source) = (program.type_of(row.a()), program.type_of(row.b()));
     ask(program.extends(source, target), &rules::ASSIGNED_TYPE, s, || {
-        format!("statement {s} assigns type {source} to type {target}")
+        format!("statement {s} assigns type {} to type {}", type_row(source), type_row(target))
     })
 }
 
@@ -148,15 +156,14 @@ fn ask_arguments(program: &Program, s: usize, row: &Row) -> Result<(), Fault> {
         let (parameter, held) = (&program.variables[v], program.nodes[n].a());
         let by_var = parameter.kind == VAR_PARAMETER;
         ask(!by_var || program.is_designator(held), &rules::VAR_ARGUMENT_DESIGNATOR, s, || {
-            format!(
-                "statement {s} passes node {held} to VAR parameter {v}, which is of kind {}",
-                program.nodes[held].kind
-            )
+            let kind = node_kind(program.nodes[held].kind);
+            format!("statement {s} passes node {held}, which is of kind {kind}, to variable {v}, a VAR parameter")
         })?;
         let rule = if by_var { &rules::VAR_ARGUMENT_TYPE } else { &rules::VALUE_ARGUMENT_TYPE };
         let t = program.type_of(n);
         ask(program.extends(t, parameter.a()), rule, s, || {
-            format!("statement {s} passes node {held} of type {t} to parameter {v} of type {}", parameter.a)
+            let (t, needed) = (type_row(t), type_row(parameter.a()));
+            format!("statement {s} passes node {held} of type {t} to variable {v}, a parameter of type {needed}")
         })?;
     }
     Ok(())
@@ -165,14 +172,14 @@ fn ask_arguments(program: &Program, s: usize, row: &Row) -> Result<(), Fault> {
 /// "Condition BOOLEAN; read and write INTEGER".
 fn ask_type(program: &Program, s: usize, row: &Row, needed: usize, rule: &'static rules::Rule) -> Result<(), Fault> {
     let t = program.type_of(row.a());
-    ask(t == needed, rule, s, || format!("statement {s} has node {} of type {t}", row.a))
+    ask(t == needed, rule, s, || format!("statement {s} has node {} of type {}", row.a, type_row(t)))
 }
 
 /// "HALT an INTEGER node of kind 0."
 fn ask_halt(program: &Program, s: usize, row: &Row) -> Result<(), Fault> {
     let kind = program.nodes[row.a()].kind;
     ask(kind == CONSTANT, &rules::HALT_CONSTANT, s, || {
-        format!("statement {s} halts with node {}, which is of kind {kind}", row.a)
+        format!("statement {s} halts with node {}, which is of kind {}", row.a, node_kind(kind))
     })?;
     ask_type(program, s, row, INTEGER, &rules::HALT_TYPE)
 }

@@ -241,6 +241,23 @@ fn each_mistake_is_reported_by_its_rule() {
 }
 
 #[test]
+fn details_name_what_they_number() {
+    let details = [
+        (&rules::MODULE_BODY_PARAMETERS, "procedure 0 has 1 parameter"),
+        (&rules::NODE_ZERO_BYTE, "node 21 has the second byte 1"),
+        (&rules::PART_OF_DESIGNATOR, "node 6 is part of node 5, which is of kind 0 (constant)"),
+        (&rules::BODY_END, "statement 11 is the last of its body and of kind 1 (call)"),
+        (&rules::GUARDED_PARAMETER, "node 14 names variable 2, which is of kind 0 (global)"),
+        (&rules::ORDER, "node 21 has operator 12 (>=) with operands of types 1 (INTEGER) and 0 (BOOLEAN)"),
+        (&rules::NOT, "node 19 has monadic operator 2 (~) with an operand of type 1 (INTEGER)"),
+    ];
+    for (rule, detail) in details {
+        let (_, _, image) = mistakes().into_iter().find(|(broken, _, _)| *broken == rule).unwrap();
+        assert_eq!(check(&image).unwrap_err().detail, detail);
+    }
+}
+
+#[test]
 fn every_rule_is_reported() {
     let mistakes = mistakes();
     for rule in rules::ALL {

@@ -4,6 +4,7 @@ use listing::{
     children, fields_before, named, row_line, row_text, type_words, Row, Tables, Words, FIELDS, KINDS_OF_VARIABLES,
     NODES, PROCEDURES, STATEMENTS, TYPES, VARIABLES,
 };
+use model::words::counted;
 use model::Program;
 
 /// How many nodes a statement has in words; those after them are listed by themselves.
@@ -127,7 +128,7 @@ impl Dump<'_> {
         }
         for (at, row) in rows {
             let text = self.type_text(at, row);
-            self.noted(TYPES, at, &format!("  {text}"), |program| cells(program.size(at)));
+            self.noted(TYPES, at, &format!("  {text}"), |program| counted(program.size(at), "cell"));
         }
         self.rest(FIELDS, "fields of no record");
     }
@@ -195,8 +196,11 @@ impl Dump<'_> {
             while let Some(row) = self.tables[PROCEDURES].get(next).filter(|row| is_end || row.a as usize <= at) {
                 let end = variable + row.b as usize + row.c as usize;
                 let end = end.min(self.tables[VARIABLES].len());
-                self.procedure(next, variable..end);
+                self.procedure(next, at, variable..end);
                 (next, variable) = (next + 1, end);
+            }
+            if at == 0 && next == 0 {
+                self.heading("statements of no procedure");
             }
             if !is_end {
                 self.statement(at);
@@ -204,15 +208,20 @@ impl Dump<'_> {
         }
     }
 
-    fn procedure(&mut self, at: usize, variables: std::ops::Range<usize>) {
+    /// A procedure and its variables. Where its body is not what follows, it is said where it begins.
+    fn procedure(&mut self, at: usize, next_statement: usize, variables: std::ops::Range<usize>) {
         let row = self.tables[PROCEDURES][at];
-        let text = match (row_text(PROCEDURES, at, row), at) {
-            (None, _) => row_line(PROCEDURES, at, row),
-            (Some(_), 0) => "PROCEDURE p0, the module body".to_string(),
-            (Some(_), _) => format!("PROCEDURE p{at}"),
+        let start = row.a as usize;
+        let end = self.tables[PROCEDURES].get(at + 1).map_or(self.tables[STATEMENTS].len(), |next| next.a as usize);
+        let module = if at == 0 { ", the module body" } else { "" };
+        let from =
+            if start == next_statement && start < end { String::new() } else { format!(", from statement {start}") };
+        let text = match row_text(PROCEDURES, at, row) {
+            None => row_line(PROCEDURES, at, row),
+            Some(_) => format!("PROCEDURE p{at}{module}{from}"),
         };
         self.text.push('\n');
-        self.noted(PROCEDURES, at, &text, |program| format!("a frame of {}", cells(program.frame(at))));
+        self.noted(PROCEDURES, at, &text, |program| format!("a frame of {}", counted(program.frame(at), "cell")));
         for variable in variables {
             self.variable(variable, |program| format!("from cell {} of the frame", program.place(variable)));
         }
@@ -274,8 +283,4 @@ fn below(tables: &Tables, statement: usize) -> Vec<usize> {
 /// Whether a type row is what rows 0 to 2 are to be.
 fn is_scalar(at: usize, row: Row) -> bool {
     row == Row { kind: at as u8, zero: 0, a: 0, b: 0, c: 0 }
-}
-
-fn cells(count: usize) -> String {
-    format!("{count} {}", if count == 1 { "cell" } else { "cells" })
 }

@@ -1,13 +1,15 @@
 //! What the bytes of an image without six tables say of it.
 use crate::dump::NAMES;
 use listing::ROWS;
+use model::words::counted;
+use std::path::Path;
 
 /// How many bytes are shown.
 const SHOWN: usize = 64;
 
 /// The header and the counts, as far as the bytes go.
-pub fn of(file: &str, image: &[u8]) -> String {
-    let mut lines = vec![format!("{file}: {} bytes", image.len())];
+pub fn of(file: &Path, image: &[u8]) -> String {
+    let mut lines = vec![format!("{}: {}", file.display(), counted(image.len(), "byte"))];
     lines.push(match image.first() {
         Some(version) => format!("  byte 0            version {version}"),
         None => "  there is no byte 0, the version".to_string(),
@@ -37,11 +39,13 @@ fn counts(image: &[u8], lines: &mut Vec<String>) {
     lines.push(format!("  the tables end after {at} bytes; the file has {}", image.len()));
 }
 
-/// The first bytes in hexadecimal, sixteen to a line.
+/// The first bytes in hexadecimal and as letters, sixteen to a line.
 fn bytes(image: &[u8], lines: &mut Vec<String>) {
     for (k, line) in image[..image.len().min(SHOWN)].chunks(16).enumerate() {
-        let line: Vec<String> = line.iter().map(|byte| format!("{byte:02x}")).collect();
-        lines.push(format!("  {:04x}  {}", 16 * k, line.join(" ")));
+        let numbers: Vec<String> = line.iter().map(|byte| format!("{byte:02x}")).collect();
+        let letters: String =
+            line.iter().map(|byte| if (b' '..=b'~').contains(byte) { *byte as char } else { '.' }).collect();
+        lines.push(format!("  {:04x}  {:<47}  |{letters}|", 16 * k, numbers.join(" ")));
     }
 }
 

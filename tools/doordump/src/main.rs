@@ -8,6 +8,9 @@ mod header;
 mod verdict;
 
 use dump::Mark;
+use listing::{Tables, STATEMENTS};
+use std::ffi::OsString;
+use std::path::Path;
 use std::process::ExitCode;
 use verdict::Verdict;
 
@@ -17,7 +20,7 @@ Prints an image in readable words: types, variables, procedures, and statements 
 Where the image is refused, '>>' marks the refused row, and the rule that it breaks follows.
 
   --row ROW   mark the statement in this row: the row that a run gives back with its trap or outcome
-  --help      print this
+  --help, -h  print this
 
 Exit status: 0 accepted, 1 refused, 2 wrong usage or a file that cannot be read, 3 the proved check and the
 model differ. docs/REFUSALS.md explains refusals and traps, docs/IMAGE.md the image.
@@ -27,63 +30,81 @@ model differ. docs/REFUSALS.md explains refusals and traps, docs/IMAGE.md the im
 const CANNOT: u8 = 2;
 
 fn main() -> ExitCode {
-    let words: Vec<String> = std::env::args().skip(1).collect();
-    let words: Vec<&str> = words.iter().map(String::as_str).collect();
-    let done = match words[..] {
-        ["--help"] => Ok((0, HELP.to_string())),
-        ["--row", row, file] => row.parse().map_err(|_| HELP.to_string()).and_then(|row| dump_file(file, Some(row))),
-        [file] if !file.starts_with("--") => dump_file(file, None),
-        _ => Err(HELP.to_string()),
+    let done = match wish(std::env::args_os().skip(1)) {
+        Ok(Wish::Help) => Ok((0, HELP.to_string())),
+        Ok(Wish::Dump(file, row)) => dump_file(Path::new(&file), row),
+        Err(wrong) => Err(format!("{wrong}\nusage: doordump [--row ROW] FILE.img; --help says more")),
     };
-    match done.and_then(|(status, text)| print(&text).map(|()| status)) {
+    let printed = done.and_then(|(status, text)| {
+        listing::print(&text).map(|()| status).map_err(|error| format!("standard output: {error}"))
+    });
+    match printed {
         Ok(status) => ExitCode::from(status),
         Err(message) => {
-            eprintln!("{}", message.trim_end());
+            eprintln!("doordump: {message}");
             ExitCode::from(CANNOT)
         }
     }
 }
 
-fn print(text: &str) -> Result<(), String> {
-    use std::io::Write;
-    std::io::stdout().write_all(text.as_bytes()).map_err(|error| format!("doordump: standard output: {error}"))
+/// What the words of the command ask for.
+enum Wish {
+    Help,
+    Dump(OsString, Option<usize>),
+}
+
+fn wish(mut words: impl Iterator<Item = OsString>) -> Result<Wish, String> {
+    let (mut file, mut row) = (None, None);
+    while let Some(word) = words.next() {
+        match word.to_str() {
+            Some("--help" | "-h") => return Ok(Wish::Help),
+            Some("--row") => row = Some(row_of(&words.next().unwrap_or_default().to_string_lossy())?),
+            Some(option) if option.starts_with("--row=") => row = Some(row_of(&option["--row=".len()..])?),
+            Some(option) if option.starts_with('-') => return Err(format!("there is no option {option}")),
+            _ if file.is_some() => return Err("one file at a time".to_string()),
+            _ => file = Some(word),
+        }
+    }
+    file.map(|file| Wish::Dump(file, row)).ok_or_else(|| "no file is named".to_string())
+}
+
+fn row_of(word: &str) -> Result<usize, String> {
+    word.parse().map_err(|_| format!("--row needs the number of a statement row, not '{word}'"))
 }
 
 /// The exit status and the text for a file.
-fn dump_file(file: &str, row: Option<usize>) -> Result<(u8, String), String> {
-    let image = std::fs::read(file).map_err(|error| format!("doordump: {file}: {error}"))?;
+fn dump_file(file: &Path, row: Option<usize>) -> Result<(u8, String), String> {
+    let name = file.display();
+    let image = std::fs::read(file).map_err(|error| format!("{name}: {error}"))?;
     let verdict = Verdict::of(&image);
-    let Ok(tables) = listing::tables_of(&image) else {
-        return Ok((verdict.status(), header::of(file, &image) + &verdict.explained()));
+    let text = match listing::tables_of(&image) {
+        Ok(tables) => {
+            let dumped = dump_tables(&verdict, &tables, row).map_err(|wrong| format!("{name} {wrong}"))?;
+            format!("{name}: {}\n{dumped}", dump::head(&image, &tables))
+        }
+        Err(_) => header::of(file, &image) + &verdict.explained(),
     };
-    let statements = tables[listing::STATEMENTS].len();
-    if let Some(row) = row.filter(|row| *row >= statements) {
-        return Err(format!("doordump: {file} has statement rows 0 to {}, and no {row}", statements - 1));
-    }
-    let mark = match (verdict.mark(&tables), row) {
-        (None, Some(row)) => Some(Mark { table: listing::STATEMENTS, row }),
-        (mark, _) => mark,
-    };
-    let mut text = format!("{file}: {}\n{}\n", dump::head(&image, &tables), verdict.line());
-    text += &dump::of(&tables, verdict.program(), mark);
-    if verdict.is_about_names() {
-        text += &dump::names(&tables);
-    }
-    text += &verdict.explained();
-    if let Some(row) = row {
-        text += &stopped(&verdict, &tables, row);
-    }
-    Ok((verdict.status(), text))
+    let refused = row.is_some() && verdict.program().is_none();
+    let no_run = "\nno run stops at a statement of this image: it is refused before its first step\n";
+    Ok((verdict.status(), text + if refused { no_run } else { "" }))
 }
 
-/// What is said of the row that a run gave back.
-fn stopped(verdict: &Verdict, tables: &listing::Tables, row: usize) -> String {
-    match verdict.program() {
-        Some(program) => {
-            let procedure = program.procedure_at(row);
-            let text = dump::statement(tables, row);
-            format!("\nstatement row {row} is in p{procedure}: {text}\n")
-        }
-        None => "\nno run stops at a statement of this image: it is refused before its first step\n".to_string(),
+/// The verdict, the tables with their mark, and why, or the statement that a run stopped at.
+fn dump_tables(verdict: &Verdict, tables: &Tables, row: Option<usize>) -> Result<String, String> {
+    let stopped = verdict.program().zip(row);
+    let statements = tables[STATEMENTS].len();
+    if let Some((_, row)) = stopped.filter(|(_, row)| *row >= statements) {
+        return Err(format!("has statement rows 0 to {}, and no {row}", statements - 1));
     }
+    let mark = verdict.mark(tables).or(stopped.map(|(_, row)| Mark { table: STATEMENTS, row }));
+    let mut text = format!("{}\n{}", verdict.line(), dump::of(tables, verdict.program(), mark));
+    if verdict.is_about_names() {
+        text += &dump::names(tables);
+    }
+    text += &verdict.explained();
+    if let Some((program, row)) = stopped {
+        let (procedure, words) = (program.procedure_at(row), dump::statement(tables, row));
+        text += &format!("\nstatement row {row} is in p{procedure}: {words}\n");
+    }
+    Ok(text)
 }

@@ -1,7 +1,7 @@
 //! What the check says of an image, and why.
 use crate::dump::{Mark, NAMES};
 use listing::{Tables, FIELDS, NODES, PROCEDURES, STATEMENTS, TYPES, VARIABLES};
-use model::{Fault, Program};
+use model::{rules, Fault, Program};
 
 /// The eleven questions, in document 01's words.
 const QUESTIONS: [&str; 11] = [
@@ -31,24 +31,20 @@ fn table_of(question: u32) -> Option<usize> {
 }
 
 /// What to do about a refusal by question 1, 2, 3, or a later one.
-const TO_DO: [[&str; 2]; 4] = [
-    [
-        "This is no image, or one of another version. Send the file again. If it is refused again,",
-        "ask its tool maker for an image of version 1.",
-    ],
-    [
-        "The file was cut off, or something was added to it. Send it again, as bytes and not as text.",
-        "If it is refused again, ask its tool maker.",
-    ],
-    [
-        "The length is right and the tables are not. Send the file again. If it is refused again, its",
-        "tool wrote a wrong count: give its tool maker this text and the file.",
-    ],
-    [
-        "The file came whole, and this row is wrong. Send it again. If it is refused again, its tool",
-        "made a mistake: give its tool maker this text and the file.",
-    ],
+const TO_DO: [&str; 4] = [
+    "This is no image, or one of another version. Send the file again. If it is refused again,\n\
+     ask its tool maker for an image of version 1.",
+    "The file was cut off, or something was added to it. Send it again, as bytes and not as text.\n\
+     If it is refused again, send it another way. If that does not help, ask its tool maker.",
+    "The length is right and the tables are not. Send the file again. If it is refused again, its\n\
+     tool probably wrote a wrong count: give its tool maker this text and the file.",
+    "The length is right, and this row breaks the rule; the mistake may also be in a row that it\n\
+     names. Send the file again. If it is refused with the same numbers, its tool probably made a\n\
+     mistake: give its tool maker this text and the file.",
 ];
+
+/// What to do about a file without bytes.
+const EMPTY: &str = "The file is empty. Send it again.";
 
 /// The proved check's answer beside the model's.
 pub struct Verdict {
@@ -116,7 +112,17 @@ impl Verdict {
                 let cells = globals + frame;
                 format!("accepted; a run needs {cells} cells ({globals} of globals, {frame} of p0), more for calls")
             }
-            None => answer(self.refusal(), self.row()),
+            None => answer(self.refusal(), self.row()) + self.no_row(),
+        }
+    }
+
+    /// What is said where no row of the question's table is at fault.
+    fn no_row(&self) -> &'static str {
+        match self.model.as_ref().map_err(|fault| fault.rule) {
+            _ if !self.agreed() => "",
+            Err(rule) if rule == &rules::FIELD_CLAIMED => " (there is none: a field belongs to no record)",
+            Err(rule) if rule == &rules::VARIABLE_CLAIMED => " (there is none: a variable belongs to no procedure)",
+            _ => "",
         }
     }
 
@@ -124,7 +130,7 @@ impl Verdict {
     pub fn explained(&self) -> String {
         match (&self.model, self.agreed()) {
             (Ok(_), true) => String::new(),
-            (Err(fault), true) => explained(fault),
+            (Err(fault), true) => explained(&self.line(), fault),
             (Ok(_), false) => self.differing("accepted"),
             (Err(fault), false) => self.differing(&answer(fault.refusal, fault.row)),
         }
@@ -147,17 +153,18 @@ fn answer(refusal: u32, row: u32) -> String {
     }
 }
 
-fn explained(fault: &Fault) -> String {
-    let question = fault.refusal as usize - 1;
-    let [to_do, or_else] = TO_DO[question.min(3)];
+fn explained(line: &str, fault: &Fault) -> String {
+    let Fault { refusal, row, rule, detail } = fault;
+    let question = *refusal as usize - 1;
+    let to_do = if *rule == &rules::FIRST_BYTE { EMPTY } else { TO_DO[question.min(3)] };
     let lines = [
         String::new(),
-        answer(fault.refusal, fault.row),
+        line.to_string(),
+        format!("  reader     shows refusal {refusal} and row {row}, or {}", refusal * 65536 + row),
         format!("  question   {}", QUESTIONS[question]),
-        format!("  rule       {}", fault.rule.words),
-        format!("  broken by  {}", fault.detail),
-        format!("  to do      {to_do}"),
-        format!("             {or_else}"),
+        format!("  rule       {}", rule.words),
+        format!("  broken by  {detail}"),
+        format!("  to do      {}", to_do.replace('\n', "\n             ")),
     ];
     lines.join("\n") + "\n"
 }

@@ -149,6 +149,13 @@ fn run(image: &str) -> door::Numbers {
     door::run_numbers(&image, &[], &mut vec![0; 8192], &mut vec![0; 4096], 100_000)
 }
 
+/// The statement row that a section gives for its image.
+fn row_in(section: &str) -> Option<u32> {
+    let text = section.split_whitespace().collect::<Vec<_>>().join(" ");
+    let (_, after) = text.split_once("at statement row ")?;
+    after.split(':').next()?.parse().ok()
+}
+
 /// The image that a section names.
 fn image_in(section: &str) -> &str {
     let (before, _) = section.split_once(".img`").expect("the section names an image");
@@ -159,9 +166,12 @@ fn image_in(section: &str) -> &str {
 fn the_images_in_the_document_trap_as_stated() {
     let document = text_of("docs/REFUSALS.md");
     for trap in 1..=10 {
-        let image = image_in(section(&document, &format!("Trap {trap}")));
-        assert_eq!(run(image).trap, trap, "{image}");
+        let section = section(&document, &format!("Trap {trap}"));
+        let trapped = run(image_in(section));
+        assert_eq!((trapped.trap, Some(trapped.row)), (trap, row_in(section)), "{section}");
     }
-    let endless = run(image_in(section(&document, "Steps used up")));
+    let section = section(&document, "Steps used up");
+    let endless = run(image_in(section));
     assert_eq!((endless.refusal, endless.outcome, endless.steps), (0, 0, 100_000));
+    assert_eq!(Some(endless.row), row_in(section));
 }

@@ -82,6 +82,15 @@ pub const KINDS_OF_VARIABLES: [&str; 4] = ["global", "local", "value", "VAR"];
 /// The dyadic operators, from number 1 on.
 const OPERATORS: [&str; 16] = ["+", "-", "*", "DIV", "MOD", "/", "=", "#", "<", "<=", ">", ">=", "&", "OR", "IN", ".."];
 
+/// Writes a text to standard output. That its reader wants no more, as `head` does, is no error.
+pub fn print(text: &str) -> std::io::Result<()> {
+    use std::io::{ErrorKind, Write};
+    match std::io::stdout().write_all(text.as_bytes()) {
+        Err(error) if error.kind() == ErrorKind::BrokenPipe => Ok(()),
+        done => done,
+    }
+}
+
 /// The bytes of an image with these tables.
 pub fn image_of(tables: &Tables) -> Vec<u8> {
     let mut rows = Vec::new();
