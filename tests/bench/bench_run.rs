@@ -14,12 +14,14 @@ use std::hint::black_box;
 use std::path::{Path, PathBuf};
 use std::process::{Command, ExitCode};
 
+#[path = "../../rust/door/src/numbers.rs"]
+mod numbers;
 mod plain;
 mod plain_run;
-use plain_run::RunResult;
+use numbers::Numbers;
 
 type Failed = Box<dyn std::error::Error>;
-type Run = fn(&[u8], &[i32], &mut [i64], &mut [i32], u32) -> RunResult;
+type Run = fn(&[u8], &[i32], &mut [i64], &mut [i32], u32) -> Numbers;
 
 #[cfg(proved)]
 const ENGINES: &[(&str, Run)] = &[("proved", proved), ("plain", plain_run::run)];
@@ -41,11 +43,11 @@ extern "C" {
         output: *mut i32,
         output_len: usize,
         steps: u32,
-    ) -> RunResult;
+    ) -> Numbers;
 }
 
 #[cfg(proved)]
-fn proved(image: &[u8], input: &[i32], store: &mut [i64], output: &mut [i32], steps: u32) -> RunResult {
+fn proved(image: &[u8], input: &[i32], store: &mut [i64], output: &mut [i32], steps: u32) -> Numbers {
     // SAFETY: each pointer comes with the length of its slice, and no two slices that are written overlap.
     unsafe {
         door_run(
@@ -77,12 +79,6 @@ fn main() -> ExitCode {
             ExitCode::from(2)
         }
     }
-}
-
-fn nine(r: RunResult) -> [i64; 9] {
-    let [refusal, fault, outcome, trap] = [r.refusal, r.fault, r.outcome, r.trap].map(i64::from);
-    let [row, steps, read, written] = [r.row, r.steps, r.read, r.written].map(i64::from);
-    [refusal, fault, outcome, trap, r.halt.into(), row, steps, read, written]
 }
 
 // ---- the answers
@@ -161,8 +157,8 @@ fn vectors(folders: &[String]) -> Result<bool, Failed> {
             let mut output = vec![OUTPUT_FILL; case.places];
             let result = run(&case.image, &case.input, &mut store, &mut output, case.steps);
             let mut faults = Vec::new();
-            if nine(result)[..] != case.numbers[..] {
-                faults.push(format!("expected {:?}, not {:?}", case.numbers, nine(result)));
+            if result.in_order()[..] != case.numbers[..] {
+                faults.push(format!("expected {:?}, not {:?}", case.numbers, result.in_order()));
             }
             if case.output[..] != output[..case.output.len()] {
                 faults.push("other outputs".to_string());
@@ -389,14 +385,14 @@ fn timed(path: &Path, options: &Options) -> Result<Option<Timed>, Failed> {
     }
     let (result, store, _) = &answers[PLAIN];
     if answers[0] != answers[PLAIN] {
-        println!("{name}: proved {:?}, plain {:?}", nine(answers[0].0), nine(*result));
+        println!("{name}: proved {:?}, plain {:?}", answers[0].0.in_order(), result.in_order());
         if answers[0].1 != answers[PLAIN].1 || answers[0].2 != answers[PLAIN].2 {
             println!("{name}: store or outputs differ");
         }
         return Ok(None);
     }
     if result.refusal != 0 || result.steps != steps {
-        println!("{name}: it does not take {steps} steps: {:?}", nine(*result));
+        println!("{name}: it does not take {steps} steps: {:?}", result.in_order());
         return Ok(None);
     }
     if globals[..] != store[..globals.len()] {

@@ -5,25 +5,11 @@
 //!
 //! What the check has shown is not asked again at each step: an arm that no accepted image reaches is `unreachable!`,
 //! and a cell is taken as the kind that its type gives.
+use crate::numbers::Numbers;
 use crate::plain::{self, Accepted};
 
 const RECORD: u8 = plain::RECORD;
 const MOST_CELLS: usize = 65536;
-
-/// The nine numbers of a run, in document 01's order; `fault` is the row of refusal.
-#[repr(C)]
-#[derive(Clone, Copy, Debug, Default, PartialEq, Eq)]
-pub struct RunResult {
-    pub refusal: u32,
-    pub fault: u32,
-    pub outcome: u32,
-    pub trap: u32,
-    pub halt: i32,
-    pub row: u32,
-    pub steps: u32,
-    pub read: u32,
-    pub written: u32,
-}
 
 // Traps and values are 32 bits wide, so that an answer is two registers.
 
@@ -585,8 +571,8 @@ impl Program<'_> {
 
 // ---- the run
 
-pub fn run(image: &[u8], input: &[i32], store: &mut [i64], output: &mut [i32], steps: u32) -> RunResult {
-    let refused = |refusal, fault| RunResult { refusal, fault, ..RunResult::default() };
+pub fn run(image: &[u8], input: &[i32], store: &mut [i64], output: &mut [i32], steps: u32) -> Numbers {
+    let refused = |refusal, fault| Numbers { refusal, fault, ..Numbers::default() };
     let accepted = match plain::accept(image) {
         Ok(accepted) => accepted,
         Err((question, row)) => return refused(question, row as u32),
@@ -614,7 +600,7 @@ fn advance(
     output: &mut [i32],
     mut s: Registers,
     n: u32,
-) -> RunResult {
+) -> Numbers {
     let (mut outcome, mut trap, mut halt, mut steps) = (0, 0, 0, 0);
     while steps < n {
         steps += 1;
@@ -630,5 +616,5 @@ fn advance(
             }
         }
     }
-    RunResult { refusal: 0, fault: 0, outcome, trap, halt, row: s.row, steps, read: s.read, written: s.written }
+    Numbers { refusal: 0, fault: 0, outcome, trap, halt, row: s.row, steps, read: s.read, written: s.written }
 }

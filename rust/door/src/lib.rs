@@ -44,6 +44,9 @@
 #![deny(missing_docs)]
 #![warn(unsafe_op_in_unsafe_fn)]
 
+mod numbers;
+pub use numbers::Numbers;
+
 use std::fmt;
 
 /// The longest image that is accepted, in bytes. A longer one is refused, with no harm.
@@ -317,30 +320,6 @@ impl fmt::Display for Report {
         write!(f, "{outcome}, statement {row}, {steps} step{}", plural(steps as usize))?;
         write!(f, ", {read} input{} read, {written} output{} written", plural(read), plural(written))
     }
-}
-
-/// The nine numbers of a run, in document 01's order: `struct door_result` of `include/door.h`.
-#[repr(C)]
-#[derive(Clone, Copy, Debug, Default, PartialEq, Eq)]
-pub struct Numbers {
-    /// 0, or why nothing was run: 1 to 13.
-    pub refusal: u32,
-    /// The row of refusal.
-    pub fault: u32,
-    /// 0 steps used up, 1 finished, 2 trapped.
-    pub outcome: u32,
-    /// 0 unless trapped, else 1 to 10.
-    pub trap: u32,
-    /// HALT's number with trap 10, else 0.
-    pub halt: i32,
-    /// The statement row: of the last step where it finished or trapped, else of the next.
-    pub row: u32,
-    /// Steps taken.
-    pub steps: u32,
-    /// Inputs read.
-    pub read: u32,
-    /// Outputs written.
-    pub written: u32,
 }
 
 impl Numbers {

@@ -167,7 +167,7 @@ fn show_case(seed: u64, number: u64) -> bool {
     }
     let mut counts = Counts::new();
     let mut watcher = |lent: &Surroundings, numbers: &door::Numbers| {
-        say(&format!("run with {}: {}", lent.told(), nine_numbers(numbers)));
+        say(&format!("run with {}: {numbers}", lent.told()));
     };
     let answer = compare(|| case, &mut counts, &mut watcher);
     match &answer {
@@ -175,12 +175,6 @@ fn show_case(seed: u64, number: u64) -> bool {
         Err(what) => say(what),
     }
     answer.is_ok()
-}
-
-/// As `doorrun` prints them.
-fn nine_numbers(numbers: &door::Numbers) -> String {
-    let door::Numbers { refusal, fault, outcome, trap, halt, row, steps, read, written } = numbers;
-    format!("{refusal} {fault} {outcome} {trap} {halt} {row} {steps} {read} {written}")
 }
 
 /// Prints a line. Who closes standard output has read enough: the exit status still says what was found.

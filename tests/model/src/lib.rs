@@ -11,6 +11,7 @@
 //! | `typing` | Type rules; questions 10 and 11 |
 //! | `operators` | Values, operators, traps |
 //! | `machine` | Tagged machine: store, evaluation, statements |
+//! | `numbers` | What a run returns, as `rust/door` has it |
 //! | `sound` | Sound |
 //! | `rules` | Each thing that a question asks, as a sentence |
 //! | `words` | The words of a fault's detail |
@@ -18,6 +19,8 @@
 mod forms;
 pub mod image;
 pub mod machine;
+#[path = "../../../rust/door/src/numbers.rs"]
+mod numbers;
 pub mod operators;
 pub mod program;
 pub mod rules;
@@ -28,22 +31,9 @@ pub mod words;
 
 pub use image::{tables, Row, Tables};
 pub use machine::{Cell, Machine, State, Step};
+pub use numbers::Numbers;
 pub use program::Program;
 pub use sound::sound;
-
-/// The nine numbers of a run, in document 01's order.
-#[derive(Clone, Copy, Debug, Default, PartialEq, Eq)]
-pub struct Numbers {
-    pub refusal: u32,
-    pub fault: u32,
-    pub outcome: u32,
-    pub trap: u32,
-    pub halt: i32,
-    pub row: u32,
-    pub steps: u32,
-    pub read: u32,
-    pub written: u32,
-}
 
 /// Why an image is refused.
 #[derive(Clone, Debug, PartialEq, Eq)]

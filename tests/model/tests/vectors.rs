@@ -1,7 +1,6 @@
 //! Every image of `vectors/` with the answer stored there. `vectors/README.md` says where the answers come from. Sound
 //! is decided after every step of every run.
 
-use model::Numbers;
 use std::fs;
 use std::path::{Path, PathBuf};
 use std::str::FromStr;
@@ -28,15 +27,6 @@ fn numbers<T: FromStr<Err: std::fmt::Debug>>(line: &str) -> Vec<T> {
     line.split_whitespace().map(|word| word.parse().unwrap()).collect()
 }
 
-/// The nine numbers in the order in which `doorrun` prints them.
-fn nine(n: &Numbers) -> Vec<i64> {
-    let unsigned = |x: u32| i64::from(x);
-    let halt = i64::from(n.halt);
-    let [refusal, fault, outcome, trap] = [n.refusal, n.fault, n.outcome, n.trap].map(unsigned);
-    let [row, steps, read, written] = [n.row, n.steps, n.read, n.written].map(unsigned);
-    vec![refusal, fault, outcome, trap, halt, row, steps, read, written]
-}
-
 /// What `doorrun` prints of an image: "the first 29,714 bytes of standard input with no inputs, 8,192 cells, 4,096
 /// outputs, 100,000 steps".
 fn doorrun(image: &[u8]) -> Vec<i64> {
@@ -44,7 +34,7 @@ fn doorrun(image: &[u8]) -> Vec<i64> {
     let mut output = [0; 4096];
     let answer = model::run(image, &[], &mut [0; 8192], &mut output, 100_000).unwrap();
     let written = output[..answer.written as usize].iter().map(|&x| i64::from(x));
-    nine(&answer).into_iter().chain(written).collect()
+    answer.in_order().into_iter().chain(written).collect()
 }
 
 /// Each image of a folder with an `expect.txt`.
@@ -114,7 +104,7 @@ fn runs_folder(name: &str) {
             let mut store = vec![fill; cells as usize];
             let mut output = vec![7; places as usize];
             let answer = run(&image(&folder, name), &input, &mut store, &mut output, steps as u32).unwrap();
-            assert_eq!(nine(&answer), numbers::<i64>(parts[2]), "{name}");
+            assert_eq!(answer.in_order()[..], numbers::<i64>(parts[2])[..], "{name}");
             assert_eq!(output, numbers::<i32>(parts[3]), "{name}");
             assert_eq!(store, numbers::<i64>(parts[4]), "{name}");
         }

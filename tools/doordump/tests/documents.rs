@@ -70,9 +70,8 @@ fn the_worked_example_runs_as_stated() {
     let image = first_image();
     let (mut store, mut output) = ([-1; 11], [7; 4]);
     let numbers = door::run_numbers(&image, &[], &mut store, &mut output, 100);
-    let door::Numbers { refusal, fault, outcome, trap, halt, row, steps, read, written } = numbers;
-    let mut printed = format!("{refusal} {fault} {outcome} {trap} {halt} {row} {steps} {read} {written}\n");
-    for number in &output[..written as usize] {
+    let mut printed = format!("{numbers}\n");
+    for number in &output[..numbers.written as usize] {
         printed += &format!("{number}\n");
     }
     assert_eq!(printed, block_with(&document, "0 0 1 0 0 "));
