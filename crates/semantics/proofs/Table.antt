@@ -6,13 +6,13 @@ use Prim.Native.Nat.{ℕ}
 use lib.IntN.{ℤ, pos, negℤ}
 use Rattle.prelude.specs.Parts.{joined}
 use Rattle.image.specs.declared.Verdict.the-variants.{Kept}
-use Rattle.values.specs.Values.{trapNumber, bind}
+use Rattle.values.specs.Values.{trapNumber}
 use Rattle.values.specs.declared.Value.{Value}
 use Rattle.values.specs.declared.Value.the-variants as Vs
 use Rattle.values.specs.declared.Trap.the-variants as Ts
 use Rattle.values.specs.declared.Answer.{Answer}
 use Rattle.values.specs.declared.Answer.the-variants as As
-use Rattle.operators.specs.Operators.{dyadicOf, monadicOf, appliedTo}
+use Rattle.operators.specs.Operators.{dyadicOf, monadicOf}
 use Rattle.shapes.specs.Sizes.{sizeOf, layoutOf}
 use Rattle.relations.specs.Extends.{extends}
 use Rattle.types.specs.Question.{question4}
@@ -27,7 +27,7 @@ use Rattle.semantics.specs.Running.{programOf, ranOf, resultOf, storeAft
 use Rattle.semantics.proofs.Opened.{rows, shapes, sizes, integers, operators, run}
 use Rattle.semantics.proofs.Images.{start, count, row, zeros, nine}
 
--- ---- values: dyadic 4 DIV, 5 MOD, 7 =, 13 &, 15 IN, 16 range; monadic 1 -
+-- ---- values: dyadic 4 DIV, 5 MOD, 15 IN, 16 range; monadic 1 -
 
 -- an INTEGER from 0 on, and one below
 abbrev pub int : ℕ → Value
@@ -78,12 +78,55 @@ pub case-5 :
 unfolding rows integers operators
 case-5 = (refl, refl)
 
--- 6. "FALSE & (7 DIV 0 = 1): FALSE." The right operand by itself traps.
+-- ---- whole images
+
+-- the state of the tagged machine after n steps, and in it the object and the value of node row r
+abbrev pub stateAfter : List ℕ → ℕ → State Cell
+stateAfter image n = ranOf image [] (zeros 32) (zeros 1) n .state
+
+abbrev pub foundAfter : List ℕ → ℕ → ℕ → Found
+foundAfter image n r =
+    let s = stateAfter image n in
+    findOf tagged (programOf image) (s .at .base) (s .at .top) (s .cells) r
+
+abbrev pub valueAfter : List ℕ → ℕ → ℕ → Answer
+valueAfter image n r =
+    let s = stateAfter image n in
+    evalOf tagged (programOf image) (s .at .base) (s .at .top) (s .cells) r
+
+-- 0. BEGIN IF FALSE & (7 DIV 0 = 1) THEN END END
+abbrev pub skipping : List ℕ
+skipping = joined (
+    start 121
+    ∷ count 3  -- types
+    ∷ row 0 0 0 0  -- 0 BOOLEAN
+    ∷ row 1 0 0 0  -- 1 INTEGER
+    ∷ row 2 0 0 0  -- 2 SET
+    ∷ count 0  -- fields
+    ∷ count 0  -- variables
+    ∷ count 1  -- procedures
+    ∷ row 0 0 0 0  -- 0 the module body, from statement 0 on
+    ∷ count 7  -- nodes
+    ∷ row 0 0 0 0  -- 0 FALSE
+    ∷ row 0 1 0 7  -- 1 the INTEGER 7
+    ∷ row 0 1 0 0  -- 2 the INTEGER 0
+    ∷ row 5 1 2 4  -- 3 7 DIV 0
+    ∷ row 0 1 0 1  -- 4 the INTEGER 1
+    ∷ row 5 3 4 7  -- 5 7 DIV 0 = 1
+    ∷ row 5 0 5 13  -- 6 FALSE & (7 DIV 0 = 1)
+    ∷ count 2  -- statements
+    ∷ row 2 6 1 0  -- 0 go to 1 if node 6 is FALSE
+    ∷ row 4 0 0 0  -- 1 RETURN
+    ∷ [])
+
+-- 6. "FALSE & (7 DIV 0 = 1): FALSE." The right operand by itself traps; the program that asks both finishes.
 pub case-6 :
-    let right = bind (dyadicOf 4 (int 7) (int 0)) (λ q. dyadicOf 7 q (int 1)) in
-    (appliedTo 13 (Vs.Bool false) right ≡ As.Val (Vs.Bool false)) × (right ≡ As.Trap Ts.Divisor)
-unfolding rows integers operators
-case-6 = (refl, refl)
+    (checkOf skipping ≡ Accepted)
+    × (valueAfter skipping 0 5 ≡ As.Trap Ts.Divisor)
+    × (valueAfter skipping 0 6 ≡ As.Val (Vs.Bool false))
+    × (resultOf skipping [] (zeros 32) [] 100 ≡ nine 0 0 1 0 0 1 2 0 0)
+unfolding run
+case-6 = (refl, refl, refl, refl)
 
 -- ---- types
 
@@ -106,22 +149,6 @@ pub case-7 :
     × (extends types 3 4 ≡ false)
 unfolding rows shapes sizes
 case-7 = (refl, refl, refl, refl, refl, refl)
-
--- ---- whole images
-
--- the state of the tagged machine after n steps, and in it the object and the value of node row r
-abbrev pub stateAfter : List ℕ → ℕ → State Cell
-stateAfter image n = ranOf image [] (zeros 32) (zeros 1) n .state
-
-abbrev pub foundAfter : List ℕ → ℕ → ℕ → Found
-foundAfter image n r =
-    let s = stateAfter image n in
-    findOf tagged (programOf image) (s .at .base) (s .at .top) (s .cells) r
-
-abbrev pub valueAfter : List ℕ → ℕ → ℕ → Answer
-valueAfter image n r =
-    let s = stateAfter image n in
-    evalOf tagged (programOf image) (s .at .base) (s .at .top) (s .cells) r
 
 -- VAR large: type 4; small: type 3;
 -- 1. PROCEDURE change (VAR v: type 3); BEGIN IF v IS type 4 THEN v := small END END change;
