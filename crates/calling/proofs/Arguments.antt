@@ -27,8 +27,8 @@ use Rattle.semantics.specs.declared.Registers.{Registers}
 use Rattle.semantics.specs.Memory.{bare, partAt, overwrite}
 use Rattle.semantics.specs.Layout.{Program, placeOf}
 use Rattle.semantics.specs.Finding.{findOf, evalOf}
-use Rattle.semantics.specs.Stepping.{State, Next, Next.trapped, onPlace, onValue, onPart, withCells, argumentCells}
-use Rattle.semantics.specs.Stepping.{passed}
+use Rattle.semantics.specs.Stepping.{State, Next, Next.trapped, Next.stuck, onPlace, onValue, onPart, withCells}
+use Rattle.semantics.specs.Stepping.{argumentCells, passed}
 use Rattle.semantics.specs.Running.{programOf}
 use Rattle.semantics.proofs.Found.{the-type as foundType}
 use Rattle.semantics.proofs.Kinship.{scalar-layout}
@@ -132,12 +132,12 @@ module _ (s : State ℤ) where
   place-copied place size {cells} found low e =
       passes-done {cells = cells} (λ after. rw (found, e) (choose-yes _ _ _ (le-leb _ _ low)))
 
-  pub place-beyond : {x : Found} {object : Place} (place size : ℕ) {cells : List ℤ} → x ≡ Fs.At object
+  pub place-beyond : {x : Found} {object : Place} (place size : ℕ) → x ≡ Fs.At object
       → s .at .top < object .address + size
-      → Passes s (λ after. onPlace s x (λ o. onPart s (o .address) size (framed s place after))) Ps.Stuck cells
-  unfolding onPlace onPart
-  place-beyond place size {cells} found high =
-      passes-stuck {cells = cells} (λ after. rw found (choose-no _ _ _ (lt-leb _ _ high)))
+      → Passes s (λ after. onPlace s x (λ o. onPart s (o .address) size (framed s place after))) Ps.Stuck (s .cells)
+  unfolding onPlace onPart withCells
+  place-beyond place size found high =
+      passes-stuck {cells = s .cells} (λ after. rw found (choose-no _ _ _ (lt-leb _ _ high)))
 
 -- what comes to the same
 passes-as : {s : State ℤ} {x y : (State ℤ → Next ℤ) → Next ℤ} {r : Passing} {cells : List ℤ}
@@ -232,7 +232,7 @@ passed-off : {s u : State ℤ} {x y : (State ℤ → Next ℤ) → Next ℤ} {r 
 passed-off next h same e (passes-done k) = neither (omega arith) (omega arith) h
 passed-off next h same e (passes-trap {t = t} k) =
     passes-trap (λ after. e after ∙ k (next after) ∙ ap (λ (v : State ℤ). trapped t (pos 0) v) same)
-passed-off next h same e (passes-stuck k) = passes-stuck (λ after. e after ∙ k (next after))
+passed-off next h same e (passes-stuck k) = passes-stuck (λ after. e after ∙ k (next after) ∙ ap stuck same)
 
 -- the first of n arguments
 passed-first : (g : Program) (k a n : ℕ) (s : State ℤ) (after : State ℤ → Next ℤ) → 0 < n

@@ -68,7 +68,7 @@ shows-ended : {s : State ℤ} {x : (State ℤ → Next ℤ) → Next ℤ} {r : P
 unfolding endedBy withCells
 shows-ended h (passes-done k) next = neither (omega arith) (omega arith) h
 shows-ended h (passes-trap k) next = rw (k next) (shows-trap refl refl)
-shows-ended h (passes-stuck k) next = rw (k next) shows-stuck
+shows-ended h (passes-stuck k) next = rw (k next) (shows-stuck refl refl)
 
 -- a step that goes on does so whatever the cells before
 goes-from : {s : Registers} (before : List ℤ) {cells after output out : List ℤ} {u : State ℤ} {x : Step}

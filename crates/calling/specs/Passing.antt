@@ -60,4 +60,5 @@ pub data Passes (s : State ℤ) (x : (State ℤ → Next ℤ) → Next ℤ) : Pa
   passes-trap : {t : Trap} {cells : List ℤ}
       → ((next : State ℤ → Next ℤ) → x next ≡ trapped t (pos 0) (withCells s cells))
       → Passes s x (Ps.Trapped t) cells
-  passes-stuck : {cells : List ℤ} → ((next : State ℤ → Next ℤ) → x next ≡ stuck) → Passes s x Ps.Stuck cells
+  passes-stuck : {cells : List ℤ} → ((next : State ℤ → Next ℤ) → x next ≡ stuck (withCells s cells))
+      → Passes s x Ps.Stuck cells

@@ -31,8 +31,8 @@ pub record OneLater (s q : Registers) (cells : List ℤ) : Type 0 where
   pub read : q .read ≤ s .read + 1
   pub written : q .written ≤ s .written + 1
 
--- from state s: what a step comes to, the code's answer, and the cells and outputs that it leaves. A trap keeps the
--- numbers. Where the machine is stuck nothing is said of the cells.
+-- from state s: what a step comes to, the code's answer, and the cells and outputs that it leaves. A step that traps or
+-- is stuck keeps the numbers and the output.
 pub data Shows (s : State ℤ) : Next ℤ → Step → List ℤ → List ℤ → Type 0 where
   shows-goes : {u : State ℤ} {q : Registers} {cells output : List ℤ} → u ≡ stateOf q cells output
       → OneLater (s .at) q cells → Shows s (goes u) (Steps.Goes q) cells output
@@ -40,4 +40,5 @@ pub data Shows (s : State ℤ) : Next ℤ → Step → List ℤ → List ℤ →
       → Shows s finished Steps.Finished cells output
   shows-trap : {t : Trap} {z : ℤ} {u : State ℤ} {cells output : List ℤ} → u ≡ stateOf (s .at) cells output
       → output ≡ s .output → Shows s (trapped t z u) (Steps.Trapped t z) cells output
-  shows-stuck : {cells output : List ℤ} → Shows s stuck Steps.Stuck cells output
+  shows-stuck : {u : State ℤ} {cells output : List ℤ} → u ≡ stateOf (s .at) cells output → output ≡ s .output
+      → Shows s (stuck u) Steps.Stuck cells output

@@ -97,11 +97,9 @@ pub shows-last : {s : State ℤ} {x : Next ℤ} {r : Step} {cells output : List 
     → Stops (onward x s k next) (stopBy r (s .at) k) cells output
 unfolding onward stopBy stopOf
 shows-last (shows-goes e later) t k next = no-three (omega arith) (omega arith) (omega arith) t
-shows-last (shows-end c o) t k next = record { answer = refl; cells-left = λ h. sym c; output-left = λ h. sym o }
-shows-last (shows-trap e o) t k next =
-    record { answer = rw e; cells-left = λ h. rw e; output-left = λ h. rw e }
-shows-last shows-stuck t k next =
-    record { answer = refl; cells-left = λ h. absurd (h refl); output-left = λ h. absurd (h refl) }
+shows-last (shows-end c o) t k next = record { answer = refl; cells-left = sym c; output-left = sym o }
+shows-last (shows-trap e o) t k next = record { answer = rw e; cells-left = rw e; output-left = rw e }
+shows-last (shows-stuck e o) t k next = record { answer = rw e; cells-left = rw e; output-left = rw e }
 
 -- ---- the end of the run
 
@@ -119,7 +117,7 @@ module _ (g : Program) (input : List ℤ) where
   unfolding runFrom stopOf
   along-out {n} {k} h most =
       let none : n - k ≡ 0 = omega arith in
-      rw (h .rest, none) (record { answer = refl; cells-left = λ e. refl; output-left = λ e. refl })
+      rw (h .rest, none) (record { answer = refl; cells-left = refl; output-left = refl })
 
 -- a step that goes on, or is stuck, is no last one that the paper has a number for
 pub stop-other : (x : Step) → OneOf (0 ∷ 3 ∷ []) (tagOf stepType x) → (s : Registers) (k : ℕ)

@@ -28,7 +28,7 @@ use Rattle.semantics.specs.Running.{numbersOf, refusedWith, resultOf, storeAfte
 use Rattle.semantics.proofs.Simulation.{eraseEnded}
 use Rattle.semantics.proofs.Agreeing.{blank-zeros}
 use Rattle.semantics.proofs.Objects.{kinds-room}
-use Rattle.semantics.proofs.Outcomes.{never-stuck, ran-bare}
+use Rattle.semantics.proofs.Outcomes.{ran-bare}
 use Rattle.calling.specs.Showing.{stateOf, Stands}
 use Rattle.machine.specs.declared.Stop.{Stop}
 use Rattle.machine.specs.Stopping.{stopOf, Stops, numbersAt}
@@ -157,13 +157,12 @@ module _ (image : List ℕ) (input store output : List ℤ) (steps : ℕ) where
           let yes : eqb (refusal image store) 0 ≡ true =
           eq-eqb _ 0 (choose-yes _ _ _ (eq-eqb _ 0 none) ∙ choose-yes _ _ _ (le-leb _ 65536 few)
           ∙ choose-yes _ _ _ (le-leb _ _ room)) in
-          let free = never-stuck image bytes accepted input store output few room steps in
           let ran = rw (
             fresh-is (programOf image) store output base-is top-is zeroed-is,
             ran-bare image bytes accepted input store output few room steps,
           ) at stops in
           record {
             result = ap numbersAt (ran .answer) ∙ sym (choose-yes _ _ _ yes);
-            left = sym (ran .cells-left free) ∙ sym (choose-yes _ _ _ yes);
-            sent = sym (ran .output-left free) ∙ sym (choose-yes _ _ _ yes);
+            left = sym (ran .cells-left) ∙ sym (choose-yes _ _ _ yes);
+            sent = sym (ran .output-left) ∙ sym (choose-yes _ _ _ yes);
           }

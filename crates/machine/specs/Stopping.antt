@@ -22,11 +22,11 @@ stopBy Steps.Stuck s k = record { outcome = 3; trap = 0; halt = pos 0; steps = k
 unfoldable pub stopOf : {X : Type 0} → Ended X → Stop
 stopOf e = record { outcome = e .outcome; trap = e .trap; halt = e .halt; steps = e .steps; at = e .state .at }
 
--- the code's answer, and the cells and outputs that it leaves unless the machine is stuck
+-- the code's answer, and the cells and outputs that it leaves
 pub record Stops (e : Ended ℤ) (r : Stop) (cells output : List ℤ) : Type 0 where
   pub answer : r ≡ stopOf e
-  pub cells-left : (e .outcome ≡ 3 → ⊥) → e .state .cells ≡ cells
-  pub output-left : (e .outcome ≡ 3 → ⊥) → e .state .output ≡ output
+  pub cells-left : e .state .cells ≡ cells
+  pub output-left : e .state .output ≡ output
 
 -- "refusal, row of refusal, outcome, trap, HALT number, statement row, steps, read, written"
 unfoldable pub numbersAt : Stop → RunResult

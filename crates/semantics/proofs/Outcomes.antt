@@ -56,9 +56,9 @@ pub data Reported (g : Program) (input : List ℤ) (n k : ℕ) (s : State Cell) 
   traps : {t : Trap} {z : ℤ} {u v : State Cell} {c : ℕ} (d : ℕ) → d < n → c ≡ k + suc d
       → after tagged g input d s ≡ running u → stepOf tagged g input u ≡ trapped t z v
       → Reported g input n k s (record { outcome = 2; trap = trapNumber t; halt = z; steps = c; state = v })
-  sticks : {u : State Cell} {c : ℕ} (d : ℕ) → d < n → c ≡ k + suc d → after tagged g input d s ≡ running u
-      → stepOf tagged g input u ≡ stuck
-      → Reported g input n k s (record { outcome = 3; trap = 0; halt = pos 0; steps = c; state = u })
+  sticks : {u v : State Cell} {c : ℕ} (d : ℕ) → d < n → c ≡ k + suc d → after tagged g input d s ≡ running u
+      → stepOf tagged g input u ≡ stuck v
+      → Reported g input n k s (record { outcome = 3; trap = 0; halt = pos 0; steps = c; state = v })
 
 module _ (g : Program) (input : List ℤ) where
   -- one step more
@@ -89,7 +89,7 @@ module _ (g : Program) (input : List ℤ) where
       go (goes u) e later = reported-later n k s u e (later u)
       go finished e later = finishes {c = k + 1} 0 (omega arith) (omega arith) refl e
       go (trapped t z u) e later = traps {c = k + 1} 0 (omega arith) (omega arith) refl e
-      go stuck e later = sticks {c = k + 1} 0 (omega arith) (omega arith) refl e
+      go (stuck u) e later = sticks {c = k + 1} 0 (omega arith) (omega arith) refl e
 
 -- the machine finished or trapped
 pub data Last : Machine Cell → Type 0 where
@@ -114,7 +114,7 @@ last-stays g input (suc n) k s last =
     go (goes u) h later = later u h
     go finished h later = refl
     go (trapped t z u) h later = refl
-    go stuck h later = refl
+    go (stuck u) h later = refl
 
 -- a run takes no more steps than it is lent
 pub steps-lent : (image : List ℕ) (input store output : List ℤ) (steps : ℕ)
@@ -210,9 +210,9 @@ module _ (image : List ℕ) (bytes : Bytes image) (accepted : checkOf image ≡ 
       go (used-up c r) three = absurd (omega arith)
       go (finishes d low c r x) three = absurd (omega arith)
       go (traps d low c r x) three = absurd (omega arith)
-      go (sticks {u = u} d low c r x) three = stuck-not (rw x at (running-sound d u r .1))
+      go (sticks {u = u} {v} d low c r x) three = stuck-not (rw x at (running-sound d u r .1))
         where
-          stuck-not : NextOk (programOf image) u stuck → ⊥
+          stuck-not : NextOk (programOf image) u (stuck v) → ⊥
           stuck-not h = elim h [ ]
 
   -- "After any trap nothing below top, no output and no count but steps has changed, and row, base and top stay."

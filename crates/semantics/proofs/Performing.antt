@@ -102,20 +102,20 @@ module _ (g : Program) (s : State Cell) where
     on-value-ok k gives-trap f = ok-trapped same
 
   pub on-integer-ok : (v : Value) (k : ℤ → Next Cell) → kindOf v ≡ INTEGER → ((z : ℤ) → NextOk g s (k z))
-      → NextOk g s (onInteger v k)
+      → NextOk g s (onInteger s v k)
   unfolding onInteger kindOf
   on-integer-ok (Vs.Int z) k e f = f z
   on-integer-ok (Vs.Bool b) k e f = absurd (omega arith)
   on-integer-ok (Vs.Set t) k e f = absurd (omega arith)
 
   pub on-boolean-ok : (v : Value) (k : Bool → Next Cell) → kindOf v ≡ BOOLEAN → ((b : Bool) → NextOk g s (k b))
-      → NextOk g s (onBoolean v k)
+      → NextOk g s (onBoolean s v k)
   unfolding onBoolean kindOf
   on-boolean-ok (Vs.Bool b) k e f = f b
   on-boolean-ok (Vs.Int z) k e f = absurd (omega arith)
   on-boolean-ok (Vs.Set t) k e f = absurd (omega arith)
 
-  pub on-mark-ok : {m : Mark} {n : ℕ} (k : ℕ → Next Cell) → m ≡ Number n → NextOk g s (k n) → NextOk g s (onMark m k)
+  pub on-mark-ok : {m : Mark} {n : ℕ} (k : ℕ → Next Cell) → m ≡ Number n → NextOk g s (k n) → NextOk g s (onMark s m k)
   unfolding onMark
   on-mark-ok k e h = rw e h
 
@@ -413,8 +413,8 @@ module _ (g : Program)
       → Matched Fits (take (s .at .top) (s .cells)) (wants g (f ∷ fs)) → s .at .base ≡ length (wants g fs)
       → s .at .top ≡ length (wants g (f ∷ fs)) → (f .procedure ≡ 0 → ⊥)
       → NextOk g s
-      (onMark (markAt tagged (s .at .top) (s .cells) LINK (s .at .base + 1)) λ r.
-      onMark (markAt tagged (s .at .top) (s .cells) LINK (s .at .base + 2)) λ base.
+      (onMark s (markAt tagged (s .at .top) (s .cells) LINK (s .at .base + 1)) λ r.
+      onMark s (markAt tagged (s .at .top) (s .cells) LINK (s .at .base + 2)) λ base.
       goes (record {
         at = record { row = r; base = base; top = s .at .base; read = s .at .read; written = s .at .written };
         cells = s .cells;

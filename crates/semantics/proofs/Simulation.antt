@@ -41,7 +41,7 @@ erase s = record { at = s .at; cells = numbers (s .cells); output = s .output }
 
 -- the tagged machine is stuck, or the bare one comes to the same with the same numbers
 pub data Follows : Next Cell → Next ℤ → Type 0 where
-  astray : {y : Next ℤ} → Follows stuck y
+  astray : {s : State Cell} {y : Next ℤ} → Follows (stuck s) y
   goes-on : {s : State Cell} {s′ : State ℤ} → s′ ≡ erase s → Follows (goes s) (goes s′)
   ends : Follows finished finished
   traps : {t : Trap} {z : ℤ} {s : State Cell} {s′ : State ℤ} → s′ ≡ erase s → Follows (trapped t z s) (trapped t z s′)
@@ -67,26 +67,26 @@ module _ (s : State Cell) where
   follows-value k l (same {x = As.Trap t}) f = traps refl
   follows-value k l (same {x = As.Stuck}) f = astray
 
-pub follows-integer : (v : Value) (k : ℤ → Next Cell) (l : ℤ → Next ℤ) → ((z : ℤ) → Follows (k z) (l z))
-    → Follows (onInteger v k) (onInteger v l)
-unfolding onInteger
-follows-integer (Vs.Int z) k l f = f z
-follows-integer (Vs.Bool b) k l f = astray
-follows-integer (Vs.Set t) k l f = astray
+  pub follows-integer : (v : Value) (k : ℤ → Next Cell) (l : ℤ → Next ℤ) → ((z : ℤ) → Follows (k z) (l z))
+      → Follows (onInteger s v k) (onInteger (erase s) v l)
+  unfolding onInteger
+  follows-integer (Vs.Int z) k l f = f z
+  follows-integer (Vs.Bool b) k l f = astray
+  follows-integer (Vs.Set t) k l f = astray
 
-pub follows-boolean : (v : Value) (k : Bool → Next Cell) (l : Bool → Next ℤ) → ((b : Bool) → Follows (k b) (l b))
-    → Follows (onBoolean v k) (onBoolean v l)
-unfolding onBoolean
-follows-boolean (Vs.Int z) k l f = astray
-follows-boolean (Vs.Bool b) k l f = f b
-follows-boolean (Vs.Set t) k l f = astray
+  pub follows-boolean : (v : Value) (k : Bool → Next Cell) (l : Bool → Next ℤ) → ((b : Bool) → Follows (k b) (l b))
+      → Follows (onBoolean s v k) (onBoolean (erase s) v l)
+  unfolding onBoolean
+  follows-boolean (Vs.Int z) k l f = astray
+  follows-boolean (Vs.Bool b) k l f = f b
+  follows-boolean (Vs.Set t) k l f = astray
 
-pub follows-mark : {x y : Mark} (k : ℕ → Next Cell) (l : ℕ → Next ℤ) → Marks x y → ((n : ℕ) → Follows (k n) (l n))
-    → Follows (onMark x k) (onMark y l)
-unfolding onMark
-follows-mark k l lost f = astray
-follows-mark k l (same {x = Number n}) f = f n
-follows-mark k l (same {x = Nothing}) f = astray
+  pub follows-mark : {x y : Mark} (k : ℕ → Next Cell) (l : ℕ → Next ℤ) → Marks x y → ((n : ℕ) → Follows (k n) (l n))
+      → Follows (onMark s x k) (onMark (erase s) y l)
+  unfolding onMark
+  follows-mark k l lost f = astray
+  follows-mark k l (same {x = Number n}) f = f n
+  follows-mark k l (same {x = Nothing}) f = astray
 
 -- ---- cells written and read
 
@@ -192,15 +192,15 @@ module _ (g : Program) where
 
   jumped-follows : (row : Row) (s : State Cell) → Follows (jumped tagged g row s) (jumped bare g row (erase s))
   unfolding jumped
-  jumped-follows row s = eval-follows g s (row .a) _ _ (λ v. follows-boolean v _ _ (λ holds.
+  jumped-follows row s = eval-follows g s (row .a) _ _ (λ v. follows-boolean s v _ _ (λ holds.
       goes-on (choose-rel (λ u u′. u′ ≡ erase u) holds (following-erased s) (went-erased s (row .b)))))
 
   returned-follows : (s : State Cell) → Follows (returned tagged g s) (returned bare g (erase s))
   unfolding returned
   returned-follows s =
       choose-rel Follows _ ends
-      (follows-mark _ _ (mark-agrees (s .at .top) (s .cells) LINK (s .at .base + 1)) (λ row.
-      follows-mark _ _ (mark-agrees (s .at .top) (s .cells) LINK (s .at .base + 2)) (λ base. goes-on refl)))
+      (follows-mark s _ _ (mark-agrees (s .at .top) (s .cells) LINK (s .at .base + 1)) (λ row.
+      follows-mark s _ _ (mark-agrees (s .at .top) (s .cells) LINK (s .at .base + 2)) (λ base. goes-on refl)))
 
   read-follows : {x : Next Cell} {y : Next ℤ} → Follows x y → Follows (afterRead x) (afterRead y)
   unfolding afterRead
@@ -219,12 +219,12 @@ module _ (g : Program) where
   sent-follows : (row : Row) (s : State Cell) → Follows (sent tagged g row s) (sent bare g row (erase s))
   unfolding sent
   sent-follows row s =
-      eval-follows g s (row .a) _ _ (λ v. follows-integer v _ _ (λ z.
+      eval-follows g s (row .a) _ _ (λ v. follows-integer s v _ _ (λ z.
       choose-rel Follows _ (goes-on refl) (traps refl)))
 
   halted-follows : (row : Row) (s : State Cell) → Follows (halted tagged g row s) (halted bare g row (erase s))
   unfolding halted
-  halted-follows row s = eval-follows g s (row .a) _ _ (λ v. follows-integer v _ _ (λ z. traps refl))
+  halted-follows row s = eval-follows g s (row .a) _ _ (λ v. follows-integer s v _ _ (λ z. traps refl))
 
   pub perform-follows : (input : List ℤ) (kind : ℕ) (row : Row) (s : State Cell)
       → Follows (perform tagged g input kind row s) (perform bare g input kind row (erase s))

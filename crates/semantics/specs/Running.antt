@@ -72,7 +72,7 @@ unfoldable pub onward : {X : Type 0} → Next X → State X → ℕ → (State X
 onward (goes s′) s k next = next s′
 onward finished s k next = record { outcome = 1; trap = 0; halt = pos 0; steps = k; state = s }
 onward (trapped t z s′) s k next = record { outcome = 2; trap = trapNumber t; halt = z; steps = k; state = s′ }
-onward stuck s k next = record { outcome = 3; trap = 0; halt = pos 0; steps = k; state = s }
+onward (stuck s′) s k next = record { outcome = 3; trap = 0; halt = pos 0; steps = k; state = s′ }
 
 -- n steps more, where k were done before
 unfoldable pub runFrom : {X : Type 0} → Memory X → Program → List ℤ → ℕ → ℕ → State X → Ended X

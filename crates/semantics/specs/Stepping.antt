@@ -36,12 +36,13 @@ pub record State (X : Type 0) : Type 0 where
   pub cells : List X
   pub output : List ℤ
 
--- what a step comes to. A trap leaves what was written above top, and has HALT's number.
+-- what a step comes to. A trap has HALT's number. A step that traps, or that no rule applies to (it is stuck), leaves
+-- the state that it began in, with what a call's earlier arguments wrote above top.
 pub data Next (X : Type 0) : Type 0 where
   goes : State X → Next X
   finished : Next X
   trapped : Trap → ℤ → State X → Next X
-  stuck : Next X
+  stuck : State X → Next X
 
 -- trap "3 record target's dynamic type is not its static one (after both sides)"
 unfoldable pub otherRecord : Program → Place → Bool
@@ -59,26 +60,26 @@ module _ {X : Type 0} where
   unfoldable pub onPlace : State X → Found → (Place → Next X) → Next X
   onPlace s (Fs.At place) next = next place
   onPlace s (Fs.Trap t) next = trapped t (pos 0) s
-  onPlace s Fs.Stuck next = stuck
+  onPlace s Fs.Stuck next = stuck s
 
   unfoldable pub onValue : State X → Answer → (Value → Next X) → Next X
   onValue s (As.Val v) next = next v
   onValue s (As.Trap t) next = trapped t (pos 0) s
-  onValue s As.Stuck next = stuck
+  onValue s As.Stuck next = stuck s
 
-  unfoldable pub onInteger : Value → (ℤ → Next X) → Next X
-  onInteger (Vs.Int z) next = next z
-  onInteger (Vs.Bool b) next = stuck
-  onInteger (Vs.Set t) next = stuck
+  unfoldable pub onInteger : State X → Value → (ℤ → Next X) → Next X
+  onInteger s (Vs.Int z) next = next z
+  onInteger s (Vs.Bool b) next = stuck s
+  onInteger s (Vs.Set t) next = stuck s
 
-  unfoldable pub onBoolean : Value → (Bool → Next X) → Next X
-  onBoolean (Vs.Bool b) next = next b
-  onBoolean (Vs.Int z) next = stuck
-  onBoolean (Vs.Set t) next = stuck
+  unfoldable pub onBoolean : State X → Value → (Bool → Next X) → Next X
+  onBoolean s (Vs.Bool b) next = next b
+  onBoolean s (Vs.Int z) next = stuck s
+  onBoolean s (Vs.Set t) next = stuck s
 
-  unfoldable pub onMark : Mark → (ℕ → Next X) → Next X
-  onMark (Number n) next = next n
-  onMark Nothing next = stuck
+  unfoldable pub onMark : State X → Mark → (ℕ → Next X) → Next X
+  onMark s (Number n) next = next n
+  onMark s Nothing next = stuck s
 
   -- "The next row follows", or a jump's
   unfoldable pub goTo : State X → ℕ → State X
@@ -98,11 +99,12 @@ module _ {X : Type 0} where
   -- cells written from address a on, which lie below top
   unfoldable pub written : State X → ℕ → List X → Next X
   written s a new =
-      choose (leb (a + length new) (s .at .top)) (goes (following (withCells s (overwrite (s .cells) a new)))) stuck
+      choose (leb (a + length new) (s .at .top)) (goes (following (withCells s (overwrite (s .cells) a new))))
+      (stuck s)
 
   -- n cells read from address a on, which lie below top
   unfoldable pub onPart : State X → ℕ → ℕ → (List X → Next X) → Next X
-  onPart s a n next = choose (leb (a + n) (s .at .top)) (next (partAt (s .cells) a n)) stuck
+  onPart s a n next = choose (leb (a + n) (s .at .top)) (next (partAt (s .cells) a n)) (stuck s)
 
   -- one more input was read
   unfoldable pub afterRead : Next X → Next X
@@ -119,7 +121,7 @@ module _ {X : Type 0} where
   })
   afterRead finished = finished
   afterRead (trapped t z s) = trapped t z s
-  afterRead stuck = stuck
+  afterRead (stuck s) = stuck s
 
   module _ (m : Memory X) (g : Program) (s : State X) where
     abbrev find : ℕ → Found
@@ -201,7 +203,7 @@ module _ {X : Type 0} where
     unfoldable pub jumped : Row → State X → Next X
     jumped row s =
         onValue s (eval m g s (row .a)) λ v.
-        onBoolean v λ holds.
+        onBoolean s v λ holds.
         goes (choose holds (following s) (goTo s (row .b)))
 
     -- ---- "4 RETURN.": "restores row, base and top (the ended frame's base); in procedure 0 it finishes"
@@ -209,8 +211,8 @@ module _ {X : Type 0} where
     unfoldable pub returned : State X → Next X
     returned s =
         choose (eqb (procedureAt (g .procedures) (s .at .row)) 0) finished
-        (onMark (markAt m (s .at .top) (s .cells) LINK (s .at .base + 1)) λ row.
-        onMark (markAt m (s .at .top) (s .cells) LINK (s .at .base + 2)) λ base.
+        (onMark s (markAt m (s .at .top) (s .cells) LINK (s .at .base + 1)) λ row.
+        onMark s (markAt m (s .at .top) (s .cells) LINK (s .at .base + 2)) λ base.
         goes (record {
           at = record { row = row; base = base; top = s .at .base; read = s .at .read; written = s .at .written };
           cells = s .cells;
@@ -231,7 +233,7 @@ module _ {X : Type 0} where
     unfoldable pub sent : Row → State X → Next X
     sent row s =
         onValue s (eval m g s (row .a)) λ v.
-        onInteger v λ z.
+        onInteger s v λ z.
         choose (ltb (s .at .written) (length (s .output)))
         (goes (record {
           at = record {
@@ -248,7 +250,7 @@ module _ {X : Type 0} where
 
     -- trap "10 HALT"
     unfoldable pub halted : Row → State X → Next X
-    halted row s = onValue s (eval m g s (row .a)) λ v. onInteger v λ z. trapped Ts.Halt z s
+    halted row s = onValue s (eval m g s (row .a)) λ v. onInteger s v λ z. trapped Ts.Halt z s
 
     -- ---- by the kind
 
@@ -261,7 +263,7 @@ module _ {X : Type 0} where
         (choose (eqb kind 4) (returned s)
         (choose (eqb kind 5) (received input row s)
         (choose (eqb kind 6) (sent row s)
-        (choose (eqb kind 7) (halted row s) stuck)))))))
+        (choose (eqb kind 7) (halted row s) (stuck s))))))))
 
     -- "Each step takes the state that the one before left, and nothing else writes it."
     unfoldable pub stepOf : List ℤ → State X → Next X

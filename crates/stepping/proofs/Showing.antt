@@ -72,19 +72,19 @@ module _ {s : State ℤ} {r : Step} {cells output : List ℤ} where
 
   -- with an INTEGER's number
   pub shows-integer : {v : Value} {z : ℤ} (next : ℤ → Next ℤ) → v ≡ Vs.Int z
-      → Shows s (next z) r cells output → Shows s (onInteger v next) r cells output
+      → Shows s (next z) r cells output → Shows s (onInteger s v next) r cells output
   unfolding onInteger
   shows-integer next t h = rw t h
 
   -- with a BOOLEAN's
   pub shows-boolean : {v : Value} {b : Bool} (next : Bool → Next ℤ) → v ≡ Vs.Bool b
-      → Shows s (next b) r cells output → Shows s (onBoolean v next) r cells output
+      → Shows s (next b) r cells output → Shows s (onBoolean s v next) r cells output
   unfolding onBoolean
   shows-boolean next t h = rw t h
 
   -- with a link's
   pub shows-mark : {mark x : Mark} {n : ℕ} (next : ℕ → Next ℤ) → mark ≡ x → mark ≡ Number n
-      → Shows s (next n) r cells output → Shows s (onMark x next) r cells output
+      → Shows s (next n) r cells output → Shows s (onMark s x next) r cells output
   unfolding onMark
   shows-mark next e t h = rw (← e, t) h
 
@@ -101,14 +101,14 @@ lost-place : (s : State ℤ) (found : Found) (next : Place → Next ℤ) → One
 unfolding onPlace lostPlace endedBy
 lost-place s (Fs.At place) next t = neither (omega arith) (omega arith) t
 lost-place s (Fs.Trap u) next t = shows-trap refl refl
-lost-place s Fs.Stuck next t = shows-stuck
+lost-place s Fs.Stuck next t = shows-stuck refl refl
 
 lost-value : (s : State ℤ) (answer : Answer) (next : Value → Next ℤ) → OneOf (1 ∷ 2 ∷ []) (tagOf answerType answer)
     → Shows s (onValue s answer next) (endedBy (lostValue answer)) (s .cells) (s .output)
 unfolding onValue lostValue endedBy
 lost-value s (As.Val v) next t = neither (omega arith) (omega arith) t
 lost-value s (As.Trap u) next t = shows-trap refl refl
-lost-value s As.Stuck next t = shows-stuck
+lost-value s As.Stuck next t = shows-stuck refl refl
 
 -- as the code has it: the answer found, what it loses, and how that ends
 module _ {s : State ℤ} {p : Passing} {r : Step} where
@@ -124,34 +124,34 @@ module _ {s : State ℤ} {p : Passing} {r : Step} where
 
 -- ---- no rule applies
 
-module _ {s : State ℤ} {cells output : List ℤ} where
+module _ {s : State ℤ} where
   -- a value that is no INTEGER
   pub shows-no-integer : (v : Value) (next : ℤ → Next ℤ) → OneOf (0 ∷ 2 ∷ []) (tagOf valueType v)
-      → Shows s (onInteger v next) Steps.Stuck cells output
+      → Shows s (onInteger s v next) Steps.Stuck (s .cells) (s .output)
   unfolding onInteger
-  shows-no-integer (Vs.Bool b) next t = shows-stuck
+  shows-no-integer (Vs.Bool b) next t = shows-stuck refl refl
   shows-no-integer (Vs.Int z) next t = neither (omega arith) (omega arith) t
-  shows-no-integer (Vs.Set u) next t = shows-stuck
+  shows-no-integer (Vs.Set u) next t = shows-stuck refl refl
 
   -- no BOOLEAN
   pub shows-no-boolean : (v : Value) (next : Bool → Next ℤ) → OneOf (1 ∷ 2 ∷ []) (tagOf valueType v)
-      → Shows s (onBoolean v next) Steps.Stuck cells output
+      → Shows s (onBoolean s v next) Steps.Stuck (s .cells) (s .output)
   unfolding onBoolean
   shows-no-boolean (Vs.Bool b) next t = neither (omega arith) (omega arith) t
-  shows-no-boolean (Vs.Int z) next t = shows-stuck
-  shows-no-boolean (Vs.Set u) next t = shows-stuck
+  shows-no-boolean (Vs.Int z) next t = shows-stuck refl refl
+  shows-no-boolean (Vs.Set u) next t = shows-stuck refl refl
 
   -- a cell that holds no link
   pub shows-no-mark : {mark x : Mark} (next : ℕ → Next ℤ) → mark ≡ x → mark ≡ Nothing
-      → Shows s (onMark x next) Steps.Stuck cells output
+      → Shows s (onMark s x next) Steps.Stuck (s .cells) (s .output)
   unfolding onMark
-  shows-no-mark next e t = rw (← e, t) shows-stuck
+  shows-no-mark next e t = rw (← e, t) (shows-stuck refl refl)
 
   -- cells that do not lie below top
   pub shows-no-part : (a n : ℕ) (next : List ℤ → Next ℤ) → s .at .top < a + n
-      → Shows s (onPart s a n next) Steps.Stuck cells output
+      → Shows s (onPart s a n next) Steps.Stuck (s .cells) (s .output)
   unfolding onPart
-  shows-no-part a n next h = shows-no _ (lt-leb (a + n) (s .at .top) h) shows-stuck
+  shows-no-part a n next h = shows-no _ (lt-leb (a + n) (s .at .top) h) (shows-stuck refl refl)
 
 no-number : {X : Type 0} {n : ℕ} → Nothing ≡ Number n → X
 no-number e = let z : _≡_ {A = ℕ} 0 1 = cc in absurd (omega arith)
@@ -188,7 +188,7 @@ module _ (s : State ℤ) (a : ℕ) (new : List ℤ) where
   unfolding written
   written-is h = choose-yes _ _ _ (le-leb (a + length new) (s .at .top) h)
 
-  pub not-written : s .at .top < a + length new → written s a new ≡ stuck
+  pub not-written : s .at .top < a + length new → written s a new ≡ stuck s
   unfolding written
   not-written h = choose-no _ _ _ (lt-leb (a + length new) (s .at .top) h)
 

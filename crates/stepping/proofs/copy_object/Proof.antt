@@ -58,7 +58,7 @@ returns-3 c = λ output.
     rw (← c .before .before .size-of .ensures)
     (shows-no _ (sym (at .before .other-record .ensures) ∙ at .if1 .left)
     (shows-part _ _ _ (c .before .if2 .left)
-    (shows-by (not-written _ _ _ (rw (many (c .before)) (c .if3 .taken))) shows-stuck)))
+    (shows-by (not-written _ _ _ (rw (many (c .before)) (c .if3 .taken))) (shows-stuck refl refl))))
 
 copy-requires : tie.Need-copy-requires
 copy-requires c κs = search needs

@@ -67,7 +67,7 @@ returns-3 c = λ output.
     let before = c .before .before .before .before .before in
     shows-place _ (before .find .ensures) (c .before .before .before .found .given .1)
     (shows-yes _ (lt-ltb _ _ (c .before .if1 .left))
-    (shows-by (ap afterRead (not-written _ _ _ (omega arith))) shows-stuck))
+    (shows-by (ap afterRead (not-written _ _ _ (omega arith))) (shows-stuck refl refl)))
 
 cast-number : tie.Need-cast-number
 cast-number c = search needs

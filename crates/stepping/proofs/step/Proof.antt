@@ -190,7 +190,7 @@ returns-9 c = shows-by (does (c .before) _ refl ∙ rw (
   ne-eqb _ 5 (c .match .rest .0 .0 .1),
   ne-eqb _ 6 (c .match .rest .0 .1),
   ne-eqb _ 7 (c .match .rest .1),
-)) shows-stuck
+)) (shows-stuck refl refl)
 
 pub step-spec : {M : Type 1} → statement M
 step-spec =

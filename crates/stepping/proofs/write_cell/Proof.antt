@@ -1,4 +1,5 @@
 -- `stepping::write_cell` meets its contract: one cell below top, and the next row.
+use mathlib.Core.Path.{refl}
 use native.Mathlib.Omega.{arith}
 use borrow.Author.Needs.{needs}
 use Rattle.values.proofs.Numbers.{plain64}
@@ -11,7 +12,7 @@ add-next : tie.Need-add-next
 add-next c = search needs
 
 returns : tie.Need-returns
-returns c = λ output. shows-by (not-written _ _ _ (omega arith)) shows-stuck
+returns c = λ output. shows-by (not-written _ _ _ (omega arith)) (shows-stuck refl refl)
 
 put-requires : tie.Need-put-requires
 put-requires c κs = search needs
