@@ -12,7 +12,7 @@ use Rattle.semantics.specs.Memory.{Cell, tagged}
 use Rattle.semantics.specs.Layout.{Program}
 use Rattle.semantics.specs.Stepping.{State, perform, stepOf}
 use Rattle.semantics.specs.Sound.{Sound}
-use Rattle.semantics.proofs.Kept.{NextOk}
+use Rattle.semantics.specs.Demand3.{NextOk}
 use Rattle.semantics.proofs.Performing.{performed, simple-ok}
 use Rattle.semantics.proofs.Calling.{called-ok}
 

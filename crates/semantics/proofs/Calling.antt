@@ -41,7 +41,7 @@ use Rattle.names.specs.Names.{rowsFrom}
 use Rattle.semantics.specs.Sound.{wants, room, Inside, Slot, Slot.by-value, Slot.by-reference, Called.is-called}
 use Rattle.semantics.specs.Sound.{Stack, Stack.a-frame, Sound}
 use Rattle.semantics.proofs.Holding.{matched-length, matched-append, put-above, put-length}
-use Rattle.semantics.proofs.Kept.{Unchanged, NextOk, NextOk.ok-goes, NextOk.ok-trapped}
+use Rattle.semantics.specs.Demand3.{Unchanged, NextOk, NextOk.ok-goes, NextOk.ok-trapped}
 use Rattle.semantics.proofs.Evaluating.{FoundOk, Designates.as-argument, find-ok, eval-ok, part-top}
 use Rattle.semantics.proofs.Evaluating.{scalar-values}
 use Rattle.semantics.proofs.Objects.{values-length, slot-width, object-front, slots-length, room-next}

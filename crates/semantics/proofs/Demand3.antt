@@ -9,8 +9,8 @@
 --   State, Next, stepOf         specs/Stepping: a state, what a step comes to, one step
 --   Machine, after              specs/After: the machine after n steps
 --   Sound                       specs/Sound: sound states
---   NextOk, Unchanged           proofs/Kept: a step that goes on, finishes or traps; what a trap leaves
---   SoundAfter                  below
+--   Unchanged, NextOk           specs/Demand3: what a trap leaves; a step that goes on, finishes or traps
+--   SoundAfter                  specs/Demand3: where the machine stands after n steps
 use mathlib.Core.Path.{_≡_, refl}
 use mathlib.Core.List.{List}
 use Prim.Native.Nat.{ℕ, zero, suc, _≤_}
@@ -19,27 +19,20 @@ use lib.ListN.{length}
 use Rattle.image.proofs.Bytes.{Bytes}
 use Rattle.header.specs.Header.{tablesIn}
 use Rattle.header.proofs.Fitting.{part-bytes}
-use Rattle.values.specs.declared.Trap.{Trap}
 use Rattle.checker.specs.declared.CheckAnswer.the-variants.{Accepted}
 use Rattle.checker.specs.Check.{checkOf}
 use Rattle.checker.proofs.Accepted.{AcceptedTables, image-accepted}
 use Rattle.semantics.specs.Memory.{Cell, tagged}
 use Rattle.semantics.specs.Layout.{Program}
-use Rattle.semantics.specs.Stepping.{State, Next, Next.finished, Next.trapped, stepOf}
+use Rattle.semantics.specs.Stepping.{State, Next, stepOf}
 use Rattle.semantics.specs.Running.{programOf, firstTop, fresh}
 use Rattle.semantics.specs.Sound.{Sound}
-use Rattle.semantics.specs.After.{Machine, Machine.running, Machine.over, Machine.failed, moved, after}
-use Rattle.semantics.proofs.Kept.{Unchanged, NextOk, NextOk.ok-goes, NextOk.ok-finished, NextOk.ok-trapped}
+use Rattle.semantics.specs.After.{Machine, moved, after}
+use Rattle.semantics.specs.Demand3.{Unchanged, NextOk, NextOk.ok-goes, NextOk.ok-finished, NextOk.ok-trapped}
+use Rattle.semantics.specs.Demand3.{SoundAfter, SoundAfter.sound-running, SoundAfter.sound-over}
+use Rattle.semantics.specs.Demand3.{SoundAfter.sound-failed}
 use Rattle.semantics.proofs.Beginning.{fresh-sound}
 use Rattle.semantics.proofs.AnyStep.{step-ok}
-
--- the machine is in a sound state whose next step goes on to a sound one, finishes or traps; or its last step, from a
--- sound state, finished, or trapped and changed nothing below top. It is not lost.
-pub data SoundAfter (g : Program) (input : List ℤ) : Machine Cell → Type 0 where
-  sound-running : {s : State Cell} → Sound g s → NextOk g s (stepOf tagged g input s) → SoundAfter g input (running s)
-  sound-over : {s : State Cell} → Sound g s → stepOf tagged g input s ≡ finished → SoundAfter g input (over s)
-  sound-failed : {t : Trap} {z : ℤ} {s s′ : State Cell} → Sound g s → stepOf tagged g input s ≡ trapped t z s′
-      → Unchanged s s′ → Sound g s′ → SoundAfter g input (failed t z s s′)
 
 -- ---- an image's program
 

@@ -5,7 +5,6 @@ pub mod FieldRows
 pub mod Objects
 pub mod Kinship
 pub mod Evaluating
-pub mod Kept
 pub mod Blanks
 pub mod Performing
 pub mod Calling

@@ -27,11 +27,12 @@ use Rattle.semantics.specs.Running.{numbersOf, refusedWith, resultOf}
 use Rattle.semantics.specs.Sound.{Sound}
 use Rattle.semantics.specs.After.{Machine, Machine.running, Machine.over, Machine.failed, moved, after}
 use Rattle.semantics.proofs.Simulation.{eraseEnded, run-follows, fresh-erased}
-use Rattle.semantics.proofs.Kept.{Unchanged, NextOk, NextOk.ok-goes, NextOk.ok-finished, NextOk.ok-trapped}
+use Rattle.semantics.specs.Demand3.{Unchanged, NextOk, NextOk.ok-goes, NextOk.ok-finished, NextOk.ok-trapped}
 use Rattle.semantics.proofs.Beginning.{fresh-sound, fresh-length}
 use Rattle.semantics.proofs.AnyStep.{step-ok}
-use Rattle.semantics.proofs.Demand3.{SoundAfter, SoundAfter.sound-running, SoundAfter.sound-over}
-use Rattle.semantics.proofs.Demand3.{SoundAfter.sound-failed, program-accepted, program-bytes, sound-after}
+use Rattle.semantics.specs.Demand3.{SoundAfter, SoundAfter.sound-running, SoundAfter.sound-over}
+use Rattle.semantics.specs.Demand3.{SoundAfter.sound-failed}
+use Rattle.semantics.proofs.Demand3.{program-accepted, program-bytes, sound-after}
 
 -- ---- what a run reports
 

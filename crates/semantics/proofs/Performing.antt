@@ -60,7 +60,7 @@ use Rattle.semantics.proofs.Objects.{values-length}
 use Rattle.semantics.proofs.Kinship.{extends-low, extends-scalar}
 use Rattle.semantics.proofs.Evaluating.{FoundOk, found-ok, found-trap, Designates, itself, find-ok, eval-ok}
 use Rattle.semantics.proofs.Evaluating.{found-front, found-scalar, designator-yes, mark-there, part-top}
-use Rattle.semantics.proofs.Kept.{Unchanged, NextOk, ok-goes, ok-finished, ok-trapped}
+use Rattle.semantics.specs.Demand3.{Unchanged, NextOk, ok-goes, ok-finished, ok-trapped}
 
 -- ---- what a step comes to, by the way it goes on
 

@@ -5,3 +5,4 @@ pub mod Stepping
 pub mod Running
 pub mod Sound
 pub mod After
+pub mod Demand3
