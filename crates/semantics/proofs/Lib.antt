@@ -11,6 +11,7 @@ pub mod Calling
 pub mod AnyStep
 pub mod Beginning
 pub mod Demand3
+pub mod Reporting
 pub mod Outcomes
 pub mod Opened
 pub mod Images

@@ -1,4 +1,5 @@
--- What demand 3 says of a run: its outcome has a number of the paper's, and the bare machine does the same.
+-- What demand 3 says of a run: its outcome has a number of the paper's, and the bare machine does the same. And what
+-- every run keeps, whatever the image: the numbers of traps and HALT, and output places that were not written.
 use mathlib.Core.Path.{_≡_, refl, sym, _∙_}
 use mathlib.Core.Bool.{Bool, true, false}
 use mathlib.Core.List.{List}
@@ -8,28 +9,33 @@ use native.Mathlib.Omega.{arith}
 use borrow.Author.Tests.{leb-true, eqb-true, eq-eqb}
 use lib.Dec.{leb, eqb}
 use lib.IntN.{ℤ, pos}
-use lib.ListN.{length}
+use lib.ListN.{length, getD}
 use Rattle.prelude.specs.Choice.{choose}
-use Rattle.prelude.proofs.Choice.{choose-cases, clash}
+use Rattle.prelude.proofs.Choice.{choose-cases, choose-has, clash}
 use Rattle.image.proofs.Bytes.{Bytes}
 use Rattle.values.specs.declared.Trap.{Trap}
 use Rattle.values.specs.Values.{trapNumber}
+use Rattle.values.proofs.Ranges.{trap-range}
 use Rattle.checker.specs.declared.CheckAnswer.{CheckAnswer}
 use Rattle.checker.specs.declared.CheckAnswer.the-variants.{Accepted, Refused}
 use Rattle.checker.specs.Check.{questionOf, checkOf, refusalOf, rowOf}
 use Rattle.checker.proofs.Chain.{refused-first}
 use Rattle.checker.proofs.Accepted.{AcceptedTables}
-use Rattle.semantics.specs.Memory.{Cell, tagged, bare}
+use Rattle.semantics.specs.declared.RunResult.{RunResult}
+use Rattle.semantics.specs.Memory.{Memory, Cell, tagged, bare}
 use Rattle.semantics.specs.Layout.{Program}
 use Rattle.semantics.specs.Stepping.{State, Next, Next.goes, Next.finished, Next.trapped, Next.stuck, stepOf}
 use Rattle.semantics.specs.Running.{programOf, firstTop, fresh, Ended, onward, runFrom, refusal, ranOf}
-use Rattle.semantics.specs.Running.{numbersOf, refusedWith, resultOf}
+use Rattle.semantics.specs.Running.{numbersOf, refusedWith, resultOf, outputAfter}
 use Rattle.semantics.specs.Sound.{Sound}
 use Rattle.semantics.specs.After.{Machine, Machine.running, Machine.over, Machine.failed, moved, after}
 use Rattle.semantics.proofs.Simulation.{eraseEnded, run-follows, fresh-erased}
 use Rattle.semantics.specs.Demand3.{Unchanged, NextOk, NextOk.ok-goes, NextOk.ok-finished, NextOk.ok-trapped}
 use Rattle.semantics.proofs.Beginning.{fresh-sound, fresh-length}
 use Rattle.semantics.proofs.AnyStep.{step-ok}
+use Rattle.semantics.proofs.Reporting.{Keeps, Reports, Reports.reports-goes, Reports.reports-finished}
+use Rattle.semantics.proofs.Reporting.{Reports.reports-trapped, Reports.reports-stuck, keeps-all, keeps-on}
+use Rattle.semantics.proofs.Reporting.{step-reports}
 use Rattle.semantics.specs.Demand3.{SoundAfter, SoundAfter.sound-running, SoundAfter.sound-over}
 use Rattle.semantics.specs.Demand3.{SoundAfter.sound-failed}
 use Rattle.semantics.proofs.Demand3.{program-accepted, program-bytes, sound-after}
@@ -287,3 +293,102 @@ result-outcome image bytes input store output steps = go (eqb (refusal image sto
         let (accepted, most, least) = refusal-none image store (eqb-true _ _ e) in
         ran-outcome image bytes accepted input store output most least steps
     go false e = omega arith
+
+-- ---- what every run keeps
+
+-- "trap is 0 unless trapped, HALT number 0 unless trap 10; .. output places from written on keep their numbers": a run
+-- from s
+pub record Kept {X : Type 0} (s : State X) (e : Ended X) : Type 0 where
+  pub no-trap : (e .outcome ≡ 2 → ⊥) → e .trap ≡ 0
+  pub named-trap : e .outcome ≡ 2 → (1 ≤ e .trap) × (e .trap ≤ 10)
+  pub halt : (e .trap ≡ 10 → ⊥) → e .halt ≡ pos 0
+  pub output : Keeps s (e .state)
+
+module _ {X : Type 0} (m : Memory X) (g : Program) (input : List ℤ) where
+  onward-kept : {s : State X} (x : Next X) (k : ℕ) (next : State X → Ended X) → Reports s x
+      → ((u : State X) → Kept u (next u)) → Kept s (onward x s k next)
+  unfolding onward
+  onward-kept (goes u) k next (reports-goes kept) more = record {
+    no-trap = more u .no-trap;
+    named-trap = more u .named-trap;
+    halt = more u .halt;
+    output = keeps-on kept (more u .output);
+  }
+  onward-kept {s} finished k next h more = record {
+    no-trap = λ h. refl;
+    named-trap = λ h. absurd (omega arith);
+    halt = λ h. refl;
+    output = keeps-all s;
+  }
+  onward-kept (trapped t z u) k next (reports-trapped kept numbered) more = record {
+    no-trap = λ h. absurd (h refl);
+    named-trap = λ h. trap-range t;
+    halt = numbered .halt;
+    output = kept;
+  }
+  onward-kept (stuck u) k next (reports-stuck kept) more = record {
+    no-trap = λ h. refl;
+    named-trap = λ h. absurd (omega arith);
+    halt = λ h. refl;
+    output = kept;
+  }
+
+  pub run-kept : (n k : ℕ) (s : State X) → Kept s (runFrom m g input n k s)
+  unfolding runFrom
+  run-kept zero k s = record {
+    no-trap = λ h. refl;
+    named-trap = λ h. absurd (omega arith);
+    halt = λ h. refl;
+    output = keeps-all s;
+  }
+  run-kept (suc n) k s =
+      onward-kept (stepOf m g input s) (k + 1) _ (step-reports m g s input) (λ u. run-kept n (k + 1) u)
+
+module _ (image : List ℕ) (input store output : List ℤ) (steps : ℕ) where
+  ran-kept : Kept (fresh tagged (programOf image) store output) (ranOf image input store output steps)
+  unfolding ranOf
+  ran-kept = run-kept tagged (programOf image) input steps 0 (fresh tagged (programOf image) store output)
+
+  -- what holds of the numbers of every run and of every refusal holds of the result
+  result-has : (P : RunResult → Type 0) → P (numbersOf (ranOf image input store output steps))
+      → ((q row : ℕ) → P (refusedWith q row)) → P (resultOf image input store output steps)
+  unfolding resultOf
+  result-has P ran refused = choose-has P _ (λ e. ran) (λ e. refused _ _)
+
+  -- "trap is 0 unless trapped"
+  pub result-no-trap : (resultOf image input store output steps .outcome ≡ 2 → ⊥)
+      → resultOf image input store output steps .trap ≡ 0
+  unfolding numbersOf refusedWith
+  result-no-trap = result-has (λ r. (r .outcome ≡ 2 → ⊥) → r .trap ≡ 0) (ran-kept .no-trap) (λ q row h. refl)
+
+  -- and one of the ten where it trapped
+  pub result-named-trap : resultOf image input store output steps .outcome ≡ 2
+      → (1 ≤ resultOf image input store output steps .trap) × (resultOf image input store output steps .trap ≤ 10)
+  unfolding numbersOf refusedWith
+  result-named-trap =
+      result-has (λ r. r .outcome ≡ 2 → (1 ≤ r .trap) × (r .trap ≤ 10)) (ran-kept .named-trap)
+      (λ q row h. absurd (omega arith))
+
+  -- "HALT number 0 unless trap 10"
+  pub result-halt : (resultOf image input store output steps .trap ≡ 10 → ⊥)
+      → resultOf image input store output steps .halt ≡ pos 0
+  unfolding numbersOf refusedWith
+  result-halt = result-has (λ r. (r .trap ≡ 10 → ⊥) → r .halt ≡ pos 0) (ran-kept .halt) (λ q row h. refl)
+
+  -- "output places from written on keep their numbers"; there are as many as were lent
+  pub output-kept : (i : ℕ) → resultOf image input store output steps .written ≤ i
+      → getD (outputAfter image input store output steps) i (pos 0) ≡ getD output i (pos 0)
+  unfolding resultOf outputAfter numbersOf fresh choose
+  output-kept i = go (eqb (refusal image store) 0)
+    where
+      go : (b : Bool) → choose b (numbersOf (ranOf image input store output steps))
+          (refusedWith (refusal image store) (rowOf (checkOf image))) .written ≤ i
+          → getD (choose b (ranOf image input store output steps .state .output) output) i (pos 0)
+          ≡ getD output i (pos 0)
+      go true h = ran-kept .output .place i h
+      go false h = refl
+
+  pub output-places : length (outputAfter image input store output steps) ≡ length output
+  unfolding outputAfter fresh
+  output-places =
+      choose-has (λ (l : List ℤ). length l ≡ length output) _ (λ e. ran-kept .output .places) (λ e. refl)

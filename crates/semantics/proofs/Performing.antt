@@ -504,8 +504,7 @@ module _ (g : Program)
       (λ v k range. on-integer-ok g s v _ k (λ z.
       ok-choose g s _
       (λ more. ok-goes (sound-with (s .at .row + 1) (s .at .read) (s .at .written + 1) (s .cells)
-      (set (s .output) (s .at .written) z) inside (sound .holding) refl) refl
-      (length-set (s .output) (s .at .written) z))
+      _ inside (sound .holding) refl) refl (length-set (s .output) _ z))
       (λ full. ok-trapped (unchanged g s))))
 
   pub halted-ok : row .kind ≡ 7 → ValueRow (g .nodes) row → NextOk g s (halted tagged g row s)

@@ -1,8 +1,8 @@
--- Each value is in its kind's range: of a cell, a constant.
+-- Each value is in its kind's range: of a cell, a constant; and the numbers of the traps.
 use mathlib.Core.Path.{_≡_, refl, sym}
 use mathlib.Core.Bool.{Bool, true, false}
 use mathlib.Core.Logic.{inl, inr}
-use Prim.Native.Nat.{ℕ, zero, suc, _+_, _*_, _<_}
+use Prim.Native.Nat.{ℕ, zero, suc, _+_, _*_, _≤_, _<_}
 use native.Mathlib.Omega.{arith}
 use borrow.Author.Tests.{eqb-true, eqb-false, ltb-true, ltb-false}
 use lib.Dec.{eqb, ltb}
@@ -12,10 +12,12 @@ use mir.Val.{SFits}
 use Rattle.prelude.specs.Choice.{choose}
 use Rattle.prelude.proofs.Choice.{choose-cases}
 use Rattle.values.specs.Values.{BOOLEAN, INTEGER, SET, kindOf, InRange, cellOf, booleanCell, signedOf}
-use Rattle.values.specs.Values.{constantOf, Gives}
+use Rattle.values.specs.Values.{constantOf, trapNumber, Gives}
 use Rattle.values.specs.Values.Gives.{value}
 use Rattle.values.specs.declared.Value.{Value}
 use Rattle.values.specs.declared.Answer.the-variants as As
+use Rattle.values.specs.declared.Trap.{Trap}
+use Rattle.values.specs.declared.Trap.the-variants as Ts
 use Rattle.values.proofs.Numbers.{minus-top}
 use Rattle.values.proofs.Cells.{no-value, cell-held, held-boolean}
 use Rattle.values.proofs.Giving.{gives-boolean, gives-integer, gives-set, gives-one, gives-kind, gives-range}
@@ -74,3 +76,22 @@ constant-typed zero b c h t p q =
 constant-typed (suc zero) b c h t p q = gives-integer _ (signed-fits (b * 65536 + c) (omega arith))
 constant-typed (suc (suc zero)) b c h t p q = gives-set (b * 65536 + c) (omega arith)
 constant-typed (suc (suc (suc k))) b c h t p q = absurd (omega arith)
+
+-- ---- the traps, 1 to 10
+
+pub trap-range : (t : Trap) → (1 ≤ trapNumber t) × (trapNumber t ≤ 10)
+unfolding trapNumber
+trap-range Ts.Index = (omega arith, omega arith)
+trap-range Ts.Guard = (omega arith, omega arith)
+trap-range Ts.Target = (omega arith, omega arith)
+trap-range Ts.Overflow = (omega arith, omega arith)
+trap-range Ts.Divisor = (omega arith, omega arith)
+trap-range Ts.Bound = (omega arith, omega arith)
+trap-range Ts.Frame = (omega arith, omega arith)
+trap-range Ts.Input = (omega arith, omega arith)
+trap-range Ts.Output = (omega arith, omega arith)
+trap-range Ts.Halt = (omega arith, omega arith)
+
+pub halt-number : trapNumber Ts.Halt ≡ 10
+unfolding trapNumber
+halt-number = refl

@@ -1,0 +1,230 @@
+-- What a step does to the output places, and the number that a trap has, from any state of any memory.
+use mathlib.Core.Path.{_≡_, refl, _∙_}
+use mathlib.Core.Bool.{Bool, true, false}
+use mathlib.Core.List.{List, _∷_}
+use Prim.Native.Nat.{ℕ, zero, suc, _+_, _≤_}
+use native.Mathlib.Omega.{arith}
+use lib.IntN.{ℤ, pos}
+use lib.ListN.{length, getD, length-set}
+use lib.Seq.{getD-set-other}
+use Rattle.prelude.specs.Choice.{choose}
+use Rattle.prelude.proofs.Choice.{choose-has}
+use Rattle.image.specs.declared.Row.{Row}
+use Rattle.image.specs.Rows.{rowAt}
+use Rattle.values.specs.declared.Value.{Value}
+use Rattle.values.specs.declared.Value.the-variants as Vs
+use Rattle.values.specs.declared.Trap.{Trap}
+use Rattle.values.specs.declared.Trap.the-variants as Ts
+use Rattle.values.specs.declared.Answer.{Answer}
+use Rattle.values.specs.declared.Answer.the-variants as As
+use Rattle.values.specs.Values.{trapNumber}
+use Rattle.values.proofs.Ranges.{halt-number}
+use Rattle.semantics.specs.declared.Place.{Place}
+use Rattle.semantics.specs.declared.Found.{Found}
+use Rattle.semantics.specs.declared.Found.the-variants as Fs
+use Rattle.semantics.specs.declared.Mark.{Mark}
+use Rattle.semantics.specs.declared.Mark.the-variants.{Number, Nothing}
+use Rattle.semantics.specs.Memory.{Memory}
+use Rattle.semantics.specs.Layout.{Program, placeOf}
+use Rattle.semantics.specs.Stepping.{State, Next, Next.goes, Next.finished, Next.trapped, Next.stuck}
+use Rattle.semantics.specs.Stepping.{onPlace, onValue, onInteger, onBoolean, onMark, goTo, following, withCells}
+use Rattle.semantics.specs.Stepping.{written, onPart, afterRead, copied, assigned, argumentCells, passed, entered}
+use Rattle.semantics.specs.Stepping.{called, jumped, returned, received, sent, halted, perform, stepOf}
+
+-- "output places from written on keep their numbers": from a state to a later one
+pub record Keeps {X : Type 0} (s u : State X) : Type 0 where
+  pub count : s .at .written ≤ u .at .written
+  pub places : length (u .output) ≡ length (s .output)
+  pub place : (i : ℕ) → u .at .written ≤ i → getD (u .output) i (pos 0) ≡ getD (s .output) i (pos 0)
+
+-- "HALT number 0 unless trap 10"
+pub record Numbered (t : Trap) (z : ℤ) : Type 0 where
+  pub halt : (trapNumber t ≡ 10 → ⊥) → z ≡ pos 0
+
+pub no-number : (t : Trap) → Numbered t (pos 0)
+no-number t = record { halt = λ h. refl }
+
+module _ {X : Type 0} where
+  -- what a step comes to, of the output and HALT's number
+  pub data Reports (s : State X) : Next X → Type 0 where
+    reports-goes : {u : State X} → Keeps s u → Reports s (goes u)
+    reports-finished : Reports s finished
+    reports-trapped : {t : Trap} {z : ℤ} {u : State X} → Keeps s u → Numbered t z → Reports s (trapped t z u)
+    reports-stuck : {u : State X} → Keeps s u → Reports s (stuck u)
+
+  -- the same count and output, whatever else is
+  pub keeps-same : {s u : State X} → u .at .written ≡ s .at .written → u .output ≡ s .output → Keeps s u
+  keeps-same count same = record {
+    count = omega arith;
+    places = rw same;
+    place = λ i h. rw same;
+  }
+
+  pub keeps-all : (s : State X) → Keeps s s
+  keeps-all s = keeps-same refl refl
+
+  pub keeps-on : {s u v : State X} → Keeps s u → Keeps u v → Keeps s v
+  keeps-on {s} {u} {v} one two =
+      let low = one .count in
+      let high = two .count in
+      record {
+        count = omega arith;
+        places = two .places ∙ one .places;
+        place = λ i h. two .place i h ∙ one .place i (omega arith);
+      }
+
+  -- ---- by the ways that a step goes on, after cells above top were written
+
+  module _ {s s′ : State X} (kept : Keeps s s′) where
+    place-reports : (found : Found) (k : Place → Next X) → ((place : Place) → Reports s (k place))
+        → Reports s (onPlace s′ found k)
+    unfolding onPlace
+    place-reports (Fs.At place) k f = f place
+    place-reports (Fs.Trap t) k f = reports-trapped kept (no-number t)
+    place-reports Fs.Stuck k f = reports-stuck kept
+
+    value-reports : (answer : Answer) (k : Value → Next X) → ((v : Value) → Reports s (k v))
+        → Reports s (onValue s′ answer k)
+    unfolding onValue
+    value-reports (As.Val v) k f = f v
+    value-reports (As.Trap t) k f = reports-trapped kept (no-number t)
+    value-reports As.Stuck k f = reports-stuck kept
+
+    integer-reports : (v : Value) (k : ℤ → Next X) → ((z : ℤ) → Reports s (k z)) → Reports s (onInteger s′ v k)
+    unfolding onInteger
+    integer-reports (Vs.Int z) k f = f z
+    integer-reports (Vs.Bool b) k f = reports-stuck kept
+    integer-reports (Vs.Set t) k f = reports-stuck kept
+
+    boolean-reports : (v : Value) (k : Bool → Next X) → ((b : Bool) → Reports s (k b)) → Reports s (onBoolean s′ v k)
+    unfolding onBoolean
+    boolean-reports (Vs.Bool b) k f = f b
+    boolean-reports (Vs.Int z) k f = reports-stuck kept
+    boolean-reports (Vs.Set t) k f = reports-stuck kept
+
+    mark-reports : (mark : Mark) (k : ℕ → Next X) → ((n : ℕ) → Reports s (k n)) → Reports s (onMark s′ mark k)
+    unfolding onMark
+    mark-reports (Number n) k f = f n
+    mark-reports Nothing k f = reports-stuck kept
+
+    part-reports : (a n : ℕ) (k : List X → Next X) → ((part : List X) → Reports s (k part))
+        → Reports s (onPart s′ a n k)
+    unfolding onPart
+    part-reports a n k f = choose-has (Reports s) _ (λ e. f _) (λ e. reports-stuck kept)
+
+  read-reports : {s : State X} (x : Next X) → Reports s x → Reports s (afterRead x)
+  unfolding afterRead
+  read-reports (goes u) (reports-goes kept) = reports-goes (keeps-on kept (keeps-same refl refl))
+  read-reports finished h = h
+  read-reports (trapped t z u) h = h
+  read-reports (stuck u) h = h
+
+  -- ---- the statements
+
+  module _ (m : Memory X) (g : Program) (s : State X) where
+    abbrev here : Keeps s s
+    here = keeps-all s
+
+    went : (row : ℕ) → Keeps s (goTo s row)
+    unfolding goTo
+    went row = keeps-same refl refl
+
+    written-reports : (a : ℕ) (new : List X) → Reports s (written s a new)
+    unfolding written following goTo withCells
+    written-reports a new =
+        choose-has (Reports s) _ (λ e. reports-goes (keeps-same refl refl)) (λ e. reports-stuck here)
+
+    copied-reports : (target source : Place) → Reports s (copied m g s target source)
+    unfolding copied
+    copied-reports target source =
+        choose-has (Reports s) _ (λ e. reports-trapped here (no-number _))
+        (λ e. part-reports here _ _ _ (λ part. written-reports (target .address) part))
+
+    assigned-reports : (row : Row) → Reports s (assigned m g s row)
+    unfolding assigned
+    assigned-reports row =
+        place-reports here _ _ (λ target. choose-has (Reports s) _
+        (λ e. value-reports here _ _ (λ v. written-reports (target .address) _))
+        (λ e. place-reports here _ _ (λ source. copied-reports target source)))
+
+  argument-reports : (m : Memory X) (g : Program) {s s′ : State X} → Keeps s s′ → (k : ℕ) (parameter : Row)
+      (next : List X → Next X) → ((new : List X) → Reports s (next new))
+      → Reports s (argumentCells m g s′ k parameter next)
+  unfolding argumentCells
+  argument-reports m g {s} kept k parameter next f =
+      choose-has (Reports s) _ (λ e. place-reports kept _ _ (λ place. f _))
+      (λ e. choose-has (Reports s) _ (λ e. value-reports kept _ _ (λ v. f _))
+      (λ e. place-reports kept _ _ (λ place. part-reports kept _ _ _ f)))
+
+  passed-reports : (m : Memory X) (g : Program) {s : State X} (k a n : ℕ) (s′ : State X) → Keeps s s′
+      → (next : State X → Next X) → ((u : State X) → Keeps s u → Reports s (next u))
+      → Reports s (passed m g k a n s′ next)
+  unfolding passed withCells
+  passed-reports m g k a zero s′ kept next f = f s′ kept
+  passed-reports m g k a (suc n) s′ kept next f =
+      argument-reports m g kept k (rowAt (g .variables) a) _ (λ new.
+      passed-reports m g (k + 1) (a + 1) n _ (keeps-on kept (keeps-same refl refl)) next f)
+
+  module _ (m : Memory X) (g : Program) (s : State X) where
+    entered-reports : (q : ℕ) (procedure : Row) (u : State X) → Keeps s u → Reports s (entered m g q procedure u)
+    unfolding entered
+    entered-reports q procedure u kept = reports-goes (keeps-on kept (keeps-same refl refl))
+
+    called-reports : (row : Row) → Reports s (called m g row s)
+    unfolding called
+    called-reports row =
+        choose-has (Reports s) _ (λ e. reports-trapped (keeps-all s) (no-number _))
+        (λ e. passed-reports m g _ _ _ s (keeps-all s) _ (λ u kept. entered-reports _ _ u kept))
+
+    jumped-reports : (row : Row) → Reports s (jumped m g row s)
+    unfolding jumped following
+    jumped-reports row =
+        value-reports (keeps-all s) _ _ (λ v. boolean-reports (keeps-all s) v _ (λ holds.
+        reports-goes (choose-has (Keeps s) holds (λ e. went m g s _) (λ e. went m g s _))))
+
+    returned-reports : Reports s (returned m g s)
+    unfolding returned
+    returned-reports =
+        choose-has (Reports s) _ (λ e. reports-finished)
+        (λ e. mark-reports (keeps-all s) _ _ (λ row. mark-reports (keeps-all s) _ _ (λ base.
+        reports-goes (keeps-same refl refl))))
+
+    received-reports : (input : List ℤ) (row : Row) → Reports s (received m g input row s)
+    unfolding received
+    received-reports input row =
+        place-reports (keeps-all s) _ _ (λ target. choose-has (Reports s) _
+        (λ e. read-reports _ (written-reports m g s (target .address) _))
+        (λ e. reports-trapped (keeps-all s) (no-number _)))
+
+    sent-reports : (row : Row) → Reports s (sent m g row s)
+    unfolding sent
+    sent-reports row =
+        value-reports (keeps-all s) _ _ (λ v. integer-reports (keeps-all s) v _ (λ z. choose-has (Reports s) _
+        (λ e. reports-goes (record {
+          count = omega arith;
+          places = length-set (s .output) _ z;
+          place = λ i h. getD-set-other (s .output) _ i z (pos 0) (omega arith);
+        }))
+        (λ e. reports-trapped (keeps-all s) (no-number _))))
+
+    halted-reports : (row : Row) → Reports s (halted m g row s)
+    unfolding halted
+    halted-reports row =
+        value-reports (keeps-all s) _ _ (λ v. integer-reports (keeps-all s) v _ (λ z.
+        reports-trapped (keeps-all s) (record { halt = λ other. absurd (other halt-number) })))
+
+    perform-reports : (input : List ℤ) (kind : ℕ) (row : Row) → Reports s (perform m g input kind row s)
+    unfolding perform
+    perform-reports input kind row =
+        choose-has (Reports s) _ (λ e. assigned-reports m g s row)
+        (λ e. choose-has (Reports s) _ (λ e. called-reports row)
+        (λ e. choose-has (Reports s) _ (λ e. jumped-reports row)
+        (λ e. choose-has (Reports s) _ (λ e. reports-goes (went m g s (row .b)))
+        (λ e. choose-has (Reports s) _ (λ e. returned-reports)
+        (λ e. choose-has (Reports s) _ (λ e. received-reports input row)
+        (λ e. choose-has (Reports s) _ (λ e. sent-reports row)
+        (λ e. choose-has (Reports s) _ (λ e. halted-reports row) (λ e. reports-stuck (keeps-all s)))))))))
+
+    pub step-reports : (input : List ℤ) → Reports s (stepOf m g input s)
+    unfolding stepOf
+    step-reports input = perform-reports input _ _
