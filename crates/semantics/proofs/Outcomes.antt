@@ -116,7 +116,8 @@ last-stays g input (suc n) k s last =
     rw one (go (stepOf tagged g input s) last (λ u h. last-stays g input n k u h))
   where
     go : (x : Next Cell) → Last (moved x s (after tagged g input n))
-        → ((u : State Cell) → Last (after tagged g input n u) → after tagged g input (n + k) u ≡ after tagged g input n u)
+        → ((u : State Cell) → Last (after tagged g input n u)
+        → after tagged g input (n + k) u ≡ after tagged g input n u)
         → moved x s (after tagged g input (n + k)) ≡ moved x s (after tagged g input n)
     go (goes u) h later = later u h
     go finished h later = refl
