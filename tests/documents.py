@@ -1,5 +1,5 @@
 #!/usr/bin/env python3
-"""Holds the documents to the repository: documents.py --check
+"""Holds the documents to the repository: documents.py --check, or --write to write the table that is made from it
 
 First a few small texts, each with one mistake that must be found. Then of README.md, docs/*.md and each folder's
 README.md:
@@ -7,24 +7,36 @@ README.md:
   in target/ and is not asked for;
 - an indented block behind a line that ends with a file in backticks and a colon stands in that file word for word, up
   to white space; a line `..` parts pieces that follow one another there;
-- of `crate::name` the crate has such a function, struct or enum;
+- of `crate::name` the crate has such a function, struct, enum or constant;
 - of `crate/Module`: `name`, `name` the module, in specs/ or proofs/, defines or proves each name;
 - of `crate/must-fail/name` there is such an edit;
 - of a decision's number, as D17, docs/DECISIONS.md has the entry;
 - no line has more than 120 characters, but for rows of tables.
+And of two tables:
+- that of the plan's cells, in docs/PLAN.md and above the constants in crates/sizes/src/lib.rt, has each constant with
+  its value, and crates/sizes/specs/Cells.antt has the same constants;
+- that between two comments in docs/PROOFS.md is what opened.py finds; --write writes it.
 Each mistake is a line; the exit status is 1 where there is one."""
 import pathlib
 import re
 import sys
 
+sys.dont_write_bytecode = True  # no folder beside opened.py
+
+import opened
+
 TOP = pathlib.Path(__file__).resolve().parent.parent
 CRATES = TOP / 'crates'
 FILE = re.compile(r'(?:crates|docs|examples|include|rust|tests|tools|vectors|\.ci)/[^\s`]*')
 ANY = re.compile('[A-Z]{2,}(?=[/.]|$)|NNNNN')
-ITEM = r'(?:pub )?(?:extern "C" )?(?:fn|struct|enum) '
+ITEM = r'(?:pub )?(?:extern "C" )?(?:fn|struct|enum|const) '
 DEFINES = r'(?:unfoldable |abbrev )?(?:pub )?(?:record |data )?'
 DECISIONS = set(re.findall(r'^\*\*(D[0-9]+)\.', (TOP / 'docs/DECISIONS.md').read_text(encoding='utf-8'), re.MULTILINE))
 MODULE = re.compile(r'`([a-z_]+)/([A-Z]\w*)`(?::((?:(?:,| and)?\s+`[^`\s/]+`)+))?')
+PLAN, CONSTANTS, PROOFS = TOP / 'docs/PLAN.md', CRATES / 'sizes/src/lib.rt', TOP / 'docs/PROOFS.md'
+CONSTANT = re.compile(r'^(?:pub const )?([A-Z_]+)(?:: usize)? = (\w+)(?: \+ (\d+))?;?$', re.MULTILINE)
+CELL = re.compile(r'^(?:\||//) +(\d+) (?:\| `| )([A-Z_]+)\b', re.MULTILINE)
+BEGIN, END = '<!-- opened by proofs -->\n', '<!-- end -->\n'
 
 
 def flat(text):
@@ -95,6 +107,46 @@ def mistakes(text):
                 yield f'{crate}/{module} has no {name}'
 
 
+def constants(path):
+    """The plan's constants: each is a number or an earlier one, or that plus a number."""
+    values = {}
+    for name, first, more in CONSTANT.findall(path.read_text(encoding='utf-8')):
+        values[name] = int(values.get(first, first)) + int(more or 0)
+    return values
+
+
+def wrong_cells(text, values):
+    """Where a table of the plan's cells, in a document or a comment, has not the constants' values."""
+    cells = {name: int(cell) for cell, name in CELL.findall(text)}
+    for name in {**values, **cells}:
+        if values.get(name) != cells.get(name):
+            yield f'{name} is {values.get(name, "no constant")}, and the table has {cells.get(name, "no such row")}'
+
+
+def wrong_rows(text, rows):
+    """Where the table between the two comments has not these rows."""
+    there = text.partition(BEGIN)[2].partition(END)[0].splitlines()
+    for first in dict.fromkeys(row.split(' | ')[0] for row in there + rows):
+        if [row for row in there if row.startswith(first)] != [row for row in rows if row.startswith(first)]:
+            yield f'the row {first} | is not what the proofs open: documents.py --write writes it'
+
+
+def tables():
+    """The mistakes of the tables that are held to the code and the proofs, each behind its file."""
+    values = constants(CONSTANTS)
+    for path in (PLAN, CONSTANTS):
+        yield from ((path, wrong) for wrong in wrong_cells(path.read_text(encoding='utf-8'), values))
+    if constants(CRATES / 'sizes/specs/Cells.antt') != values:
+        yield CONSTANTS, 'specs/Cells.antt has other constants'
+    yield from ((PROOFS, wrong) for wrong in wrong_rows(PROOFS.read_text(encoding='utf-8'), opened.table()))
+
+
+def write():
+    before, begin, rest = PROOFS.read_text(encoding='utf-8').partition(BEGIN)
+    _, end, after = rest.partition(END)
+    PROOFS.write_text(before + begin + '\n'.join([*opened.table(), end]) + after, encoding='utf-8')
+
+
 def documents():
     inner = [path for folder in ('rust', 'tests', 'tools', 'vectors') for path in (TOP / folder).rglob('README.md')]
     return [TOP / 'README.md', *sorted((TOP / 'docs').glob('*.md')), *sorted(inner)]
@@ -113,15 +165,51 @@ BROKEN = [
     '`sets/must-fail/none`',
     'D17 and D999',
 ]
+# Tables with one mistake each, and what they should have.
+BROKEN_CELLS = [
+    ('| 385 | `PLACES` | where variables begin |', {'PLACES': 384}),
+    ('// 1807  RUN_PLAN  how many cells', {'RUN_PLAN': 1806}),
+    ('| 384 | `PLACES` | where variables begin |', {'PLACES': 384, 'FRAMES': 640}),
+    ('| 384 | `PLACES` | |\n| 640 | `FRAMES` | |', {'PLACES': 384}),
+]
+BROKEN_ROWS = [
+    (f'{BEGIN}| `sets` | `image`: `rowAt` |\n{END}', ['| `sets` | `image`: `rowAt`, `rowsOf` |']),
+    (f'{BEGIN}| `sets` | `image`: `rowAt` |\n{END}', []),
+    (f'{BEGIN}{END}', ['| `sets` | `image`: `rowAt` |']),
+]
+# A module of proofs that opens two definitions of a lower crate, and one of its own.
+OPENING = '''
+use Rattle.image.specs.Rows.{rowAt as row, rowsOf}
+use Rattle.sets.specs.Sets.{memberOf}
+
+  law : (t : List ℕ) → rowsOf t ≡ 0
+      → row t 0 ≡ row t 1
+  unfolding row memberOf
+      rowsOf
+  law t h = refl
+'''
+
+
+def missed():
+    """What is not found that must be."""
+    yield from (text for text in BROKEN if len(list(mistakes(text))) != 1)
+    yield from (text for text, values in BROKEN_CELLS if len(list(wrong_cells(text, values))) != 1)
+    yield from (text for text, rows in BROKEN_ROWS if len(list(wrong_rows(text, rows))) != 1)
+    if {(found.lower, found.name) for found in opened.openings(OPENING)} != {('image', 'rowAt'), ('image', 'rowsOf')}:
+        yield OPENING
 
 
 def main(arguments):
+    if arguments == ['--write']:
+        write()
+        return 0
     if arguments != ['--check']:
-        print('usage: documents.py --check', file=sys.stderr)
+        print('usage: documents.py --check | --write', file=sys.stderr)
         return 2
-    found = [f'not found in {text[:60]!r}' for text in BROKEN if len(list(mistakes(text))) != 1]
+    found = [f'not found in {text[:60]!r}' for text in missed()]
     for path in documents():
         found += [f'{path.relative_to(TOP)}: {mistake}' for mistake in mistakes(path.read_text(encoding='utf-8'))]
+    found += [f'{path.relative_to(TOP)}: {mistake}' for path, mistake in tables()]
     for mistake in found:
         print(f'documents: {mistake}')
     return 1 if found else 0

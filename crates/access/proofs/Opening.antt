@@ -10,6 +10,7 @@ use lib.ListN.{length, getD}
 use Rattle.prelude.specs.Cells.{Filled}
 use Rattle.image.specs.Rows.{rowAt, rowsOf}
 use Rattle.header.specs.Header.{tablesIn}
+use Rattle.sizes.specs.Cells.{PLACES, FRAMES, FIRSTS, GLOBALS, BOUNDS, OWNERS, RUN_PLAN}
 use Rattle.types.specs.Plan.{Plan}
 use Rattle.relations.proofs.Fielding.{field-known}
 use Rattle.frames.specs.Variables.{isGlobal, globalsOf}
@@ -47,7 +48,7 @@ global-is : (v : List ℕ) (a : ℕ) → a < globalsOf v → isGlobal v a ≡ tr
 unfolding isGlobal
 global-is v a h = eq-eqb (rowAt v a .kind) 0 (global-kind v a h)
 
-module _ (image old between : List ℕ) (room : 1806 ≤ length old) (accepted : checkOf image ≡ Accepted)
+module _ (image old between : List ℕ) (room : RUN_PLAN ≤ length old) (accepted : checkOf image ≡ Accepted)
     (left : Whole (programOf image .types) (programOf image .fields) (programOf image .variables)
     (programOf image .procedures) old between) where
   abbrev g : Program
@@ -57,10 +58,10 @@ module _ (image old between : List ℕ) (room : 1806 ≤ length old) (accepted :
   ok = program-accepted image accepted
 
   -- every variable's place is in the plan
-  place-is : (a : ℕ) → a < rowsOf (g .variables) → getD between (384 + a) 0 ≡ placeOf g a
+  place-is : (a : ℕ) → a < rowsOf (g .variables) → getD between (PLACES + a) 0 ≡ placeOf g a
   place-is a h = go (decLt a (globalsOf (g .variables)))
     where
-      go : Dec (a < globalsOf (g .variables)) → getD between (384 + a) 0 ≡ placeOf g a
+      go : Dec (a < globalsOf (g .variables)) → getD between (PLACES + a) 0 ≡ placeOf g a
       go (yes global) =
           left .places .global a global
           ∙ sym (place-global g ok a (global-is (g .variables) a global))
@@ -75,9 +76,9 @@ module _ (image old between : List ℕ) (room : 1806 ≤ length old) (accepted :
 
   -- later cells may be written behind those of types, variables and procedures
   module _ (plan : List ℕ) (cells : length plan ≡ length between)
-      (same : (i : ℕ) → i < 770 → getD plan i 0 ≡ getD between i 0)
-      (bound : (j : ℕ) → j < 12 → getD plan (770 + j) 0 ≡ boundOf (tablesIn image) j) where
-    types-same : (i : ℕ) → i < 384 → getD plan i 0 ≡ getD (left .typed) i 0
+      (same : (i : ℕ) → i < BOUNDS → getD plan i 0 ≡ getD between i 0)
+      (bound : (j : ℕ) → j < 12 → getD plan (BOUNDS + j) 0 ≡ boundOf (tablesIn image) j) where
+    types-same : (i : ℕ) → i < PLACES → getD plan i 0 ≡ getD (left .typed) i 0
     types-same i h = same i (omega arith) ∙ left .places .types i h
 
     typed : Plan (g .types) (g .fields) (rowsOf (g .types)) plan
@@ -96,10 +97,10 @@ module _ (image old between : List ℕ) (room : 1806 ≤ length old) (accepted :
           cells = omega (arith, cells, left .places .cells, left .rest .cells);
           size = typed .size;
           field = field-known (g .types) (g .fields) plan (ok .questions .types) typed;
-          place = λ a h. same (384 + a) (omega arith) ∙ place-is a h;
-          frame = λ q h. same (640 + q) (omega arith) ∙ left .places .frame q h;
-          first = λ q h. same (704 + q) (omega arith) ∙ left .places .first q (omega arith);
-          globals = same 769 (omega arith) ∙ left .places .globals;
+          place = λ a h. same (PLACES + a) (omega arith) ∙ place-is a h;
+          frame = λ q h. same (FRAMES + q) (omega arith) ∙ left .places .frame q h;
+          first = λ q h. same (FIRSTS + q) (omega arith) ∙ left .places .first q (omega arith);
+          globals = same GLOBALS (omega arith) ∙ left .places .globals;
           bound = bound;
         }
 
@@ -108,7 +109,7 @@ record Left (image old plan : List ℕ) : Type 0 where
   between : List ℕ
   whole-plan : Whole (programOf image .types) (programOf image .fields) (programOf image .variables)
       (programOf image .procedures) old between
-  filled : Filled 770 12 (boundOf (tablesIn image)) between plan
+  filled : Filled BOUNDS 12 (boundOf (tablesIn image)) between plan
 
 -- with acceptance the plan is whole
 leaves-whole : {t f v p old plan : List ℕ} {x : CheckAnswer} → x ≡ Accepted → Leaves t f v p old x plan
@@ -125,7 +126,7 @@ prepared-left image old plan x e (prepared {between = between} l filled) =
     record { between = between; whole-plan = leaves-whole refl l; filled = filled }
 
 -- a plan that the check left with acceptance
-pub prepared-planned : (image old plan : List ℕ) → 1806 ≤ length old → checkOf image ≡ Accepted
+pub prepared-planned : (image old plan : List ℕ) → RUN_PLAN ≤ length old → checkOf image ≡ Accepted
     → Prepared image old Accepted plan → Planned image plan
 prepared-planned image old plan room accepted p =
     let l = prepared-left image old plan Accepted refl p in
@@ -133,8 +134,8 @@ prepared-planned image old plan room accepted p =
     (l .filled .cell)
 
 -- and the procedures of statements with it
-pub opened-ready : (image old plan : List ℕ) (x : CheckAnswer) → 1806 ≤ length old → x ≡ Accepted → checkOf image ≡ x
-    → Opened image old x plan → Ready image plan
+pub opened-ready : (image old plan : List ℕ) (x : CheckAnswer) → RUN_PLAN ≤ length old → x ≡ Accepted
+    → checkOf image ≡ x → Opened image old x plan → Ready image plan
 opened-ready image old plan x room e check (closed p) = let z : _≡_ {A = ℕ} 0 1 = cc in absurd (omega arith)
 opened-ready image old plan x room e check (opened {between = between} p owners) =
     let l = prepared-left image old between Accepted refl p in
@@ -142,7 +143,7 @@ opened-ready image old plan x room e check (opened {between = between} p owners)
       planned = whole-planned image old (l .between) room check (l .whole-plan) plan
           (owners .cells ∙ l .filled .cells)
           (λ i h. owners .below i (omega arith) ∙ l .filled .below i h)
-          (λ j h. owners .below (770 + j) (omega arith) ∙ l .filled .cell j h);
+          (λ j h. owners .below (BOUNDS + j) (omega arith) ∙ l .filled .cell j h);
       owner = owners .cell;
     }
 
@@ -156,5 +157,5 @@ opened-no image old plan x e p = rw e (closed (rw e at p))
 -- of an accepted one
 pub opened-yes : (image old between plan p : List ℕ) (n : ℕ) → Prepared image old Accepted between
     → p ≡ programOf image .procedures → n ≡ rowsOf (programOf image .statements)
-    → Filled 782 n (procedureAt p) between plan → Opened image old Accepted plan
+    → Filled OWNERS n (procedureAt p) between plan → Opened image old Accepted plan
 opened-yes image old between plan p n left procedures rows filled = opened left (rw (procedures, rows) at filled)

@@ -8,6 +8,7 @@ use Rattle.prelude.specs.Choice.{choose}
 use Rattle.header.specs.declared.Table.{Table}
 use Rattle.header.specs.Header.{tablesIn, partOf}
 use Rattle.header.proofs.Fitting.{Placed, Fits, header-fits}
+use Rattle.sizes.specs.Cells.{BOUNDS}
 use Rattle.checker.specs.Prepared.{boundOf}
 use Rattle.checker.proofs.Accepted.{accepted-header}
 use Rattle.checker.proofs.Bounds.{bounds-fit}
@@ -41,16 +42,18 @@ module _ {image plan : List ℕ} (p : Planned image plan) (k : ℕ) (h : k < 6) 
   fits : Fits image (tablesIn image)
   fits = header-fits image (tablesIn image) (accepted-header image (p .accepted))
 
-  start-is : getD plan (770 + 2 * k) 0 ≡ boundOf (tablesIn image) (2 * k)
+  start-is : getD plan (BOUNDS + 2 * k) 0 ≡ boundOf (tablesIn image) (2 * k)
   start-is = p .bound (2 * k) (omega arith)
 
-  end-is : getD plan (771 + 2 * k) 0 ≡ boundOf (tablesIn image) (1 + 2 * k)
-  end-is = let at : 770 + (1 + 2 * k) ≡ 771 + 2 * k = omega arith in rw at at (p .bound (1 + 2 * k) (omega arith))
+  end-is : getD plan (BOUNDS + 2 * k + 1) 0 ≡ boundOf (tablesIn image) (1 + 2 * k)
+  end-is = let at : BOUNDS + (1 + 2 * k) ≡ BOUNDS + 2 * k + 1 = omega arith in
+      rw at at (p .bound (1 + 2 * k) (omega arith))
 
   -- the cells of table k
-  pub table-stands : Stands image (getD plan (770 + 2 * k) 0) (getD plan (771 + 2 * k) 0) (tableOf (programOf image) k)
+  pub table-stands : Stands image (getD plan (BOUNDS + 2 * k) 0) (getD plan (BOUNDS + 2 * k + 1) 0)
+      (tableOf (programOf image) k)
   table-stands = rw (start-is, end-is) (stands image fits k h)
 
   -- it ends early
-  pub table-small : getD plan (771 + 2 * k) 0 ≤ 65536
+  pub table-small : getD plan (BOUNDS + 2 * k + 1) 0 ≤ 65536
   table-small = rw end-is (bounds-fit image (tablesIn image) fits .each (1 + 2 * k))

@@ -1,5 +1,5 @@
 -- What a machine needs to know of an image and its plan.
--- To the cells that `checker` fills, 782 + r adds the procedure whose body has statement row r.
+-- To the cells that `checker` fills, OWNERS + r adds the procedure whose body has statement row r.
 use Prim.Native.Nat.{ℕ, _+_, _≤_, _<_}
 use mathlib.Core.Path.{_≡_}
 use mathlib.Core.List.{List}
@@ -10,6 +10,7 @@ use Rattle.prelude.specs.Cells.{Filled}
 use Rattle.image.specs.Rows.{rowsOf}
 use Rattle.header.specs.Header.{tablesIn}
 use Rattle.shapes.specs.Sizes.{sizeOf}
+use Rattle.sizes.specs.Cells.{PLACES, FRAMES, FIRSTS, GLOBALS, BOUNDS, OWNERS, RUN_PLAN}
 use Rattle.relations.specs.Fields.{fieldOf, plannedField}
 use Rattle.frames.specs.Procedures.{firstVariable}
 use Rattle.statements.specs.Statements.{procedureAt}
@@ -33,30 +34,30 @@ tableOf g k =
 -- an accepted image and a plan with its sizes, fields, places, frames and tables
 pub record Planned (image plan : List ℕ) : Type 0 where
   pub accepted : checkOf image ≡ Accepted
-  pub cells : 1806 ≤ length plan
+  pub cells : RUN_PLAN ≤ length plan
   pub size : (r : ℕ) → r < rowsOf (programOf image .types)
       → getD plan r 0 ≡ sizeOf (programOf image .types) (programOf image .fields) r
   pub field : (r n : ℕ) → plannedField (programOf image .types) (programOf image .fields) plan n r
       ≡ fieldOf (programOf image .types) (programOf image .fields) r n
   pub place : (a : ℕ) → a < rowsOf (programOf image .variables)
-      → getD plan (384 + a) 0 ≡ placeOf (programOf image) a
+      → getD plan (PLACES + a) 0 ≡ placeOf (programOf image) a
   pub frame : (q : ℕ) → q < rowsOf (programOf image .procedures)
-      → getD plan (640 + q) 0 ≡ frameSize (programOf image .types) (programOf image .fields)
+      → getD plan (FRAMES + q) 0 ≡ frameSize (programOf image .types) (programOf image .fields)
       (programOf image .variables) (programOf image .procedures) q
   pub first : (q : ℕ) → q < rowsOf (programOf image .procedures)
-      → getD plan (704 + q) 0 ≡ firstVariable (programOf image .variables) (programOf image .procedures) q
-  pub globals : getD plan 769 0 ≡ globalRoom (programOf image)
-  pub bound : (j : ℕ) → j < 12 → getD plan (770 + j) 0 ≡ boundOf (tablesIn image) j
+      → getD plan (FIRSTS + q) 0 ≡ firstVariable (programOf image .variables) (programOf image .procedures) q
+  pub globals : getD plan GLOBALS 0 ≡ globalRoom (programOf image)
+  pub bound : (j : ℕ) → j < 12 → getD plan (BOUNDS + j) 0 ≡ boundOf (tablesIn image) j
 
 -- and the procedure of each statement
 pub record Ready (image plan : List ℕ) : Type 0 where
   pub planned : Planned image plan
   pub owner : (r : ℕ) → r < rowsOf (programOf image .statements)
-      → getD plan (782 + r) 0 ≡ procedureAt (programOf image .procedures) r
+      → getD plan (OWNERS + r) 0 ≡ procedureAt (programOf image .procedures) r
 
 -- what the check leaves in a lent plan, and behind acceptance the procedure of each statement
 pub data Opened (image old : List ℕ) : CheckAnswer → List ℕ → Type 0 where
   closed : {q row : ℕ} {plan : List ℕ} → Prepared image old (Refused q row) plan → Opened image old (Refused q row) plan
   opened : {between plan : List ℕ} → Prepared image old Accepted between
-      → Filled 782 (rowsOf (programOf image .statements)) (procedureAt (programOf image .procedures)) between plan
+      → Filled OWNERS (rowsOf (programOf image .statements)) (procedureAt (programOf image .procedures)) between plan
       → Opened image old Accepted plan

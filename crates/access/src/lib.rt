@@ -3,12 +3,19 @@
 use checker::CheckAnswer;
 use image::Row;
 use relations::FieldAnswer;
+use sizes::BOUNDS;
+use sizes::FIRSTS;
+use sizes::FRAMES;
+use sizes::GLOBALS;
+use sizes::OWNERS;
+use sizes::PLACES;
 ghost use mathlib.Core.Path.{_≡_};
 ghost use Prim.Native.Nat.{_≤_, _<_};
 ghost use lib.ListN.{length};
 ghost use Rattle.prelude.specs.Cells.{Filled};
 ghost use Rattle.image.specs.Rows.{rowAt, rowsOf};
 ghost use Rattle.shapes.specs.Sizes.{sizeOf};
+ghost use Rattle.sizes.specs.Cells.{OWNERS, RUN_PLAN};
 ghost use Rattle.relations.specs.Extends.{extends as extendsOf};
 ghost use Rattle.relations.specs.Fields.{fieldOf};
 ghost use Rattle.frames.specs.Procedures.{firstVariable};
@@ -26,8 +33,9 @@ fn table<'a>(image: &'a [u8], plan: &[u32], k: usize) -> &'a [u8]
     requires { ⌜ Planned (now image) (now plan) × (k < 6) ⌝ }
     ensures { λ x. ⌜ now x ≡ tableOf (programOf (now (image .entry))) k ⌝ }
 {
-    let start = plan[770 + 2 * k] as usize;
-    let end = plan[771 + 2 * k] as usize;
+    let at = BOUNDS + 2 * k;
+    let start = plan[at] as usize;
+    let end = plan[at + 1] as usize;
     &image[start..end]
 }
 
@@ -99,7 +107,7 @@ pub fn place_of(image: &[u8], plan: &[u32], a: u32) -> u32
     requires { ⌜ Planned (now image) (now plan) × (a < rowsOf (programOf (now image) .variables)) ⌝ }
     ensures { λ x. ⌜ x ≡ placeOf (programOf (now (image .entry))) a ⌝ }
 {
-    plan[384 + a as usize]
+    plan[PLACES + a as usize]
 }
 
 // The size of procedure q's frame.
@@ -108,7 +116,7 @@ pub fn frame_size(image: &[u8], plan: &[u32], q: u16) -> u32
     ensures { λ x. ⌜ x ≡ frameSize (programOf (now (image .entry)) .types) (programOf (now (image .entry)) .fields)
         (programOf (now (image .entry)) .variables) (programOf (now (image .entry)) .procedures) q ⌝ }
 {
-    plan[640 + q as usize]
+    plan[FRAMES + q as usize]
 }
 
 // The first variable row of procedure q.
@@ -117,7 +125,7 @@ pub fn first_variable(image: &[u8], plan: &[u32], q: u16) -> u32
     ensures { λ x. ⌜ x ≡ firstVariable (programOf (now (image .entry)) .variables)
         (programOf (now (image .entry)) .procedures) q ⌝ }
 {
-    plan[704 + q as usize]
+    plan[FIRSTS + q as usize]
 }
 
 // How many cells the globals have.
@@ -125,7 +133,7 @@ pub fn global_room(image: &[u8], plan: &[u32]) -> u32
     requires { ⌜ Planned (now image) (now plan) ⌝ }
     ensures { λ x. ⌜ x ≡ globalRoom (programOf (now (image .entry))) ⌝ }
 {
-    plan[769]
+    plan[GLOBALS]
 }
 
 // The procedure whose body has statement row r.
@@ -133,20 +141,20 @@ pub fn procedure_of(image: &[u8], plan: &[u32], r: u32) -> u32
     requires { ⌜ Ready (now image) (now plan) × (r < rowsOf (programOf (now image) .statements)) ⌝ }
     ensures { λ x. ⌜ x ≡ procedureAt (programOf (now (image .entry)) .procedures) r ⌝ }
 {
-    plan[782 + r as usize]
+    plan[OWNERS + r as usize]
 }
 
 // ---- the plan
 
 // Writes the procedure of each of n statement rows.
 fn fill_owners(p: &[u8], n: usize, plan: &mut [u32])
-    requires { ⌜ (n ≤ 1024) × (rowsOf (now p) ≤ 64) × (1806 ≤ length (now plan)) ⌝ }
-    ensures { λ x. ⌜ Filled 782 n (procedureAt (now (p .entry))) (now (plan .entry)) (now (plan .exit)) ⌝ }
+    requires { ⌜ (n ≤ 1024) × (rowsOf (now p) ≤ 64) × (RUN_PLAN ≤ length (now plan)) ⌝ }
+    ensures { λ x. ⌜ Filled OWNERS n (procedureAt (now (p .entry))) (now (plan .entry)) (now (plan .exit)) ⌝ }
 {
     let mut q: usize = 0;
     let mut r: usize = 0;
     while r < n {
-        plan[782 + r] = q as u32;
+        plan[OWNERS + r] = q as u32;
         r = r + 1;
         q = statements::next_procedure(p, q, r);
     }
@@ -154,7 +162,7 @@ fn fill_owners(p: &[u8], n: usize, plan: &mut [u32])
 
 // The check, which leaves a whole plan of an image that it accepts.
 pub fn open_image(image: &[u8], plan: &mut [u32]) -> CheckAnswer
-    requires { ⌜ 1806 ≤ length (now plan) ⌝ }
+    requires { ⌜ RUN_PLAN ≤ length (now plan) ⌝ }
     ensures { λ x. ⌜ x ≡ checkOf (now (image .entry)) ⌝ }
     ensures plan { λ x. ⌜ Opened (now (image .entry)) (now (plan .entry)) x (now (plan .exit)) ⌝ }
 {

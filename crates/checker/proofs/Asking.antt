@@ -19,6 +19,7 @@ use Rattle.header.specs.declared.HeaderAnswer.the-variants.{No, Yes}
 use Rattle.header.specs.Header.{question1, question2, question3, tablesIn, headerOf, partOf}
 use Rattle.header.proofs.Fitting.{header-fits, HeaderCase, HeaderCase.first-no, HeaderCase.second-no, HeaderCase.third-no}
 use Rattle.header.proofs.Fitting.{HeaderCase.all-yes, header-case}
+use Rattle.sizes.specs.Cells.{BOUNDS}
 use Rattle.types.specs.Question.{question4}
 use Rattle.types.specs.Plan.{Plan, Rest, passed as passedTypes}
 use Rattle.places.specs.Places.{Places}
@@ -51,7 +52,7 @@ module _ (t f v n old types : List ℕ) (x : Verdict) (table : Typed (typeOf t f
 
 -- ---- what is left in the plan
 
-pub places-fit : (t f v p n s plan : List ℕ) → CountsFit t f v p n s → 770 ≤ length plan → question4 t f ≡ Kept
+pub places-fit : (t f v p n s plan : List ℕ) → CountsFit t f v p n s → BOUNDS ≤ length plan → question4 t f ≡ Kept
     → firstNo (tableQuestion t f v p n s) 5 7 ≡ Accepted → Plan t f (rowsOf t) plan → PlacesFit t f v p plan
 unfolding tableQuestion choose
 places-fit t f v p n s plan fit cells four accepted planned =
@@ -170,7 +171,7 @@ module _ (image : List ℕ) where
     pub prepared-yes : (old between plan : List ℕ) (x : CheckAnswer) → x ≡ Accepted
         → Leaves (partOf image (ts .types)) (partOf image (ts .fields)) (partOf image (ts .variables))
         (partOf image (ts .procedures)) old x between
-        → Filled 770 12 (boundOf ts) between plan → Prepared image old Accepted plan
+        → Filled BOUNDS 12 (boundOf ts) between plan → Prepared image old Accepted plan
     prepared-yes old between plan x e left filled =
         prepared {between = between} {plan = plan} (rw (header-tables, ← e) left) (rw header-tables filled)
 

@@ -11,6 +11,7 @@ use Rattle.prelude.specs.Cells.{Filled}
 use Rattle.prelude.proofs.Cells.{filled-none, filled-next}
 use Rattle.header.specs.declared.Tables.{Tables}
 use Rattle.header.proofs.Fitting.{Fits}
+use Rattle.sizes.specs.Cells.{BOUNDS, CHECK_PLAN}
 use Rattle.checker.specs.Prepared.{boundOf, BoundsFit}
 
 small : (b : Bool) {x y : ℕ} → x ≤ 65536 → y ≤ 65536 → choose b x y ≤ 65536
@@ -46,27 +47,27 @@ bounds-fit image ts fits =
 -- the first n of the twelve numbers are written
 pub record Bounded (ts : Tables) (old : List ℕ) (n : ℕ) (plan : List ℕ) : Type 0 where
   pub fit : BoundsFit ts
-  pub room : 782 ≤ length old
-  pub filled : Filled 770 n (boundOf ts) old plan
+  pub room : CHECK_PLAN ≤ length old
+  pub filled : Filled BOUNDS n (boundOf ts) old plan
 
-pub bounded-none : (ts : Tables) (old : List ℕ) → BoundsFit ts → 782 ≤ length old → Bounded ts old 0 old
-bounded-none ts old fit room = record { fit = fit; room = room; filled = filled-none 770 (boundOf ts) old }
+pub bounded-none : (ts : Tables) (old : List ℕ) → BoundsFit ts → CHECK_PLAN ≤ length old → Bounded ts old 0 old
+bounded-none ts old fit room = record { fit = fit; room = room; filled = filled-none BOUNDS (boundOf ts) old }
 
 module _ {ts : Tables} {old : List ℕ} (n : ℕ) {plan : List ℕ} (b : Bounded ts old n plan) (more : n ≤ 10) where
   -- two more may be written ..
-  pub bounded-fits : (770 + n + 1 < length plan) × (boundOf ts n ≤ 65536) × (boundOf ts (suc n) ≤ 65536)
+  pub bounded-fits : (BOUNDS + n + 1 < length plan) × (boundOf ts n ≤ 65536) × (boundOf ts (suc n) ≤ 65536)
   bounded-fits =
       let room = b .room in
       let same = b .filled .cells in
       (omega arith, b .fit .each n, b .fit .each (suc n))
 
   -- .. and are
-  pub bounded-more : (new : List ℕ) (x y : ℕ) → new ≡ set (set plan (770 + n) x) (770 + n + 1) y
+  pub bounded-more : (new : List ℕ) (x y : ℕ) → new ≡ set (set plan (BOUNDS + n) x) (BOUNDS + n + 1) y
       → x ≡ boundOf ts n → y ≡ boundOf ts (suc n) → Bounded ts old (suc (suc n)) new
   bounded-more new x y e h k =
       let room = b .room in
       let same = b .filled .cells in
-      let one = filled-next 770 n (boundOf ts) old plan (770 + n) x (b .filled) refl (omega arith) h in
+      let one = filled-next BOUNDS n (boundOf ts) old plan (BOUNDS + n) x (b .filled) refl (omega arith) h in
       let cells = one .cells in
-      let two = filled-next 770 (suc n) (boundOf ts) old _ (770 + n + 1) y one (omega arith) (omega arith) k in
+      let two = filled-next BOUNDS (suc n) (boundOf ts) old _ (BOUNDS + n + 1) y one (omega arith) (omega arith) k in
       record { fit = b .fit; room = b .room; filled = rw e two }

@@ -11,6 +11,7 @@ use Rattle.image.specs.declared.Verdict.the-variants.{Kept}
 use Rattle.header.specs.declared.HeaderAnswer.the-variants.{No}
 use Rattle.header.specs.declared.Tables.{Tables}
 use Rattle.header.specs.Header.{headerOf, tablesIn}
+use Rattle.sizes.specs.Cells.{BOUNDS}
 use Rattle.types.specs.Plan.{Plan, Rest, passed}
 use Rattle.types.specs.Question.{question4}
 use Rattle.frames.specs.Variables.{question5}
@@ -62,7 +63,7 @@ boundOf t j =
 pub record BoundsFit (t : Tables) : Type 0 where
   pub each : (j : ℕ) → boundOf t j ≤ 65536
 
--- .. and of an image: nothing without tables; with acceptance also where they stand, from cell 770 on
+-- .. and of an image: nothing without tables; with acceptance also where they stand, from cell BOUNDS on
 pub data Prepared (image old : List ℕ) : CheckAnswer → List ℕ → Type 0 where
   untouched : {q : ℕ} → headerOf image ≡ No q → Prepared image old (Refused q 0) old
   refused : {q row : ℕ} {plan : List ℕ}
@@ -70,4 +71,4 @@ pub data Prepared (image old : List ℕ) : CheckAnswer → List ℕ → Type 0 w
       → Prepared image old (Refused q row) plan
   prepared : {between plan : List ℕ}
       → Leaves (typesIn image) (fieldsIn image) (variablesIn image) (proceduresIn image) old Accepted between
-      → Filled 770 12 (boundOf (tablesIn image)) between plan → Prepared image old Accepted plan
+      → Filled BOUNDS 12 (boundOf (tablesIn image)) between plan → Prepared image old Accepted plan

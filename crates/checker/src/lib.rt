@@ -3,11 +3,14 @@ use header::HeaderAnswer;
 use header::Table;
 use header::Tables;
 use image::Verdict;
+use sizes::BOUNDS;
+use sizes::CHECK_PLAN;
 ghost use mathlib.Core.Path.{_≡_};
-ghost use Prim.Native.Nat.{_+_, _≤_, _<_};
+ghost use Prim.Native.Nat.{_+_, _*_, _≤_, _<_};
 ghost use lib.ListN.{length, set};
 ghost use Rattle.image.specs.declared.Verdict.the-variants.{Kept};
 ghost use Rattle.image.specs.Rows.{rowsOf};
+ghost use Rattle.sizes.specs.Cells.{BOUNDS, CHECK_PLAN};
 ghost use Rattle.types.specs.Question.{question4};
 ghost use Rattle.types.specs.Plan.{Plan};
 ghost use Rattle.frames.specs.Variables.{question5};
@@ -106,7 +109,7 @@ fn check_tables(
     s: &[u8],
     plan: &mut [u32],
 ) -> CheckAnswer
-    requires { ⌜ CountsFit (now t) (now f) (now v) (now p) (now n) (now s) × (770 ≤ length (now plan)) ⌝ }
+    requires { ⌜ CountsFit (now t) (now f) (now v) (now p) (now n) (now s) × (BOUNDS ≤ length (now plan)) ⌝ }
     ensures { λ x. ⌜ x ≡ firstNo (tableQuestion (now (t .entry)) (now (f .entry)) (now (v .entry)) (now (p .entry))
         (now (n .entry)) (now (s .entry))) 4 8 ⌝ }
     ensures plan { λ x. ⌜ Leaves (now (t .entry)) (now (f .entry)) (now (v .entry)) (now (p .entry)) (now
@@ -124,11 +127,13 @@ fn check_tables(
     CheckAnswer::Accepted
 }
 
-// Writes where a table stands: its start, and its end behind it.
-fn put_bounds(plan: &mut [u32], at: usize, table: Table)
-    requires { ⌜ (at + 1 < length (now plan)) × (table .start ≤ 65536) × (table .end ≤ 65536) ⌝ }
-    ensures { λ x. ⌜ now (plan .exit) ≡ set (set (now (plan .entry)) at (table .start)) (at + 1) (table .end) ⌝ }
+// Writes where table k of the six stands: its start, and its end behind it.
+fn put_bounds(plan: &mut [u32], k: usize, table: Table)
+    requires { ⌜ (BOUNDS + 2 * k + 1 < length (now plan)) × (table .start ≤ 65536) × (table .end ≤ 65536) ⌝ }
+    ensures { λ x. ⌜ now (plan .exit) ≡ set (set (now (plan .entry)) (BOUNDS + 2 * k) (table .start))
+        (BOUNDS + 2 * k + 1) (table .end) ⌝ }
 {
+    let at = BOUNDS + 2 * k;
     let start = table.start;
     let end = table.end;
     plan[at] = start as u32;
@@ -137,8 +142,8 @@ fn put_bounds(plan: &mut [u32], at: usize, table: Table)
 
 // Writes where the six tables stand.
 fn fill_bounds(tables: Tables, plan: &mut [u32])
-    requires { ⌜ BoundsFit tables × (782 ≤ length (now plan)) ⌝ }
-    ensures { λ x. ⌜ Filled 770 12 (boundOf tables) (now (plan .entry)) (now (plan .exit)) ⌝ }
+    requires { ⌜ BoundsFit tables × (CHECK_PLAN ≤ length (now plan)) ⌝ }
+    ensures { λ x. ⌜ Filled BOUNDS 12 (boundOf tables) (now (plan .entry)) (now (plan .exit)) ⌝ }
 {
     let types = tables.types;
     let fields = tables.fields;
@@ -146,17 +151,17 @@ fn fill_bounds(tables: Tables, plan: &mut [u32])
     let procedures = tables.procedures;
     let nodes = tables.nodes;
     let statements = tables.statements;
-    put_bounds(plan, 770, types);
-    put_bounds(plan, 772, fields);
-    put_bounds(plan, 774, variables);
-    put_bounds(plan, 776, procedures);
-    put_bounds(plan, 778, nodes);
-    put_bounds(plan, 780, statements);
+    put_bounds(plan, 0, types);
+    put_bounds(plan, 1, fields);
+    put_bounds(plan, 2, variables);
+    put_bounds(plan, 3, procedures);
+    put_bounds(plan, 4, nodes);
+    put_bounds(plan, 5, statements);
 }
 
 // The check, which leaves sizes, offsets, places and frame sizes in a lent plan, and where the tables stand.
 pub fn prepare(image: &[u8], plan: &mut [u32]) -> CheckAnswer
-    requires { ⌜ 782 ≤ length (now plan) ⌝ }
+    requires { ⌜ CHECK_PLAN ≤ length (now plan) ⌝ }
     ensures { λ x. ⌜ x ≡ checkOf (now (image .entry)) ⌝ }
     ensures plan { λ x. ⌜ Prepared (now (image .entry)) (now (plan .entry)) x (now (plan .exit)) ⌝ }
 {
@@ -189,6 +194,6 @@ pub fn prepare(image: &[u8], plan: &mut [u32]) -> CheckAnswer
 pub fn check(image: &[u8]) -> CheckAnswer
     ensures { λ x. ⌜ x ≡ checkOf (now (image .entry)) ⌝ }
 {
-    let mut plan = [0u32; 782];
+    let mut plan = [0u32; CHECK_PLAN];
     prepare(image, &mut plan)
 }

@@ -3,6 +3,7 @@ use calling::Step;
 use checker::CheckAnswer;
 use semantics::Registers;
 use semantics::RunResult;
+use sizes::RUN_PLAN;
 ghost use mathlib.Core.Path.{_≡_};
 ghost use Prim.Native.Nat.{ℕ, _≤_};
 ghost use lib.ListN.{length};
@@ -157,7 +158,7 @@ pub fn run(
     ensures output { λ x. ⌜ now (output .exit) ≡ outputAfter (now (image .entry)) (now (input .entry))
         (now (store .entry)) (now (output .entry)) steps ⌝ }
 {
-    let mut plan = [0u32; 1806];
+    let mut plan = [0u32; RUN_PLAN];
     let answer = access::open_image(image, &mut plan);
     let CheckAnswer::Accepted = answer else {
         return refused_by(answer);

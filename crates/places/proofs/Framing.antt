@@ -13,12 +13,13 @@ use Rattle.frames.proofs.Claiming.{globals-within}
 use Rattle.places.specs.Places.{roomBy}
 use Rattle.places.specs.Filling.{held, VariablesFit, FramesFit, Framed}
 use Rattle.prelude.specs.Cells.{Filled}
+use Rattle.sizes.specs.Cells.{INHERITED, PLACES, FRAMES, FIRSTS}
 use Rattle.places.proofs.Rooms.{room-agree}
 use Rattle.places.proofs.Counting.{first-none, first-next, first-grows, first-up}
 
 -- the variables fit a plan of the same length with the same sizes
 pub fit-same : (v old plan : List ℕ) → VariablesFit v old → length plan ≡ length old
-    → ((i : ℕ) → i < 64 → getD plan i 0 ≡ getD old i 0) → VariablesFit v plan
+    → ((i : ℕ) → i < INHERITED → getD plan i 0 ≡ getD old i 0) → VariablesFit v plan
 fit-same v old plan fit cells same = record {
   few = fit .few;
   cells = let c = fit .cells in omega arith;
@@ -46,7 +47,7 @@ module _ (v p old plan : List ℕ) (q : ℕ) (fit : FramesFit v p old) (framed :
   few-variables : rowsOf v ≤ 256
   few-variables = fit .variables .few
 
-  types-same : (i : ℕ) → i < 64 → getD plan i 0 ≡ getD old i 0
+  types-same : (i : ℕ) → i < INHERITED → getD plan i 0 ≡ getD old i 0
   types-same i h = framed .below i (omega arith)
 
   pub run-fits : VariablesFit v plan
@@ -59,8 +60,8 @@ module _ (v p old plan : List ℕ) (q : ℕ) (fit : FramesFit v p old) (framed :
   count = claimedBy (rowAt p q)
 
   -- the cell that the loop reads
-  first-read : getD plan (704 + q) 0 ≡ first
-  first-read = let few = fit .few in framed .above (704 + q) (omega arith) ∙ fit .first q more
+  first-read : getD plan (FIRSTS + q) 0 ≡ first
+  first-read = let few = fit .few in framed .above (FIRSTS + q) (omega arith) ∙ fit .first q more
 
   rooms : (n : ℕ) → n ≤ count → roomBy (held plan) v first n ≡ roomBy (held old) v first n
   rooms n h =
@@ -70,61 +71,61 @@ module _ (v p old plan : List ℕ) (q : ℕ) (fit : FramesFit v p old) (framed :
 
   -- one frame more
   module _ (next : List ℕ) (size : ℕ)
-      (run : Filled (384 + first) count (λ j. 3 + roomBy (held plan) v first j) plan next)
+      (run : Filled (PLACES + first) count (λ j. 3 + roomBy (held plan) v first j) plan next)
       (total : size ≡ 3 + roomBy (held plan) v first count) where
     abbrev last : List ℕ
-    last = set next (640 + q) size
+    last = set next (FRAMES + q) size
 
-    other : (i : ℕ) → (i ≡ 640 + q → ⊥) → getD last i 0 ≡ getD next i 0
-    other i h = getD-set-other next (640 + q) i size 0 h
+    other : (i : ℕ) → (i ≡ FRAMES + q → ⊥) → getD last i 0 ≡ getD next i 0
+    other i h = getD-set-other next (FRAMES + q) i size 0 h
 
     own-next : (r j : ℕ) → r < q + 1 → j < claimedBy (rowAt p r)
-        → getD last (384 + (firstVariable v p r + j)) 0 ≡ 3 + roomBy (held old) v (firstVariable v p r) j
+        → getD last (PLACES + (firstVariable v p r + j)) 0 ≡ 3 + roomBy (held old) v (firstVariable v p r) j
     own-next r j h l = go (decLt r q)
       where
         within : firstVariable v p r + claimedBy (rowAt p r) ≤ 256
         within = let claims = fit .claims r (omega arith) in let few = few-variables in omega arith
 
         go : Dec (r < q)
-            → getD last (384 + (firstVariable v p r + j)) 0 ≡ 3 + roomBy (held old) v (firstVariable v p r) j
+            → getD last (PLACES + (firstVariable v p r + j)) 0 ≡ 3 + roomBy (held old) v (firstVariable v p r) j
         go (yes low) =
-            other (384 + (firstVariable v p r + j)) (λ e. omega (arith, within))
-            ∙ run .below (384 + (firstVariable v p r + j)) (omega (arith, first-up v p r q low))
+            other (PLACES + (firstVariable v p r + j)) (λ e. omega (arith, within))
+            ∙ run .below (PLACES + (firstVariable v p r + j)) (omega (arith, first-up v p r q low))
             ∙ framed .own r j low l
         go (no low) =
             let e : r ≡ q = omega arith in
             let few : j < count = rw (← e) l in
             let fits = rw e at within in
-            let at : 384 + (first + j) ≡ 384 + first + j = omega arith in
+            let at : PLACES + (first + j) ≡ PLACES + first + j = omega arith in
             rw e
-            (other (384 + (first + j)) (λ z. omega (arith, fits))
+            (other (PLACES + (first + j)) (λ z. omega (arith, fits))
             ∙ rw at (run .cell j few)
             ∙ ap (λ n. 3 + n) (rooms j (omega arith)))
 
     frame-next : (r : ℕ) → r < q + 1
-        → getD last (640 + r) 0 ≡ 3 + roomBy (held old) v (firstVariable v p r) (claimedBy (rowAt p r))
+        → getD last (FRAMES + r) 0 ≡ 3 + roomBy (held old) v (firstVariable v p r) (claimedBy (rowAt p r))
     frame-next r h = go (decLt r q)
       where
         go : Dec (r < q)
-            → getD last (640 + r) 0 ≡ 3 + roomBy (held old) v (firstVariable v p r) (claimedBy (rowAt p r))
+            → getD last (FRAMES + r) 0 ≡ 3 + roomBy (held old) v (firstVariable v p r) (claimedBy (rowAt p r))
         go (yes low) =
             let claims = fit .claims q more in
             let few = few-variables in
-            other (640 + r) (omega arith) ∙ run .above (640 + r) (omega arith) ∙ framed .frame r low
+            other (FRAMES + r) (omega arith) ∙ run .above (FRAMES + r) (omega arith) ∙ framed .frame r low
         go (no low) =
             let e : r ≡ q = omega arith in
             let many = fit .few in
             let cells = fit .variables .cells in
             let same = run .cells ∙ framed .cells in
             let room = ap (λ n. 3 + n) (rooms count (omega arith)) in
-            rw e (getD-set-same next (640 + q) size 0 (omega arith) ∙ total ∙ room)
+            rw e (getD-set-same next (FRAMES + q) size 0 (omega arith) ∙ total ∙ room)
 
     framed-next : Framed (held old) v p (q + 1) old last
     framed-next =
         let few = few-variables in
         let claims = fit .claims q more in
         record {
-          cells = length-set next (640 + q) size ∙ run .cells ∙ framed .cells;
+          cells = length-set next (FRAMES + q) size ∙ run .cells ∙ framed .cells;
           own = own-next;
           frame = frame-next;
           below = λ i h. let globals = globals-within v in
@@ -139,7 +140,7 @@ module _ (v p old plan : List ℕ) (q : ℕ) (fit : FramesFit v p old) (framed :
         }
 
   -- the same with what the loop reads: the procedure's row and the cell of its first variable
-  module _ (row : Row) (this-row : row ≡ rowAt p q) (at : ℕ) (read : at ≡ getD plan (704 + q) 0) where
+  module _ (row : Row) (this-row : row ≡ rowAt p q) (at : ℕ) (read : at ≡ getD plan (FIRSTS + q) 0) where
     begins : at ≡ first
     begins = read ∙ first-read
 
@@ -151,7 +152,7 @@ module _ (v p old plan : List ℕ) (q : ℕ) (fit : FramesFit v p old) (framed :
     run-rows = omega (arith, begins, counts, fit .claims q more)
 
     pub framed-more : (next : List ℕ) (size : ℕ)
-        → Filled (384 + at) (row .b + row .c) (λ j. 3 + roomBy (held plan) v at j) plan next
+        → Filled (PLACES + at) (row .b + row .c) (λ j. 3 + roomBy (held plan) v at j) plan next
         → size ≡ 3 + roomBy (held plan) v at (row .b + row .c)
-        → Framed (held old) v p (q + 1) old (set next (640 + q) size)
+        → Framed (held old) v p (q + 1) old (set next (FRAMES + q) size)
     framed-more next size run total = framed-next next size (rw (counts, begins) at run) (rw (counts, begins) at total)

@@ -11,6 +11,7 @@ use Rattle.types.specs.Question.{question4}
 use Rattle.types.specs.Plan.{Plan}
 use Rattle.types.proofs.Accepted.{types-kept}
 use Rattle.shapes.proofs.Accepted.{record-is, size-small}
+use Rattle.sizes.specs.Cells.{INHERITED, OFFSETS, PLACES}
 use Rattle.frames.specs.Variables.{globalsOf, question5}
 use Rattle.frames.specs.Procedures.{claimedBy, firstVariable, question6}
 use Rattle.frames.proofs.Accepted.{variables-kept, procedures-kept}
@@ -26,14 +27,14 @@ unfolding claimedBy
 claims-kept v p s e q h = procedures-kept v p s e .row q h .room
 
 -- where the cells of types and fields are as they were, what question 4 put there is still there
-pub plan-kept : (t f old plan : List ℕ) → ((i : ℕ) → i < 384 → getD plan i 0 ≡ getD old i 0) → question4 t f ≡ Kept
+pub plan-kept : (t f old plan : List ℕ) → ((i : ℕ) → i < PLACES → getD plan i 0 ≡ getD old i 0) → question4 t f ≡ Kept
     → rowsOf t ≤ 64 → rowsOf f ≤ 256 → Plan t f (rowsOf t) old → Plan t f (rowsOf t) plan
 plan-kept t f old plan same four few-types few-fields planned = record {
   size = λ r h. same r (omega arith) ∙ planned .size r h;
-  inherited = λ r h. same (64 + r) (omega arith) ∙ planned .inherited r h;
+  inherited = λ r h. same (INHERITED + r) (omega arith) ∙ planned .inherited r h;
   offset = λ r base first count j h e l.
       let within = record-is (types-kept t f four .row r h .shape) e .within in
-      same (128 + (first + j)) (omega arith) ∙ planned .offset r base first count j h e l;
+      same (OFFSETS + (first + j)) (omega arith) ∙ planned .offset r base first count j h e l;
 }
 
 -- row k is a variable of procedure q
@@ -56,7 +57,7 @@ module _ (v p : List ℕ) (q k : ℕ) (own : Own v p q k) where
 module _ (t f v p : List ℕ) (q k : ℕ) (own : Own v p q k) where
   -- the plan has its place
   pub own-place : (old plan : List ℕ) → Places t f v p old plan → q < rowsOf p
-      → getD plan (384 + k) 0 ≡ placeIn t f v p q k
+      → getD plan (PLACES + k) 0 ≡ placeIn t f v p q k
   unfolding placeIn
   own-place old plan places h =
       let at = places .own q (k - firstVariable v p q) h (own-count v p q k own) in

@@ -5,6 +5,7 @@ use mathlib.Core.List.{List}
 use lib.ListN.{length, getD}
 use Rattle.image.specs.declared.Verdict.the-variants.{Kept}
 use Rattle.image.specs.Rows.{rowAt, rowsOf}
+use Rattle.sizes.specs.Cells.{PLACES, FRAMES, FIRSTS, BOUNDS}
 use Rattle.types.specs.Question.{question4}
 use Rattle.types.specs.Plan.{Plan}
 use Rattle.frames.specs.Variables.{globalsOf, question5}
@@ -18,7 +19,7 @@ held plan r = getD plan r 0
 -- the variables have types below 64, whose sizes in the plan do not exceed 4,096
 pub record VariablesFit (v plan : List ℕ) : Type 0 where
   pub few : rowsOf v ≤ 256
-  pub cells : 770 ≤ length plan
+  pub cells : BOUNDS ≤ length plan
   pub low : (k : ℕ) → k < rowsOf v → rowAt v k .a < 64
   pub small : (k : ℕ) → k < rowsOf v → held plan (rowAt v k .a) ≤ 4096
 
@@ -31,21 +32,22 @@ pub record FramesFit (v p plan : List ℕ) : Type 0 where
   pub variables : VariablesFit v plan
   pub few : rowsOf p ≤ 64
   pub claims : Claims v p
-  pub first : (q : ℕ) → q < rowsOf p → getD plan (704 + q) 0 ≡ firstVariable v p q
+  pub first : (q : ℕ) → q < rowsOf p → getD plan (FIRSTS + q) 0 ≡ firstVariable v p q
 
 -- the frames of the first n procedures are written, with types sized by `size`, and nothing else
 pub record Framed (size : ℕ → ℕ) (v p : List ℕ) (n : ℕ) (old plan : List ℕ) : Type 0 where
   pub cells : length plan ≡ length old
   pub own : (q j : ℕ) → q < n → j < claimedBy (rowAt p q)
-      → getD plan (384 + (firstVariable v p q + j)) 0 ≡ 3 + roomBy size v (firstVariable v p q) j
-  pub frame : (q : ℕ) → q < n → getD plan (640 + q) 0 ≡ 3 + roomBy size v (firstVariable v p q) (claimedBy (rowAt p q))
-  pub below : (i : ℕ) → i < 384 + globalsOf v → getD plan i 0 ≡ getD old i 0
-  pub variables : (i : ℕ) → 384 + firstVariable v p n ≤ i → i < 640 → getD plan i 0 ≡ getD old i 0
-  pub above : (i : ℕ) → 640 + n ≤ i → getD plan i 0 ≡ getD old i 0
+      → getD plan (PLACES + (firstVariable v p q + j)) 0 ≡ 3 + roomBy size v (firstVariable v p q) j
+  pub frame : (q : ℕ) → q < n
+      → getD plan (FRAMES + q) 0 ≡ 3 + roomBy size v (firstVariable v p q) (claimedBy (rowAt p q))
+  pub below : (i : ℕ) → i < PLACES + globalsOf v → getD plan i 0 ≡ getD old i 0
+  pub variables : (i : ℕ) → PLACES + firstVariable v p n ≤ i → i < FRAMES → getD plan i 0 ≡ getD old i 0
+  pub above : (i : ℕ) → FRAMES + n ≤ i → getD plan i 0 ≡ getD old i 0
 
 -- accepted tables, and a plan that question 4 filled
 pub record PlacesFit (t f v p plan : List ℕ) : Type 0 where
-  pub cells : 770 ≤ length plan
+  pub cells : BOUNDS ≤ length plan
   pub few-types : rowsOf t ≤ 64
   pub few-variables : rowsOf v ≤ 256
   pub few-procedures : rowsOf p ≤ 64

@@ -1,7 +1,7 @@
 -- The part of the plan that belongs to variables and procedures, so that a step need not add up sizes.
--- Cell 384 + k: where variable row k begins: a global in the store, another in its frame.
--- Cell 640 + q: the size of procedure q's frame. Cell 704 + q: its first variable row; the row behind the last
--- procedure's variables follows. Cell 769: how many cells the globals have.
+-- Cell PLACES + k: where variable row k begins: a global in the store, another in its frame.
+-- Cell FRAMES + q: the size of procedure q's frame. Cell FIRSTS + q: its first variable row; the row behind the last
+-- procedure's variables follows. Cell GLOBALS: how many cells the globals have.
 use Prim.Native.Nat.{ℕ, zero, suc, _+_, _-_, _≤_, _<_}
 use mathlib.Core.Path.{_≡_}
 use mathlib.Core.List.{List}
@@ -10,6 +10,7 @@ use lib.ListN.{length, getD}
 use Rattle.prelude.specs.Choice.{choose}
 use Rattle.image.specs.Rows.{rowAt, rowsOf}
 use Rattle.shapes.specs.Sizes.{sizeOf}
+use Rattle.sizes.specs.Cells.{PLACES, FRAMES, FIRSTS, GLOBALS, BOUNDS}
 use Rattle.frames.specs.Variables.{globalsOf}
 use Rattle.frames.specs.Procedures.{claimedBy, firstVariable}
 
@@ -49,14 +50,15 @@ pub record Firsts (v p old firsts : List ℕ) : Type 0 where
 -- what the plan holds of variables and procedures; every other cell is as it was
 pub record Places (t f v p old plan : List ℕ) : Type 0 where
   pub cells : length plan ≡ length old
-  pub global : (k : ℕ) → k < globalsOf v → getD plan (384 + k) 0 ≡ roomFrom t f v 0 k
+  pub global : (k : ℕ) → k < globalsOf v → getD plan (PLACES + k) 0 ≡ roomFrom t f v 0 k
   pub own : (q j : ℕ) → q < rowsOf p → j < claimedBy (rowAt p q)
-      → getD plan (384 + (firstVariable v p q + j)) 0 ≡ 3 + roomFrom t f v (firstVariable v p q) j
-  pub frame : (q : ℕ) → q < rowsOf p → getD plan (640 + q) 0 ≡ frameSize t f v p q
-  pub first : (q : ℕ) → q ≤ rowsOf p → getD plan (704 + q) 0 ≡ firstVariable v p q
-  pub globals : getD plan 769 0 ≡ globalCells t f v
-  pub types : (i : ℕ) → i < 384 → getD plan i 0 ≡ getD old i 0
-  pub variables : (k : ℕ) → firstVariable v p (rowsOf p) ≤ k → k < 256 → getD plan (384 + k) 0 ≡ getD old (384 + k) 0
-  pub frames : (q : ℕ) → rowsOf p ≤ q → q < 64 → getD plan (640 + q) 0 ≡ getD old (640 + q) 0
-  pub firsts : (q : ℕ) → rowsOf p < q → q ≤ 64 → getD plan (704 + q) 0 ≡ getD old (704 + q) 0
-  pub rest : (i : ℕ) → 770 ≤ i → getD plan i 0 ≡ getD old i 0
+      → getD plan (PLACES + (firstVariable v p q + j)) 0 ≡ 3 + roomFrom t f v (firstVariable v p q) j
+  pub frame : (q : ℕ) → q < rowsOf p → getD plan (FRAMES + q) 0 ≡ frameSize t f v p q
+  pub first : (q : ℕ) → q ≤ rowsOf p → getD plan (FIRSTS + q) 0 ≡ firstVariable v p q
+  pub globals : getD plan GLOBALS 0 ≡ globalCells t f v
+  pub types : (i : ℕ) → i < PLACES → getD plan i 0 ≡ getD old i 0
+  pub variables : (k : ℕ) → firstVariable v p (rowsOf p) ≤ k → k < 256
+      → getD plan (PLACES + k) 0 ≡ getD old (PLACES + k) 0
+  pub frames : (q : ℕ) → rowsOf p ≤ q → q < 64 → getD plan (FRAMES + q) 0 ≡ getD old (FRAMES + q) 0
+  pub firsts : (q : ℕ) → rowsOf p < q → q ≤ 64 → getD plan (FIRSTS + q) 0 ≡ getD old (FIRSTS + q) 0
+  pub rest : (i : ℕ) → BOUNDS ≤ i → getD plan i 0 ≡ getD old i 0

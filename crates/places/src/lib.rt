@@ -1,8 +1,13 @@
 // Places of variables and sizes of frames: the plan's part of variables and procedures.
+use sizes::FIRSTS;
+use sizes::FRAMES;
+use sizes::GLOBALS;
+use sizes::PLACES;
 ghost use mathlib.Core.Path.{_≡_};
 ghost use Prim.Native.Nat.{_+_, _≤_, _<_};
 ghost use lib.ListN.{length};
 ghost use Rattle.image.specs.Rows.{rowsOf};
+ghost use Rattle.sizes.specs.Cells.{PLACES};
 ghost use Rattle.places.specs.Places.{widthBy, roomBy, Firsts, Places};
 ghost use Rattle.places.specs.Filling.{held, VariablesFit, FramesFit, Framed, PlacesFit};
 ghost use Rattle.prelude.specs.Cells.{Filled};
@@ -44,7 +49,7 @@ fn width_at(v: &[u8], plan: &[u32], k: usize) -> u32
 fn place_run(v: &[u8], plan: &mut [u32], k: usize, n: usize, at: u32) -> u32
     requires { ⌜ VariablesFit (now v) (now plan) × (k + n ≤ rowsOf (now v)) × (at ≤ 3) ⌝ }
     ensures { λ x. ⌜ x ≡ at + roomBy (held (now (plan .entry))) (now (v .entry)) k n ⌝ }
-    ensures places { λ x. ⌜ Filled (384 + k) n (λ j. at + roomBy (held (now (plan .entry))) (now (v .entry)) k j)
+    ensures places { λ x. ⌜ Filled (PLACES + k) n (λ j. at + roomBy (held (now (plan .entry))) (now (v .entry)) k j)
         (now (plan .entry)) (now (plan .exit)) ⌝ }
 {
     let mut j: usize = 0;
@@ -52,7 +57,7 @@ fn place_run(v: &[u8], plan: &mut [u32], k: usize, n: usize, at: u32) -> u32
     while j < n {
         let i = k + j;
         let width = width_at(v, plan, i);
-        plan[384 + i] = place;
+        plan[PLACES + i] = place;
         place = place + width;
         j = j + 1;
     }
@@ -71,9 +76,9 @@ fn place_frames(v: &[u8], p: &[u8], plan: &mut [u32])
         let row = image::row_at(p, q);
         let b = row.b as usize;
         let c = row.c as usize;
-        let first = sizes::cell(plan, 704 + q) as usize;
+        let first = sizes::cell(plan, FIRSTS + q) as usize;
         let size = place_run(v, plan, first, b + c, 3);
-        plan[640 + q] = size;
+        plan[FRAMES + q] = size;
         q = q + 1;
     }
 }
@@ -85,9 +90,9 @@ pub fn fill_places(t: &[u8], f: &[u8], v: &[u8], p: &[u8], plan: &mut [u32])
     ensures { λ x. ⌜ Places (now (t .entry)) (now (f .entry)) (now (v .entry)) (now (p .entry)) (now (plan .entry))
         (now (plan .exit)) ⌝ }
 {
-    first_variables(v, p, &mut plan[704..]);
+    first_variables(v, p, &mut plan[FIRSTS..]);
     let globals = frames::globals(v);
     let end = place_run(v, plan, 0, globals, 0);
-    plan[769] = end;
+    plan[GLOBALS] = end;
     place_frames(v, p, plan);
 }

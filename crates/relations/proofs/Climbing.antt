@@ -17,6 +17,7 @@ use Rattle.shapes.specs.Forms.{formOf, form, baseOf, ofBase}
 use Rattle.relations.specs.Extends.{extendsTo}
 use Rattle.relations.specs.Fields.{plannedOwn, plannedBy, plannedField}
 use Rattle.shapes.proofs.Rows.{of-no-base, of-base, form-record, by-form}
+use Rattle.sizes.specs.Cells.{INHERITED}
 
 -- what a base gives: nothing where there is none, or none below
 module _ {X : Type 0} (none : X) (g : ℕ → X) (r a : ℕ) where
@@ -73,17 +74,19 @@ module _ (t f plan : List ℕ) (n r : ℕ) {row : Row} (this-row : row ≡ rowAt
 
   module _ (kind : row .kind ≡ 4) where
     planned-record : plannedField t f plan n r
-        ≡ choose (ltb n (getD plan (64 + r) 0)) (ofBase Missing (below Missing r (plannedField t f plan n)) (row .a))
-        (plannedOwn f plan (row .b) (row .c) (n - getD plan (64 + r) 0))
+        ≡ choose (ltb n (getD plan (INHERITED + r) 0))
+        (ofBase Missing (below Missing r (plannedField t f plan n)) (row .a))
+        (plannedOwn f plan (row .b) (row .c) (n - getD plan (INHERITED + r) 0))
     unfolding plannedBy
     planned-record = planned-eq ∙ rw (form-record row kind)
 
-    pub planned-own : getD plan (64 + r) 0 ≤ n → plannedField t f plan n r ≡ plannedOwn f plan (row .b) (row .c) (n - getD plan (64 + r) 0)
-    planned-own h = planned-record ∙ choose-no _ _ _ (le-ltb n (getD plan (64 + r) 0) h)
+    pub planned-own : getD plan (INHERITED + r) 0 ≤ n
+        → plannedField t f plan n r ≡ plannedOwn f plan (row .b) (row .c) (n - getD plan (INHERITED + r) 0)
+    planned-own h = planned-record ∙ choose-no _ _ _ (le-ltb n (getD plan (INHERITED + r) 0) h)
 
-    module _ (less : n < getD plan (64 + r) 0) where
+    module _ (less : n < getD plan (INHERITED + r) 0) where
       planned-up : plannedField t f plan n r ≡ ofBase Missing (below Missing r (plannedField t f plan n)) (row .a)
-      planned-up = planned-record ∙ choose-yes _ _ _ (lt-ltb n (getD plan (64 + r) 0) less)
+      planned-up = planned-record ∙ choose-yes _ _ _ (lt-ltb n (getD plan (INHERITED + r) 0) less)
 
       pub planned-none : row .a ≡ 0 → plannedField t f plan n r ≡ Missing
       planned-none e = planned-up ∙ up-none Missing (plannedField t f plan n) r (row .a) e

@@ -29,6 +29,7 @@ use Rattle.shapes.proofs.Rows.{form-record, own-length, less-one}
 use Rattle.shapes.proofs.Accepted.{Based, Based.no-base, Based.on-base, TypesKept, record-is, fields-are}
 use Rattle.relations.proofs.Climbing.{planned-other, planned-own, planned-low}
 use Rattle.shapes.proofs.Layouts.{length-joined, layout-length, record-layout, other-fields, decide}
+use Rattle.sizes.specs.Cells.{INHERITED, OFFSETS}
 
 -- ---- a field in a list of types
 
@@ -105,7 +106,7 @@ module _ (t f plan : List ℕ) (kept : TypesKept t f) (p : Plan t f (rowsOf t) p
     own-field j = go (decLt j c)
       where
         go : Dec (j < c)
-            → choose (ltb j c) (Field (getD plan (128 + (b + j)) 0) (rowAt f (b + j) .a)) Missing
+            → choose (ltb j c) (Field (getD plan (OFFSETS + (b + j)) 0) (rowAt f (b + j) .a)) Missing
             ≡ fieldIn (sizeOf t f) (inner ++ ownTypes f b c) (length inner + j)
         go (yes h) =
             choose-yes _ _ _ (lt-ltb j c h)
@@ -120,7 +121,8 @@ module _ (t f plan : List ℕ) (kept : TypesKept t f) (p : Plan t f (rowsOf t) p
   unfolding form fieldsBy
   fields-of r low kind = fields-are t f r (kept .row r low .shape) ∙ rw (form-record (rowAt t r) kind)
 
-  inherited-of : (r : ℕ) → r < rowsOf t → rowAt t r .kind ≡ 4 → getD plan (64 + r) 0 ≡ length (ofBase [] (fieldsOf t f) (rowAt t r .a))
+  inherited-of : (r : ℕ) → r < rowsOf t → rowAt t r .kind ≡ 4
+      → getD plan (INHERITED + r) 0 ≡ length (ofBase [] (fieldsOf t f) (rowAt t r .a))
   unfolding inheritedOf form baseOf
   inherited-of r low kind = p .inherited r low ∙ rw (form-record (rowAt t r) kind) (base-count (rowAt t r .a))
 

@@ -10,6 +10,7 @@ use Rattle.relations.specs.declared.FieldAnswer.{FieldAnswer}
 use Rattle.relations.specs.declared.FieldAnswer.the-variants.{Missing, Field}
 use Rattle.shapes.specs.Forms.{Form, Form.scalar, Form.array, Form.recordOf, Form.noForm, form, ofBase}
 use Rattle.shapes.specs.Sizes.{fieldsOf, offsetOf}
+use Rattle.sizes.specs.Cells.{INHERITED, OFFSETS}
 
 -- "2 field b (base's fields counted first) of a"; "A field exists": field n of type r, where it begins and its type
 unfoldable pub fieldOf : List ℕ → List ℕ → ℕ → ℕ → FieldAnswer
@@ -19,14 +20,15 @@ fieldOf t f r n =
 -- own field j of a record, as a plan has it, whatever it holds
 unfoldable pub plannedOwn : List ℕ → List ℕ → ℕ → ℕ → ℕ → FieldAnswer
 plannedOwn f plan first count j =
-    choose (ltb j count) (Field (getD plan (128 + (first + j)) 0) (rowAt f (first + j) .a)) Missing
+    choose (ltb j count) (Field (getD plan (OFFSETS + (first + j)) 0) (rowAt f (first + j) .a)) Missing
 
 -- field n of type r in a plan: up the bases, to the record that has it of its own
 unfoldable pub plannedBy : List ℕ → List ℕ → ℕ → (ℕ → FieldAnswer) → ℕ → Form → FieldAnswer
 plannedBy f plan n above r (scalar kind) = Missing
 plannedBy f plan n above r (array element m) = Missing
 plannedBy f plan n above r (recordOf base first count) =
-    choose (ltb n (getD plan (64 + r) 0)) (ofBase Missing above base) (plannedOwn f plan first count (n - getD plan (64 + r) 0))
+    choose (ltb n (getD plan (INHERITED + r) 0)) (ofBase Missing above base)
+    (plannedOwn f plan first count (n - getD plan (INHERITED + r) 0))
 plannedBy f plan n above r noForm = Missing
 
 unfoldable pub plannedField : List ℕ → List ℕ → List ℕ → ℕ → ℕ → FieldAnswer

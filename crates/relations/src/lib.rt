@@ -1,4 +1,6 @@
 // Relations of types: extension, and the fields of a record.
+use sizes::INHERITED;
+use sizes::OFFSETS;
 ghost use mathlib.Core.Path.{_≡_};
 ghost use Rattle.relations.specs.Extends.{extends as extendsOf};
 ghost use Rattle.relations.specs.Fields.{plannedOwn, plannedField};
@@ -39,7 +41,7 @@ fn own_field(f: &[u8], plan: &[u32], b: u16, c: u16, j: usize) -> FieldAnswer
     }
     let k = (b as usize) + j;
     let row = image::row_at(f, k);
-    let place = sizes::cell(plan, 128 + k);
+    let place = sizes::cell(plan, OFFSETS + k);
     FieldAnswer::Field(place, row.a)
 }
 
@@ -58,7 +60,7 @@ pub fn field(t: &[u8], f: &[u8], plan: &[u32], r: u16, n: u16) -> FieldAnswer
         if kind != 4 {
             return FieldAnswer::Missing;
         }
-        let inherited = sizes::cell(plan, 64 + at) as usize;
+        let inherited = sizes::cell(plan, INHERITED + at) as usize;
         if inherited <= sought {
             return own_field(f, plan, b, c, sought - inherited);
         }

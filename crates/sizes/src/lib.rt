@@ -8,6 +8,41 @@ ghost use Rattle.prelude.specs.Parts.{sum};
 ghost use Rattle.shapes.specs.Forms.{formOf, ofBase, ownTypes};
 ghost use Rattle.shapes.specs.Sizes.{sizeBy};
 
+// The plan is a lent table of numbers that the check fills, so that no step adds them up: docs/PLAN.md. Its cells:
+//
+// cell  name        what it holds                                                                           filled by
+//    0              + r: the size of type row r                                                             types
+//   64  INHERITED   + r: how many fields the record in type row r has from its base                         types
+//  128  OFFSETS     + k: where field row k begins in its record                                             types
+//  384  PLACES      + k: where variable row k begins: a global in the store, another in its frame           places
+//  640  FRAMES      + q: the size of procedure q's frame                                                    places
+//  704  FIRSTS      + q: procedure q's first variable row; the row behind the last one's variables follows  places
+//  769  GLOBALS     how many cells the globals have                                                         places
+//  770  BOUNDS      + 2 * k, + 2 * k + 1: where table k of the six starts and ends in the image             checker
+//  782  OWNERS      + r: the procedure whose body has statement row r                                       access
+//
+//  782  CHECK_PLAN  how many cells the check needs
+// 1806  RUN_PLAN    how many cells a run needs
+pub const INHERITED: usize = 64;
+
+pub const OFFSETS: usize = INHERITED + 64;
+
+pub const PLACES: usize = OFFSETS + 256;
+
+pub const FRAMES: usize = PLACES + 256;
+
+pub const FIRSTS: usize = FRAMES + 64;
+
+pub const GLOBALS: usize = FIRSTS + 65;
+
+pub const BOUNDS: usize = GLOBALS + 1;
+
+pub const OWNERS: usize = BOUNDS + 12;
+
+pub const CHECK_PLAN: usize = OWNERS;
+
+pub const RUN_PLAN: usize = OWNERS + 1024;
+
 // A cell of the plan, 0 past its end.
 pub fn cell(plan: &[u32], i: usize) -> u32
     ensures { λ x. ⌜ x ≡ getD (now (plan .entry)) i 0 ⌝ }

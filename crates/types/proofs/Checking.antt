@@ -21,20 +21,21 @@ use Rattle.types.specs.Question.{question4}
 use Rattle.types.specs.Plan.{Plan, Rest, passed}
 use Rattle.types.specs.Filling.{Ready}
 use Rattle.shapes.proofs.Accepted.{Shape, shape-of, size-agree, size-is}
+use Rattle.sizes.specs.Cells.{PLACES}
 use Rattle.types.proofs.Planning.{used-next, used-fits, plan-none, rest-none, rest-more}
 
 -- the rows below r are passed
 pub record Sofar (t f old plan : List ℕ) (r used : ℕ) : Type 0 where
   pub few-rows : rowsOf t ≤ 64
   pub few-fields : rowsOf f ≤ 256
-  pub room : 384 ≤ length old
+  pub room : PLACES ≤ length old
   pub within : r ≤ rowsOf t
   pub claimed : used ≡ usedBelow t r
   pub below : KeptIn (typeKept t f) 0 r
   pub planned : Plan t f r plan
   pub rest : Rest t r old plan
 
-pub sofar-none : (t f plan : List ℕ) → rowsOf t ≤ 64 → rowsOf f ≤ 256 → 384 ≤ length plan → Sofar t f plan plan 0 0
+pub sofar-none : (t f plan : List ℕ) → rowsOf t ≤ 64 → rowsOf f ≤ 256 → PLACES ≤ length plan → Sofar t f plan plan 0 0
 unfolding usedBelow
 sofar-none t f plan a b c = record {
   few-rows = a;

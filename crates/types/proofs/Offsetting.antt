@@ -9,6 +9,7 @@ use Rattle.prelude.specs.Parts.{sum}
 use Rattle.prelude.proofs.Cells.{filled-none, filled-next}
 use Rattle.image.specs.Rows.{rowAt}
 use Rattle.shapes.specs.Forms.{ownTypes}
+use Rattle.sizes.specs.Cells.{OFFSETS}
 use Rattle.types.specs.Filling.{OffsetsFit, Offsets}
 
 -- the sizes of one own field more, at the end
@@ -34,18 +35,19 @@ module _ (f : List ℕ) (k at : ℕ) (old : List ℕ) where
   places j = at + sum (map held (ownTypes f k j))
 
   pub offsets-none : Offsets f k 0 at old old
-  offsets-none = filled-none (128 + k) places old
+  offsets-none = filled-none (OFFSETS + k) places old
 
   -- one place more, at field row i
-  pub offsets-next : (i place : ℕ) (plan : List ℕ) → k ≤ i → Offsets f k (i - k) at old plan → 128 + i < length plan
-      → place ≡ at + sum (map held (ownTypes f k (i - k))) → Offsets f k (i + 1 - k) at old (set plan (128 + i) place)
+  pub offsets-next : (i place : ℕ) (plan : List ℕ) → k ≤ i → Offsets f k (i - k) at old plan → OFFSETS + i < length plan
+      → place ≡ at + sum (map held (ownTypes f k (i - k)))
+      → Offsets f k (i + 1 - k) at old (set plan (OFFSETS + i) place)
   offsets-next i place plan low o room e =
       let one : i + 1 - k ≡ suc (i - k) = omega arith in
-      rw one (filled-next (128 + k) (i - k) places old plan (128 + i) place o (omega arith) room e)
+      rw one (filled-next (OFFSETS + k) (i - k) places old plan (OFFSETS + i) place o (omega arith) room e)
 
 -- what a turn of the loop has: room for the place, and the next place, which is small
 pub record Turn (f : List ℕ) (k at : ℕ) (old : List ℕ) (i place size : ℕ) (plan : List ℕ) : Type 0 where
-  pub room : 128 + i < length plan
+  pub room : OFFSETS + i < length plan
   pub next : place + size ≡ at + sum (map (λ r. getD old r 0) (ownTypes f k (i + 1 - k)))
   pub small : place + size ≤ 4096
 

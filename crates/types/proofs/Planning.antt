@@ -20,6 +20,7 @@ use Rattle.shapes.proofs.Rows.{own-length, form-record}
 use Rattle.shapes.proofs.Accepted.{Based, Based.no-base, Based.on-base, Shape, Shape.is-scalar, Shape.is-array}
 use Rattle.shapes.proofs.Accepted.{Shape.is-record, row-kept, record-is, field-low, size-agree, size-is, fields-are}
 use Rattle.shapes.proofs.Accepted.{base-agree, fields-agree}
+use Rattle.sizes.specs.Cells.{INHERITED, OFFSETS}
 
 -- ---- field rows used up
 
@@ -146,23 +147,25 @@ module _ (t f plan : List ℕ) (used r : ℕ) (row : Row) (size : ℕ) (ready : 
       go j (no h) high = let q : r ≡ j = omega arith in rw (← q) here
 
   -- what the count of inherited fields asks and gives
-  pub few-inherited : ofBase 0 (λ b. getD plan (64 + b) 0) (baseOf (formOf row)) ≤ 65535
+  pub few-inherited : ofBase 0 (λ b. getD plan (INHERITED + b) 0) (baseOf (formOf row)) ≤ 65535
   few-inherited = base-few _ _ row-base few
     where
-      few : (b : ℕ) → b < r → getD plan (64 + b) 0 ≤ 65535
+      few : (b : ℕ) → b < r → getD plan (INHERITED + b) 0 ≤ 65535
       few b low =
           let fits = inherited-fits t f b (record { each = λ j a z. below .each j a (omega arith) }) in
           let count = planned .inherited b low in
           let rows = ready .few-fields in
           omega arith
 
-  base-counts : {a : ℕ} → Based t r a → ofBase 0 (λ b. getD plan (64 + b) 0 + rowAt t b .c) a ≡ ofBase 0 (λ b. length (fieldsOf t f b)) a
+  base-counts : {a : ℕ} → Based t r a
+      → ofBase 0 (λ b. getD plan (INHERITED + b) 0 + rowAt t b .c) a ≡ ofBase 0 (λ b. length (fieldsOf t f b)) a
   unfolding ofBase
   base-counts no-base = refl
   base-counts (on-base {b = b} low kind) =
       rw (planned .inherited b low, ← count-record t b kind) (sym (fields-count t f b (below .each b (omega arith) low)))
 
-  pub inherited-is : ofBase 0 (λ b. getD plan (64 + b) 0 + rowAt t b .c) (baseOf (formOf row)) ≡ inheritedOf t f r
+  pub inherited-is : ofBase 0 (λ b. getD plan (INHERITED + b) 0 + rowAt t b .c) (baseOf (formOf row))
+      ≡ inheritedOf t f r
   unfolding inheritedOf
   inherited-is = base-counts row-base ∙ ap (λ x. ofBase 0 (λ b. length (fieldsOf t f b)) (baseOf x)) row-form
 
@@ -179,7 +182,7 @@ module _ (t f plan : List ℕ) (used r : ℕ) (row : Row) (size : ℕ) (ready : 
       fits : used + countOf (form t r) ≤ rowsOf f
       fits = count-fits row-shape (rw claimed (used-fits t f r below))
 
-      room : 128 + (used + countOf (form t r)) ≤ length plan
+      room : OFFSETS + (used + countOf (form t r)) ≤ length plan
       room = let rows = ready .few-fields in omega (arith, fits)
 
       types : (j : ℕ) → used ≤ j → j < used + countOf (form t r) → rowAt f j .a < 64
@@ -196,10 +199,11 @@ module _ (t f plan : List ℕ) (used r : ℕ) (row : Row) (size : ℕ) (ready : 
   module _ (q : List ℕ) (above : ℕ) (o : Offsets f used (countOf (formOf row)) (ofBase 0 held (baseOf (formOf row))) plan q)
       (count : above ≡ inheritedOf t f r) where
     abbrev next : List ℕ
-    next = set (set q (64 + r) above) r size
+    next = set (set q (INHERITED + r) above) r size
 
-    other : (i : ℕ) → (i ≡ r → ⊥) → (i ≡ 64 + r → ⊥) → getD next i 0 ≡ getD q i 0
-    other i a b = getD-set-other (set q (64 + r) above) r i size 0 a ∙ getD-set-other q (64 + r) i above 0 b
+    other : (i : ℕ) → (i ≡ r → ⊥) → (i ≡ INHERITED + r → ⊥) → getD next i 0 ≡ getD q i 0
+    other i a b =
+        getD-set-other (set q (INHERITED + r) above) r i size 0 a ∙ getD-set-other q (INHERITED + r) i above 0 b
 
     next-size : (x : ℕ) → x < r + 1 → getD next x 0 ≡ sizeOf t f x
     next-size x h = go (decLt x r)
@@ -209,23 +213,32 @@ module _ (t f plan : List ℕ) (used r : ℕ) (row : Row) (size : ℕ) (ready : 
         go (no l) =
             let e : x ≡ r = omega arith in
             let same = o .cells in
-            rw e (getD-set-same (set q (64 + r) above) r size 0 (rw (length-set q (64 + r) above) (omega arith)) ∙ sized)
+            let kept = length-set q (INHERITED + r) above in
+            let room : r < length (set q (INHERITED + r) above) = rw kept (omega arith) in
+            rw e (getD-set-same (set q (INHERITED + r) above) r size 0 room ∙ sized)
 
-    next-inherited : (x : ℕ) → x < r + 1 → getD next (64 + x) 0 ≡ inheritedOf t f x
+    next-inherited : (x : ℕ) → x < r + 1 → getD next (INHERITED + x) 0 ≡ inheritedOf t f x
     next-inherited x h = go (decLt x r)
       where
-        go : Dec (x < r) → getD next (64 + x) 0 ≡ inheritedOf t f x
-        go (yes l) = other (64 + x) (omega arith) (omega arith) ∙ o .below (64 + x) (omega arith) ∙ planned .inherited x l
+        go : Dec (x < r) → getD next (INHERITED + x) 0 ≡ inheritedOf t f x
+        go (yes l) =
+            other (INHERITED + x) (omega arith) (omega arith)
+            ∙ o .below (INHERITED + x) (omega arith)
+            ∙ planned .inherited x l
         go (no l) =
             let e : x ≡ r = omega arith in
             let same = o .cells in
-            rw e (getD-set-other (set q (64 + r) above) r (64 + r) size 0 (omega arith) ∙ getD-set-same q (64 + r) above 0 (omega arith) ∙ count)
+            rw e
+            (getD-set-other (set q (INHERITED + r) above) r (INHERITED + r) size 0 (omega arith)
+            ∙ getD-set-same q (INHERITED + r) above 0 (omega arith)
+            ∙ count)
 
     field-place : (j : ℕ) → j < countOf (formOf row)
-        → getD q (128 + (used + j)) 0 ≡ ofBase 0 held (baseOf (formOf row)) + sum (map held (ownTypes f used j))
-    field-place j h = let at : 128 + used + j ≡ 128 + (used + j) = omega arith in rw at at (o .cell j h)
+        → getD q (OFFSETS + (used + j)) 0 ≡ ofBase 0 held (baseOf (formOf row)) + sum (map held (ownTypes f used j))
+    field-place j h = let at : OFFSETS + used + j ≡ OFFSETS + (used + j) = omega arith in rw at at (o .cell j h)
 
-    own-place : (base first n j : ℕ) → form t r ≡ recordOf base first n → j < n → getD next (128 + (first + j)) 0 ≡ ownOffset t f base first j
+    own-place : (base first n j : ℕ) → form t r ≡ recordOf base first n → j < n
+        → getD next (OFFSETS + (first + j)) 0 ≡ ownOffset t f base first j
     unfolding ownOffset baseOf countOf
     own-place base first n j e h =
         let is = record-is row-shape e in
@@ -233,23 +246,23 @@ module _ (t f plan : List ℕ) (used r : ℕ) (row : Row) (size : ℕ) (ready : 
         let few : j < countOf (formOf row) = rw (ap countOf shape) h in
         let own = fields-agree f held (sizeOf t f) r first j (record { each = λ k low high. is .own .each k low (omega arith) }) held-is in
         let base-size : ofBase 0 held (baseOf (formOf row)) ≡ ofBase 0 (sizeOf t f) base = base-is ∙ ap (λ x. ofBase 0 (sizeOf t f) (baseOf x)) e in
-        other (128 + (first + j)) (omega arith) (omega arith)
+        other (OFFSETS + (first + j)) (omega arith) (omega arith)
         ∙ rw (is .claims) (field-place j few ∙ rw (base-size, ← is .claims, own))
 
     next-offset : (x base first n j : ℕ) → x < r + 1 → form t x ≡ recordOf base first n → j < n
-        → getD next (128 + (first + j)) 0 ≡ ownOffset t f base first j
+        → getD next (OFFSETS + (first + j)) 0 ≡ ownOffset t f base first j
     unfolding countOf
     next-offset x base first n j h e l = go (decLt x r)
       where
-        go : Dec (x < r) → getD next (128 + (first + j)) 0 ≡ ownOffset t f base first j
+        go : Dec (x < r) → getD next (OFFSETS + (first + j)) 0 ≡ ownOffset t f base first j
         go (yes low) =
             let is = record-is (row-kept t f x (below .each x (omega arith) low) .shape) e in
             let claims = is .claims in
             let counted : countOf (form t x) ≡ n = ap countOf e in
             let up = used-up t (suc x) r low in
             let more = used-next t x in
-            other (128 + (first + j)) (omega arith) (omega arith)
-            ∙ o .below (128 + (first + j)) (omega (arith, up, more, counted, claims, claimed))
+            other (OFFSETS + (first + j)) (omega arith) (omega arith)
+            ∙ o .below (OFFSETS + (first + j)) (omega (arith, up, more, counted, claims, claimed))
             ∙ planned .offset x base first n j low e l
         go (no low) = let same : x ≡ r = omega arith in own-place base first n j (rw same at e) l
 
@@ -264,7 +277,7 @@ module _ (t f plan : List ℕ) (used r : ℕ) (row : Row) (size : ℕ) (ready : 
       offsets = λ i low. other i (beyond i low) (beyond-too i low) ∙ o .above i (let up = far i low in omega arith);
     }
       where
-        far : (i : ℕ) → 128 + usedBelow t (r + 1) ≤ i → 128 + (used + countOf (formOf row)) ≤ i
+        far : (i : ℕ) → OFFSETS + usedBelow t (r + 1) ≤ i → OFFSETS + (used + countOf (formOf row)) ≤ i
         far i low =
             let one : r + 1 ≡ suc r = omega arith in
             let more = used-next t r in
@@ -272,10 +285,10 @@ module _ (t f plan : List ℕ) (used r : ℕ) (row : Row) (size : ℕ) (ready : 
             let l = rw one at low in
             omega (arith, more, counted, l, claimed)
 
-        beyond : (i : ℕ) → 128 + usedBelow t (r + 1) ≤ i → i ≡ r → ⊥
+        beyond : (i : ℕ) → OFFSETS + usedBelow t (r + 1) ≤ i → i ≡ r → ⊥
         beyond i low e = omega arith
 
-        beyond-too : (i : ℕ) → 128 + usedBelow t (r + 1) ≤ i → i ≡ 64 + r → ⊥
+        beyond-too : (i : ℕ) → OFFSETS + usedBelow t (r + 1) ≤ i → i ≡ INHERITED + r → ⊥
         beyond-too i low e = omega arith
 
 -- ---- the rows passed so far

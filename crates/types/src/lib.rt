@@ -1,19 +1,22 @@
 // The types table: question 4, and the plan that it fills.
 use image::Row;
 use image::Verdict;
+use sizes::INHERITED;
+use sizes::OFFSETS;
 ghost use mathlib.Core.Path.{_≡_};
 ghost use Prim.Native.Nat.{_+_, _≤_, _<_};
 ghost use lib.ListN.{length, getD};
 ghost use Rattle.image.specs.Rows.{rowsOf, rowAt};
 ghost use Rattle.shapes.specs.Forms.{ofBase};
+ghost use Rattle.sizes.specs.Cells.{INHERITED, PLACES};
 ghost use Rattle.types.specs.Plan.{Plan, Rest, passed};
 ghost use Rattle.types.specs.Filling.{OffsetsFit, Offsets, Ready};
 ghost use Rattle.types.specs.Question.{question4};
 
 // How many fields a record has from its base, by the plan's number for the base.
 fn inherited(t: &[u8], plan: &[u32], a: u16) -> u32
-    requires { ⌜ ofBase 0 (λ b. getD (now plan) (64 + b) 0) a ≤ 65535 ⌝ }
-    ensures { λ x. ⌜ x ≡ ofBase 0 (λ b. getD (now (plan .entry)) (64 + b) 0 + rowAt (now (t .entry)) b .c) a ⌝ }
+    requires { ⌜ ofBase 0 (λ b. getD (now plan) (INHERITED + b) 0) a ≤ 65535 ⌝ }
+    ensures { λ x. ⌜ x ≡ ofBase 0 (λ b. getD (now (plan .entry)) (INHERITED + b) 0 + rowAt (now (t .entry)) b .c) a ⌝ }
 {
     if a == 0 {
         return 0;
@@ -21,7 +24,7 @@ fn inherited(t: &[u8], plan: &[u32], a: u16) -> u32
     let base = (a as usize) - 1;
     let row = image::row_at(t, base);
     let own = row.c;
-    let above = sizes::cell(plan, 64 + base);
+    let above = sizes::cell(plan, INHERITED + base);
     above + (own as u32)
 }
 
@@ -37,7 +40,7 @@ fn plan_offsets(f: &[u8], plan: &mut [u32], k: usize, n: u16, at: u32)
         let row = image::row_at(f, i);
         let a = row.a as usize;
         let size = sizes::cell(plan, a);
-        plan[128 + i] = place;
+        plan[OFFSETS + i] = place;
         place = place + size;
         i = i + 1;
     }
@@ -54,13 +57,13 @@ fn plan_row(t: &[u8], f: &[u8], plan: &mut [u32], used: usize, r: usize, row: Ro
     let at = sizes::base_size(plan, base);
     let own = shapes::claimed(row);
     plan_offsets(f, plan, used, own, at);
-    plan[64 + r] = above;
+    plan[INHERITED + r] = above;
     plan[r] = size;
 }
 
 // Question 4, with the plan of the rows that it passes.
 pub fn check_types(t: &[u8], f: &[u8], plan: &mut [u32]) -> Verdict
-    requires { ⌜ (rowsOf (now t) ≤ 64) × (rowsOf (now f) ≤ 256) × (384 ≤ length (now plan)) ⌝ }
+    requires { ⌜ (rowsOf (now t) ≤ 64) × (rowsOf (now f) ≤ 256) × (PLACES ≤ length (now plan)) ⌝ }
     ensures { λ x. ⌜ x ≡ question4 (now (t .entry)) (now (f .entry)) ⌝ }
     ensures plan { λ x. ⌜ Plan (now (t .entry)) (now (f .entry)) (passed (now (t .entry)) x) (now (plan .exit)) ⌝ }
     ensures rest { λ x. ⌜ Rest (now (t .entry)) (passed (now (t .entry)) x) (now (plan .entry)) (now (plan .exit)) ⌝ }

@@ -4,6 +4,7 @@ use native.Mathlib.Omega.{arith}
 use denote.Ref.{now}
 use Rattle.prelude.specs.Cells.{Filled}
 use Rattle.prelude.proofs.Cells.{filled-none, filled-next}
+use Rattle.sizes.specs.Cells.{OWNERS}
 use Rattle.statements.specs.Statements.{procedureAt}
 use Rattle.statements.proofs.Scanning.{procedure-first, procedure-next, procedure-few}
 use Rattle.access.proofs.fill_owners.Statement.{statement}
@@ -13,7 +14,7 @@ use Rattle.access.proofs.fill_owners.Lts as lts
 use Rattle.statements.proofs.next_procedure.Reads as next-procedure-reads
 
 abbrev Inv-loop : tie.InvT-loop
-Inv-loop p n plan₀ q₀ r₀ plan q r = (r ≤ n) × (q ≡ procedureAt p r) × Filled 782 r (procedureAt p) plan₀ plan
+Inv-loop p n plan₀ q₀ r₀ plan q r = (r ≤ n) × (q ≡ procedureAt p r) × Filled OWNERS r (procedureAt p) plan₀ plan
 
 abbrev μ-loop : tie.MeasureT-loop
 μ-loop p n plan₀ q₀ r₀ plan q r = n - r
@@ -60,7 +61,7 @@ loop-again c = let l = c .before .before .loop in
     let one : l .r + 1 ≡ suc (l .r) = omega arith in
     let room = l .inv .2 .cells in
     let within = s .pre in
-    let filled = filled-next 782 (l .r) _ _ _ _ _ (l .inv .2) refl (omega (arith, room, within)) (l .inv .1) in
+    let filled = filled-next OWNERS (l .r) _ _ _ _ _ (l .inv .2) refl (omega (arith, room, within)) (l .inv .1) in
     (omega arith, c .next-procedure .ensures ∙ procedure-next _ _ _ (l .inv .1), rw one filled)
 
 same-length : tie.Need-same-length Inv-loop μ-loop

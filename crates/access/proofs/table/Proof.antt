@@ -6,14 +6,14 @@ use Rattle.access.proofs.table.Tie as tie
 use Rattle.access.proofs.table.Reads as reads
 use Rattle.access.proofs.table.Lts as lts
 
+mul-at : tie.Need-mul-at
+mul-at c = search needs
+
+add-at : tie.Need-add-at
+add-at c = search needs
+
 mul-start : tie.Need-mul-start
 mul-start c = search needs
-
-add-start : tie.Need-add-start
-add-start c = search needs
-
-mul-start-2 : tie.Need-mul-start-2
-mul-start-2 c = search needs
 
 shared-slice-read-start : tie.Need-shared-slice-read-start
 shared-slice-read-start c = search needs
@@ -22,14 +22,11 @@ cast-start : tie.Need-cast-start
 cast-start c = let s = c .before in
     omega (arith, table-stands (s .pre .0) _ (s .pre .1) .ordered, table-small (s .pre .0) _ (s .pre .1))
 
-mul-end : tie.Need-mul-end
-mul-end c = search needs
-
 add-end : tie.Need-add-end
 add-end c = search needs
 
-mul-end-2 : tie.Need-mul-end-2
-mul-end-2 c = search needs
+mul-end : tie.Need-mul-end
+mul-end c = search needs
 
 shared-slice-read-end : tie.Need-shared-slice-read-end
 shared-slice-read-end c = search needs
@@ -53,14 +50,13 @@ pub table-spec : {M : Type 1} → statement M
 table-spec =
     tie.close
     (tie.spec
+    mul-at
+    add-at
     mul-start
-    add-start
-    mul-start-2
     shared-slice-read-start
     cast-start
-    mul-end
     add-end
-    mul-end-2
+    mul-end
     shared-slice-read-end
     cast-end
     sub-result

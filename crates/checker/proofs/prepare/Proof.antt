@@ -21,6 +21,7 @@ use Rattle.checker.proofs.check_tables.Reads as check-tables-reads
 use Rattle.checker.proofs.fill_bounds.Reads as fill-bounds-reads
 use Rattle.header.proofs.header.Reads as header-reads
 use Rattle.header.proofs.part.Reads as part-reads
+use Rattle.sizes.specs.Cells.{CHECK_PLAN}
 
 header-requires : tie.Need-header-requires
 header-requires c κs = search needs
@@ -64,7 +65,7 @@ plan-of c = now (at-header c .before .before .before .args .plan)
 abbrev tables-of : tie.After-part6 → Tables
 tables-of c = at-tables c .tables .given .0 .0
 
-plan-room : (c : tie.After-part6) → 782 ≤ length (plan-of c)
+plan-room : (c : tie.After-part6) → CHECK_PLAN ≤ length (plan-of c)
 plan-room c = at-header c .before .before .before .pre
 
 -- the header says yes

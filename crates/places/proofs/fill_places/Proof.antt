@@ -2,6 +2,7 @@ use Prim.Native.Nat.{_≤_}
 use denote.Ref.{now}
 use lib.ListN.{length}
 use native.Mathlib.Omega.{arith}
+use Rattle.sizes.specs.Cells.{FIRSTS}
 use Rattle.places.proofs.Placing.{begun, globals-fit, globals-rows, frames-fit, places-filled}
 use borrow.Author.Needs.{needs}
 use Rattle.places.proofs.fill_places.Statement.{statement}
@@ -32,7 +33,7 @@ place-run-requires : tie.Need-place-run-requires
 place-run-requires c κs =
     let b = c .before .before .before .before in
     let s = b .before .before .before .before .before .before .before in
-    let cells : 704 ≤ length (now (s .args .plan)) = let many = s .pre .cells in omega arith in
+    let cells : FIRSTS ≤ length (now (s .args .plan)) = let many = s .pre .cells in omega arith in
     let one = begun _ _ (now (s .args .plan)) _ cells (b .first-variables .ensures) in
     let fit = globals-fit _ _ _ _ _ (s .pre) _ one in
     (fit, globals-rows _ _ _ _ _ (s .pre) _ one _ (c .before .globals .ensures), omega arith)
@@ -46,7 +47,7 @@ place-frames-requires c κs =
     let g = r .before .before in
     let b = g .before .before .before in
     let s = b .before .before .before .before .before .before .before in
-    let cells : 704 ≤ length (now (s .args .plan)) = let many = s .pre .cells in omega arith in
+    let cells : FIRSTS ≤ length (now (s .args .plan)) = let many = s .pre .cells in omega arith in
     let one = begun _ _ (now (s .args .plan)) _ cells (b .first-variables .ensures) in
     let run = r .place-run .ensures in
     frames-fit _ _ _ _ _ (s .pre) _ one _ (g .globals .ensures) _ _ (run .1) (run .0)
@@ -57,7 +58,7 @@ returns c =
     let g = r .before .before in
     let b = g .before .before .before in
     let s = b .before .before .before .before .before .before .before in
-    let cells : 704 ≤ length (now (s .args .plan)) = let many = s .pre .cells in omega arith in
+    let cells : FIRSTS ≤ length (now (s .args .plan)) = let many = s .pre .cells in omega arith in
     let one = begun _ _ (now (s .args .plan)) _ cells (b .first-variables .ensures) in
     let run = r .place-run .ensures in
     let frames = c .before .before .place-frames .ensures in

@@ -12,6 +12,7 @@ use Rattle.types.proofs.inherited.Tie as tie
 use Rattle.types.proofs.inherited.Reads as reads
 use Rattle.types.proofs.inherited.Lts as lts
 use Rattle.image.proofs.row_at.Reads as row-at-reads
+use Rattle.sizes.specs.Cells.{INHERITED}
 use Rattle.sizes.proofs.cell.Reads as cell-reads
 
 returns : tie.Need-returns
@@ -34,13 +35,15 @@ cast-result c = search needs
 
 add-result : tie.Need-add-result
 add-result c = let s = c .before .before .before .before .before in
-    let low = rw (of-base 0 (λ b. getD (now (s .args .plan)) (64 + b) 0) (s .args .a) (omega arith)) at (s .pre) in
+    let on = of-base 0 (λ b. getD (now (s .args .plan)) (INHERITED + b) 0) (s .args .a) (omega arith) in
+    let low = rw on at (s .pre) in
     omega (arith, low, c .cell .ensures)
 
 returns-2 : tie.Need-returns-2
 returns-2 c = let s = c .before .before .before .before .before in
     let own = ap (λ (x : Row). x .c) (c .before .row-at .ensures) in
-    sym (of-base 0 (λ b. getD (now (s .args .plan)) (64 + b) 0 + rowAt (now (s .args .t)) b .c) (s .args .a) (omega arith)
+    sym (of-base 0 (λ b. getD (now (s .args .plan)) (INHERITED + b) 0 + rowAt (now (s .args .t)) b .c) (s .args .a)
+    (omega arith)
     ∙ rw (← c .cell .ensures, ← own))
 
 pub inherited-spec : {M : Type 1} → statement M

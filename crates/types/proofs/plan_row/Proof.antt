@@ -15,6 +15,7 @@ use Rattle.types.proofs.plan_row.Lts as lts
 use Rattle.shapes.proofs.base_of.Reads as base-of-reads
 use Rattle.sizes.proofs.base_size.Reads as base-size-reads
 use Rattle.shapes.proofs.claimed.Reads as claimed-reads
+use Rattle.sizes.specs.Cells.{INHERITED}
 use Rattle.types.proofs.inherited.Reads as inherited-reads
 use Rattle.types.proofs.plan_offsets.Reads as plan-offsets-reads
 
@@ -23,7 +24,7 @@ base-of-requires c κs = search needs
 
 inherited-requires : tie.Need-inherited-requires
 inherited-requires c κs = let s = c .before .before .before .before .before in
-    let few : ofBase 0 (λ b. getD (now (s .args .plan)) (64 + b) 0) (c .before .base-of .result) ≤ 65535 =
+    let few : ofBase 0 (λ b. getD (now (s .args .plan)) (INHERITED + b) 0) (c .before .base-of .result) ≤ 65535 =
     rw (c .before .base-of .ensures) (few-inherited _ _ _ _ _ _ _ (s .pre)) in
     few
 
@@ -62,10 +63,12 @@ same-length c = search needs
 
 returns : tie.Need-returns
 returns c = let s = c .before .before .before .before .before .before .before .before .before .before .before .before .before in
-    let base = c .before .before .before .before .before .base-size .ensures ∙ ap (λ a. ofBase 0 (λ r. getD (now (s .args .plan)) r 0) a) (c .before .before .before .before .before .before .before .before .before .base-of .ensures) in
+    let row-base = c .before .before .before .before .before .before .before .before .before .base-of .ensures in
+    let base = c .before .before .before .before .before .base-size .ensures
+    ∙ ap (λ a. ofBase 0 (λ r. getD (now (s .args .plan)) r 0) a) row-base in
     let places = rw (c .before .before .before .before .claimed .ensures, base) at (c .before .before .plan-offsets .ensures) in
     let count = c .before .before .before .before .before .before .before .inherited .ensures
-    ∙ ap (λ a. ofBase 0 (λ b. getD (now (s .args .plan)) (64 + b) 0 + rowAt (now (s .args .t)) b .c) a) (c .before .before .before .before .before .before .before .before .before .base-of .ensures)
+    ∙ ap (λ a. ofBase 0 (λ b. getD (now (s .args .plan)) (INHERITED + b) 0 + rowAt (now (s .args .t)) b .c) a) row-base
     ∙ inherited-is _ _ _ _ _ _ _ (s .pre) in
     (plan-next _ _ _ _ _ _ _ (s .pre) _ _ places count, rest-next _ _ _ _ _ _ _ (s .pre) _ _ places count)
 
