@@ -25,7 +25,7 @@ use Rattle.relations.specs.declared.FieldAnswer.{FieldAnswer}
 use Rattle.relations.specs.declared.FieldAnswer.the-variants.{Missing, Field}
 use Rattle.relations.specs.Extends.{extends}
 use Rattle.relations.specs.Fields.{fieldOf}
-use Rattle.relations.proofs.Extension.{Extends, Extends.same, Extends.up, extends-yes, extension-fields}
+use Rattle.relations.proofs.Extension.{Extends, Extends.same, Extends.up, extends-yes, extension-begins}
 use Rattle.frames.specs.Variables.{isGlobal, globalsFrom, globalsOf}
 use Rattle.frames.proofs.Accepted.{VariableRow}
 
@@ -89,7 +89,7 @@ module _ (t f : List ℕ) (kept : TypesKept t f) where
       → fieldOf t f r n ≡ Field offset x
   unfolding fieldOf offsetOf
   extension-field r u n {offset} {x} e h found =
-      let p = extension-fields t f kept (extends-yes t r u e) h in
+      let p = extension-begins t f kept (extends-yes t r u e) h .fields in
       front (fieldsOf t f u) (p .rest) (fieldsOf t f r) (p .seen) found
     where
       front : (l m whole : List ℕ) → drop 0 whole ≡ l ++ m
