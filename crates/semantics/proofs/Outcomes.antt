@@ -11,7 +11,7 @@ use lib.IntN.{ℤ, pos}
 use lib.ListN.{length}
 use Rattle.prelude.specs.Choice.{choose}
 use Rattle.prelude.proofs.Choice.{choose-cases, clash}
-use Rattle.image.proofs.Bytes.{Bytes}
+use Rattle.image.specs.Rows.{Bytes}
 use Rattle.values.specs.declared.Trap.{Trap}
 use Rattle.values.specs.Values.{trapNumber}
 use Rattle.checker.specs.declared.CheckAnswer.{CheckAnswer}
