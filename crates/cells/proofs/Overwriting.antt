@@ -190,3 +190,24 @@ module _ {X : Type 0} where
         part-before cells from n d (omega arith),
       )
       (set-before cells (partAt cells (from + 1) n) to (getD cells from d) (omega (arith, size)))
+
+  -- one cell more copied to the part from top on, which is lent for it
+  pub copy-lent : (old cells part : List X) (top from place n : ℕ) (d : X) → from + n < top
+      → top + (place + n) < length old → cells ≡ overwrite old (top + place) (partAt old from n)
+      → part ≡ overwrite (take (length cells - top) (drop top cells)) (place + n) (getD cells (from + n) d ∷ [])
+      → take top cells ++ (part ++ drop (length cells - top) (drop top cells))
+      ≡ overwrite old (top + place) (partAt old from (n + 1))
+  copy-lent old cells part top from place n d low room copied e =
+      let new : List X = partAt old from n in
+      let many : length new ≡ n = part-length old from n (omega arith) in
+      let size : length cells ≡ length old =
+      ap length copied ∙ overwrite-length old new (top + place) (omega (arith, many)) in
+      let there : top + (place + n) ≡ top + place + length new = omega (arith, many) in
+      overwrite-lent cells (getD cells (from + n) d ∷ []) part top (place + n) (omega arith) e
+      ∙ rw (
+        there,
+        copied,
+        cell-before old new (top + place) (from + n) d (omega arith) (omega arith),
+        part-next old from n d (omega arith),
+      )
+      (overwrite-behind old new (getD old (from + n) d ∷ []) (top + place) (omega (arith, many)))

@@ -121,14 +121,17 @@ pub fn copy(store: &mut [i64], from: u32, to: u32, n: u32)
     }
 }
 
-// n cells from below top to a place in the part from top on.
+// n cells from below top to a place in the part from top on, each written through that part.
 pub fn copy_above(store: &mut [i64], top: u32, from: u32, place: u32, n: u32)
-    requires { ⌜ (from + n ≤ top) × (top + (place + n) ≤ length (now store)) ⌝ }
+    requires { ⌜ (from + n ≤ top) × (top + (place + n) ≤ length (now store)) × (length (now store) ≤ 65536) ⌝ }
     ensures { λ x. ⌜ now (store .exit)
         ≡ overwrite (now (store .entry)) (top + place) (partAt (now (store .entry)) from n) ⌝ }
 {
-    let source = from as usize;
-    let target = top as usize + place as usize;
-    let count = n as usize;
-    copy_up(store, source, target, count);
+    let start = top as usize;
+    let mut i: u32 = 0;
+    while i < n {
+        let z = store[(from + i) as usize];
+        put(&mut store[start..], place + i, z);
+        i = i + 1;
+    }
 }

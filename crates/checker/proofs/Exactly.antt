@@ -1,78 +1,29 @@
 -- The check accepts exactly the images in which no row is at fault, and otherwise answers the first question with its
 -- lowest row at fault.
--- Cited: `checkOf`, `questionOf` (specs/Check), and each question's rule of a row, by its own crate's definition.
+-- Cited: `checkOf`, `questionOf` (specs/Check); `Faultless`, `FirstAtFault` (specs/Exactly).
 use mathlib.Core.Path.{_≡_, refl, sym, _∙_, subst}
 use mathlib.Core.Bool.{Bool, true, false}
 use mathlib.Core.List.{List}
 use Prim.Native.Nat.{ℕ, _+_, _≤_, _<_}
 use native.Mathlib.Omega.{arith}
 use native.Mathlib.Decide.{decLe}
-use lib.Dec.{eqb}
 use Rattle.prelude.specs.Choice.{choose}
-use Rattle.image.specs.declared.Verdict.{Verdict}
-use Rattle.image.specs.declared.Verdict.the-variants.{Kept, Fault}
-use Rattle.image.specs.Rows.{rowsOf}
-use Rattle.image.specs.Faults.{firstFrom, lowestFault, ruleUpTo, Lowest}
+use Rattle.image.specs.declared.Verdict.the-variants.{Kept}
+use Rattle.image.specs.Faults.{firstFrom, lowestFault}
 use Rattle.image.proofs.Faults.{verdict-kept, kept-verdict, verdict-fault, fault-verdict}
 use Rattle.header.specs.Header.{question1, question2, question3}
-use Rattle.shapes.specs.Shapes.{usedBelow, typeKept}
 use Rattle.types.specs.Question.{question4}
-use Rattle.frames.specs.Variables.{variableKept, question5}
-use Rattle.frames.specs.Procedures.{firstVariable, procedureKept, question6}
-use Rattle.nodes.specs.Nodes.{nodeKept, question7}
-use Rattle.statements.specs.Statements.{statementKept, question8}
-use Rattle.names.specs.Names.{namedOnce, namesIn, question9}
-use Rattle.typing.specs.Typing.{typeOf, hasType, question10}
-use Rattle.rules.specs.Rules.{statementRule, rulesBy, question11}
+use Rattle.frames.specs.Variables.{question5}
+use Rattle.frames.specs.Procedures.{question6}
+use Rattle.nodes.specs.Nodes.{question7}
+use Rattle.statements.specs.Statements.{question8}
+use Rattle.names.specs.Names.{question9}
+use Rattle.typing.specs.Typing.{question10}
+use Rattle.rules.specs.Rules.{rulesBy, question11}
 use Rattle.checker.specs.declared.CheckAnswer.the-variants.{Accepted, Refused}
-use Rattle.checker.specs.Check.{typesIn, fieldsIn, variablesIn, proceduresIn, nodesIn, statementsIn}
 use Rattle.checker.specs.Check.{yesOrNo, tableQuestion, questionOf, checkOf}
+use Rattle.checker.specs.Exactly.{ruleOf, rowsAsked, Faultless, FirstAtFault}
 use Rattle.checker.proofs.Chain.{AllKept, FirstFault, accepted-all, all-accepted, refused-first, first-refused}
-
--- whether row r keeps the rule that question q asks; questions 1 to 3 ask of row 0 alone
-unfoldable pub ruleOf : List ℕ → ℕ → ℕ → Bool
-ruleOf image q r =
-    let t : List ℕ = typesIn image in
-    let f : List ℕ = fieldsIn image in
-    let v : List ℕ = variablesIn image in
-    let p : List ℕ = proceduresIn image in
-    let n : List ℕ = nodesIn image in
-    let s : List ℕ = statementsIn image in
-    choose (eqb q 1) (question1 image)
-    (choose (eqb q 2) (question2 image)
-    (choose (eqb q 3) (question3 image)
-    (choose (eqb q 4) (ruleUpTo (typeKept t f) (rowsOf t) (eqb (usedBelow t (rowsOf t)) (rowsOf f)) r)
-    (choose (eqb q 5) (variableKept t v r)
-    (choose (eqb q 6) (ruleUpTo (procedureKept v p s) (rowsOf p) (eqb (firstVariable v p (rowsOf p)) (rowsOf v)) r)
-    (choose (eqb q 7) (nodeKept (rowsOf t) (rowsOf v) n r)
-    (choose (eqb q 8) (statementKept n p s r)
-    (choose (eqb q 9) (namedOnce (namesIn n p s) r)
-    (choose (eqb q 10) (hasType (typeOf t f v n r)) (statementRule t v p n s (typeOf t f v n) r))))))))))
-
--- of how many rows it asks: one more than types and procedures, for what none of them claims
-unfoldable pub rowsAsked : List ℕ → ℕ → ℕ
-rowsAsked image q =
-    choose (eqb q 1) 1
-    (choose (eqb q 2) 1
-    (choose (eqb q 3) 1
-    (choose (eqb q 4) (rowsOf (typesIn image) + 1)
-    (choose (eqb q 5) (rowsOf (variablesIn image))
-    (choose (eqb q 6) (rowsOf (proceduresIn image) + 1)
-    (choose (eqb q 7) (rowsOf (nodesIn image))
-    (choose (eqb q 8) (rowsOf (statementsIn image))
-    (choose (eqb q 9) (rowsOf (nodesIn image))
-    (choose (eqb q 10) (rowsOf (nodesIn image)) (rowsOf (statementsIn image)))))))))))
-
--- no row is at fault in any of the eleven questions
-pub record Faultless (image : List ℕ) : Type 0 where
-  pub each : (q : ℕ) → 1 ≤ q → q ≤ 11 → (r : ℕ) → r < rowsAsked image q → ruleOf image q r ≡ true
-
--- question q is the first with a row at fault, and the row is its lowest
-pub record FirstAtFault (image : List ℕ) (q row : ℕ) : Type 0 where
-  pub least : 1 ≤ q
-  pub most : q ≤ 11
-  pub lowest : Lowest (ruleOf image q) (rowsAsked image q) row
-  pub before : (i : ℕ) → 1 ≤ i → i < q → (r : ℕ) → r < rowsAsked image i → ruleOf image i r ≡ true
 
 -- ---- each question asks its rule of its rows
 

@@ -11,8 +11,8 @@ use lib.ListN.{length, getD, take, drop, length-drop}
 use lib.Seq.{length-take-le}
 use Rattle.prelude.specs.Choice.{choose, _also_}
 use Rattle.prelude.proofs.Choice.{choose-cases, choose-yes, also-true, also-yes}
-use Rattle.image.specs.Rows.{numberAt, wordAt, rowsOf}
-use Rattle.image.proofs.Bytes.{Bytes, slice-bytes}
+use Rattle.image.specs.Rows.{Bytes, numberAt, wordAt, rowsOf}
+use Rattle.image.proofs.Bytes.{slice-bytes}
 use Rattle.header.specs.Header.{question1, question2, tableFrom, thenTable, tablesOf, thirdAnswer, headerOf}
 use Rattle.header.specs.Header.{partOf, question3, areSix, sixOf, tablesIn}
 use Rattle.header.specs.declared.HeaderAnswer.{HeaderAnswer}

@@ -1,4 +1,4 @@
--- Bytes, and what rows of bytes can hold.
+-- What rows of bytes can hold, and that rows past the end are none.
 use mathlib.Core.Path.{_≡_, ap}
 use mathlib.Core.List.{List}
 use mathlib.Core.Bool.{Bool, true, false}
@@ -11,12 +11,8 @@ use lib.ListN.{getD, take, drop, length-take, List·getD-eq-default}
 use lib.Seq.{getD-take, getD-drop}
 use Rattle.prelude.specs.Choice.{choose}
 use Rattle.prelude.proofs.Choice.{choose-no}
-use Rattle.image.specs.Rows.{numberAt, rowsOf, noRow, rowAt}
+use Rattle.image.specs.Rows.{Bytes, numberAt, rowsOf, noRow, rowAt}
 use Rattle.image.specs.declared.Row.{Row}
-
--- a list of bytes
-pub record Bytes (s : List ℕ) : Type 0 where
-  pub each : (i : ℕ) → getD s i 0 < 256
 
 -- a row's numbers are 16 bits wide
 pub record Small (r : Row) : Type 0 where

@@ -1,10 +1,14 @@
 -- Rows of a table that stands in a list of bytes.
-use Prim.Native.Nat.{ℕ, _+_, _*_, _/_}
+use Prim.Native.Nat.{ℕ, _+_, _*_, _/_, _<_}
 use mathlib.Core.List.{List}
 use lib.Dec.{ltb}
 use lib.ListN.{length, getD}
 use Rattle.prelude.specs.Choice.{choose}
 use Rattle.image.specs.declared.Row.{Row}
+
+-- a list of bytes: each number is below 256
+pub record Bytes (s : List ℕ) : Type 0 where
+  pub each : (i : ℕ) → getD s i 0 < 256
 
 -- "Integers in it are unsigned and big-endian": the 16-bit number at byte j
 unfoldable pub numberAt : List ℕ → ℕ → ℕ

@@ -10,12 +10,11 @@ use lib.IntN.{ℤ, pos}
 use lib.ListN.{length, getD, drop, replicate, length-replicate}
 use Rattle.prelude.specs.Choice.{choose}
 use Rattle.prelude.proofs.Choice.{choose-yes, choose-no}
-use Rattle.image.proofs.Bytes.{Bytes}
 use Rattle.checker.specs.declared.CheckAnswer.{CheckAnswer}
 use Rattle.checker.specs.declared.CheckAnswer.the-variants.{Accepted, Refused}
 use Rattle.checker.specs.Check.{questionOf, checkOf, refusalOf, rowOf}
 use Rattle.checker.proofs.Chain.{refused-first}
-use Rattle.image.specs.Rows.{rowAt}
+use Rattle.image.specs.Rows.{Bytes, rowAt}
 use Rattle.frames.specs.Variables.{globalsOf}
 use Rattle.frames.specs.Procedures.{firstVariable, claimedBy}
 use Rattle.places.specs.Places.{roomFrom, globalCells, frameSize}

@@ -5,6 +5,7 @@ ghost use Prim.Native.Nat.{_+_, _≤_, _<_};
 ghost use lib.ListN.{length};
 ghost use lib.IntN.{pos, _-ℤ_};
 ghost use Rattle.image.specs.Rows.{wordAt};
+ghost use Rattle.packs.specs.Records.{NextRecord};
 
 // The signed number at a byte, which is packed with 2,147,483,648 added to it.
 pub fn signed_at(s: &[u8], at: usize) -> i32
@@ -15,26 +16,25 @@ pub fn signed_at(s: &[u8], at: usize) -> i32
     ((n as i64) - 2147483648) as i32
 }
 
-// Puts the next record at the start of the buffer and answers its length; at the end of the pack, or where the buffer
-// is too short, it answers more than the buffer's length.
+// Puts the next record at the start of the buffer and answers its length. At the end of the pack, or where the buffer is
+// too short, it answers one more than the buffer's length, and where the pack ends within the record, two more.
 pub fn next_record(fd: i32, buffer: &mut [u8]) -> usize
     requires { ⌜ length (now buffer) < 4294967296 ⌝ }
-    ensures { λ r. ⌜ (r ≤ length (now (buffer .entry)) + 1) × (length (now (buffer .exit)) ≡ length (now
-        (buffer .entry))) ⌝ }
+    ensures { λ r. ⌜ NextRecord (now (buffer .entry)) r (now (buffer .exit)) ⌝ }
 {
-    let end = buffer.len() + 1;
+    let size = buffer.len();
     let mut head = [0u8; 4];
     let got = io::read_full(fd, &mut head);
     if got < 4 {
-        return end;
+        return size + 1;
     }
     let n = image::word_at(&head, 0) as usize;
-    if buffer.len() < n {
-        return end;
+    if size < n {
+        return size + 1;
     }
     let read = io::read_full(fd, &mut buffer[..n]);
     if read < n {
-        return end;
+        return size + 2;
     }
     n
 }

@@ -1,7 +1,7 @@
 -- Laws of extension, and that an extension begins with what its base has.
 use mathlib.Core.Path.{_≡_, refl, sym, _∙_}
 use mathlib.Core.Bool.{Bool, true, false}
-use mathlib.Core.List.{List, [], map, append-nil}
+use mathlib.Core.List.{List, [], append-nil}
 use mathlib.Core.Logic.{⊎-elim}
 use Prim.Native.Nat.{ℕ, zero, suc, _<_}
 use native.Mathlib.Omega.{arith}
@@ -9,17 +9,16 @@ use native.Mathlib.Decide.{decLt}
 use borrow.Author.Tests.{eqb-true}
 use lib.Dec.{eqb}
 use Rattle.prelude.specs.Choice.{choose}
-use Rattle.prelude.specs.Parts.{joined, Part}
+use Rattle.prelude.specs.Parts.{Part}
 use Rattle.prelude.specs.Rec.{below}
 use Rattle.prelude.proofs.Choice.{choose-cases, clash}
-use Rattle.prelude.proofs.Parts.{part-more}
+use Rattle.prelude.proofs.Parts.{part-part}
 use Rattle.prelude.proofs.Rec.{below-low, below-high}
 use Rattle.image.specs.Rows.{rowsOf}
-use Rattle.shapes.specs.Forms.{Form, Form.scalar, Form.array, Form.recordOf, Form.noForm, form, baseOf, ofBase}
-use Rattle.shapes.specs.Forms.{ownTypes}
-use Rattle.shapes.specs.Sizes.{layoutBy, layoutOf, fieldsBy, fieldsOf}
+use Rattle.shapes.specs.Forms.{form, baseOf, ofBase}
+use Rattle.shapes.specs.Sizes.{layoutOf, fieldsOf}
 use Rattle.relations.specs.Extends.{extendsTo, extends}
-use Rattle.shapes.proofs.Accepted.{TypesKept, layout-is, fields-are}
+use Rattle.shapes.proofs.Accepted.{TypesKept, Begins, base-first}
 use Rattle.relations.proofs.Climbing.{extends-eq, extends-same}
 
 -- "T extends U if T is U or T's base extends U", as a proof goes through it
@@ -71,37 +70,23 @@ trans (up base low h) k = up base low (trans h k)
 pub extends-trans : (t : List ℕ) (r u v : ℕ) → extends t r u ≡ true → extends t u v ≡ true → extends t r v ≡ true
 extends-trans t r u v a b = yes-extends (trans (extends-yes t r u a) (extends-yes t u v b))
 
--- ---- an extension begins with its base
+-- ---- an extension begins with what it extends
 
 part-whole : {X : Type 0} (l : List X) → Part l 0 l
 part-whole l = record { rest = []; seen = sym (append-nil l); within = omega arith }
-
--- what has a base is a record
-based-form : (x : Form) {b : ℕ} → baseOf x ≡ suc b → (first : ℕ) × (count : ℕ) × (x ≡ recordOf (suc b) first count)
-unfolding baseOf
-based-form (scalar k) e = absurd (omega arith)
-based-form (array m n) e = absurd (omega arith)
-based-form (recordOf base first count) e = (first, count, rw e)
-based-form noForm e = absurd (omega arith)
 
 module _ (t f : List ℕ) (kept : TypesKept t f) where
   pub extends-within : {r u : ℕ} → Extends t r u → r < rowsOf t → u < rowsOf t
   extends-within same h = h
   extends-within (up base low e) h = extends-within e (omega arith)
 
-  -- an extension's layout begins with its base's
-  pub extension-layout : {r u : ℕ} → Extends t r u → r < rowsOf t → Part (layoutOf t f r) 0 (layoutOf t f u)
-  unfolding layoutBy ofBase
-  extension-layout {r} same h = part-whole (layoutOf t f r)
-  extension-layout {r} (up {b = b} base low e) h =
-      let (first, count, is) = based-form (form t r) base in
-      rw (layout-is t f r (kept .row r h .shape), is)
-      (part-more (joined (map (layoutOf t f) (ownTypes f first count))) (extension-layout e (omega arith)))
-
-  -- and its fields with its base's
-  pub extension-fields : {r u : ℕ} → Extends t r u → r < rowsOf t → Part (fieldsOf t f r) 0 (fieldsOf t f u)
-  unfolding fieldsBy ofBase
-  extension-fields {r} same h = part-whole (fieldsOf t f r)
-  extension-fields {r} (up {b = b} base low e) h =
-      let (first, count, is) = based-form (form t r) base in
-      rw (fields-are t f r (kept .row r h .shape), is) (part-more (ownTypes f first count) (extension-fields e (omega arith)))
+  pub extension-begins : {r u : ℕ} → Extends t r u → r < rowsOf t → Begins t f r u
+  extension-begins {r} same h =
+      record { layout = part-whole (layoutOf t f r); fields = part-whole (fieldsOf t f r) }
+  extension-begins {r} (up base low e) h =
+      let first = base-first t f r (kept .row r h .shape) base in
+      let rest = extension-begins e (omega arith) in
+      record {
+        layout = part-part (first .layout) (rest .layout);
+        fields = part-part (first .fields) (rest .fields);
+      }

@@ -4,8 +4,7 @@ use mathlib.Core.Logic.{_⊎_, inl, inr}
 use mathlib.Core.List.{List}
 use lib.IntN.{ℤ}
 use Rattle.prelude.specs.Choice.{choose}
-use Rattle.image.specs.Rows.{rowAt}
-use Rattle.image.proofs.Bytes.{Bytes}
+use Rattle.image.specs.Rows.{Bytes, rowAt}
 use Rattle.shapes.proofs.Layouts.{decide}
 use Rattle.checker.proofs.Accepted.{AcceptedTables}
 use Rattle.semantics.specs.Memory.{Cell, tagged}

@@ -10,8 +10,7 @@ use lib.ListN.{length, take, drop, length-append}
 use lib.Seq.{length-take-le, take-add, take-at, take-append-seam, take-append-add, drop-at}
 use Rattle.prelude.specs.Parts.{joined, Part}
 use Rattle.prelude.proofs.Choice.{also-true}
-use Rattle.image.specs.Rows.{rowAt, rowsOf}
-use Rattle.image.proofs.Bytes.{Bytes}
+use Rattle.image.specs.Rows.{Bytes, rowAt, rowsOf}
 use Rattle.shapes.specs.Sizes.{sizeOf}
 use Rattle.relations.specs.Extends.{extends}
 use Rattle.relations.proofs.Extension.{extends-trans}

@@ -3,7 +3,7 @@
 --
 -- The claim is `sound-after`. The definitions that it cites:
 --   checkOf, Accepted           checker/specs/Check: questions 1 to 11
---   Bytes                       image/proofs/Bytes: the image's numbers are bytes
+--   Bytes                       image/specs/Rows: the image's numbers are bytes
 --   programOf, firstTop, fresh  specs/Running: the image's tables, G + F0, the fresh state
 --   tagged, Cell                specs/Memory: cells with kinds
 --   State, Next, stepOf         specs/Stepping: a state, what a step comes to, one step
@@ -16,7 +16,7 @@ use mathlib.Core.List.{List}
 use Prim.Native.Nat.{ℕ, zero, suc, _≤_}
 use lib.IntN.{ℤ}
 use lib.ListN.{length}
-use Rattle.image.proofs.Bytes.{Bytes}
+use Rattle.image.specs.Rows.{Bytes}
 use Rattle.header.specs.Header.{tablesIn}
 use Rattle.header.proofs.Fitting.{part-bytes}
 use Rattle.checker.specs.declared.CheckAnswer.the-variants.{Accepted}

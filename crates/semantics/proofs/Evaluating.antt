@@ -16,8 +16,8 @@ use Rattle.prelude.specs.Parts.{Part}
 use Rattle.prelude.proofs.Choice.{choose-yes, choose-no, choose-cases, choose-has, also-yes, clash}
 use Rattle.prelude.proofs.Rec.{rec-ind}
 use Rattle.image.specs.declared.Row.{Row}
-use Rattle.image.specs.Rows.{rowAt, rowsOf}
-use Rattle.image.proofs.Bytes.{Bytes, row-small}
+use Rattle.image.specs.Rows.{Bytes, rowAt, rowsOf}
+use Rattle.image.proofs.Bytes.{row-small}
 use Rattle.shapes.proofs.Layouts.{decide}
 use Rattle.relations.specs.declared.FieldAnswer.the-variants.{Field}
 use Rattle.relations.specs.Extends.{extends}

@@ -1,4 +1,4 @@
--- Laws of extension, of scalar types, and of the globals that come first.
+-- Laws of extension, of scalar types, of guards, and of the globals that come first.
 use mathlib.Core.Path.{_≡_, refl, _∙_}
 use mathlib.Core.Bool.{Bool, true, false}
 use mathlib.Core.List.{List, [], _∷_, _++_, map}
@@ -12,7 +12,7 @@ use lib.ListN.{length, getD, take, drop, length-append, List·getD-append}
 use lib.Seq.{take-append-le}
 use Rattle.prelude.specs.Choice.{choose}
 use Rattle.prelude.specs.Parts.{sum}
-use Rattle.prelude.proofs.Choice.{choose-yes, choose-cases}
+use Rattle.prelude.proofs.Choice.{choose-yes, choose-no, choose-cases}
 use Rattle.image.specs.Rows.{rowAt, rowsOf}
 use Rattle.image.specs.Faults.{KeptIn}
 use Rattle.image.proofs.Faults.{kept-next}
@@ -25,9 +25,15 @@ use Rattle.relations.specs.declared.FieldAnswer.{FieldAnswer}
 use Rattle.relations.specs.declared.FieldAnswer.the-variants.{Missing, Field}
 use Rattle.relations.specs.Extends.{extends}
 use Rattle.relations.specs.Fields.{fieldOf}
-use Rattle.relations.proofs.Extension.{Extends, Extends.same, Extends.up, extends-yes, extension-fields}
+use Rattle.relations.proofs.Extension.{Extends, Extends.same, Extends.up, extends-yes, extension-begins}
 use Rattle.frames.specs.Variables.{isGlobal, globalsFrom, globalsOf}
 use Rattle.frames.proofs.Accepted.{VariableRow}
+use Rattle.values.specs.declared.Trap.the-variants as Ts
+use Rattle.semantics.specs.declared.Place.{Place}
+use Rattle.semantics.specs.declared.Found.{Found}
+use Rattle.semantics.specs.declared.Found.the-variants as Fs
+use Rattle.semantics.specs.Layout.{Program}
+use Rattle.semantics.specs.Finding.{guardPlace}
 
 -- ---- extension
 
@@ -89,7 +95,7 @@ module _ (t f : List ℕ) (kept : TypesKept t f) where
       → fieldOf t f r n ≡ Field offset x
   unfolding fieldOf offsetOf
   extension-field r u n {offset} {x} e h found =
-      let p = extension-fields t f kept (extends-yes t r u e) h in
+      let p = extension-begins t f kept (extends-yes t r u e) h .fields in
       front (fieldsOf t f u) (p .rest) (fieldsOf t f r) (p .seen) found
     where
       front : (l m whole : List ℕ) → drop 0 whole ≡ l ++ m
@@ -112,6 +118,21 @@ module _ (t f : List ℕ) (kept : TypesKept t f) where
               (choose-yes _ _ _ (lt-ltb n (length (l ++ m)) all)
               ∙ (rw (take-append-le n l m (omega arith), List·getD-append l m 0 n less) e))
           go (inr (k, e)) = let z : _≡_ {A = ℕ} 0 1 = cc in absurd (omega arith)
+
+-- ---- guards
+
+-- an object passes a guard to type b just where its dynamic type extends b
+module _ (g : Program) (b : ℕ) (place : Place) where
+  abbrev guarded : Found
+  guarded = Fs.At (record { address = place .address; declared = b; dynamic = place .dynamic })
+
+  pub guard-passes : extends (g .types) (place .dynamic) b ≡ true → guardPlace g b place ≡ guarded
+  unfolding guardPlace
+  guard-passes e = choose-yes (extends (g .types) (place .dynamic) b) guarded (Fs.Trap Ts.Guard) e
+
+  pub guard-traps : extends (g .types) (place .dynamic) b ≡ false → guardPlace g b place ≡ Fs.Trap Ts.Guard
+  unfolding guardPlace
+  guard-traps e = choose-no (extends (g .types) (place .dynamic) b) guarded (Fs.Trap Ts.Guard) e
 
 -- ---- globals
 

@@ -20,7 +20,7 @@ use Rattle.shapes.specs.Sizes.{sizeOf, layoutOf}
 use Rattle.shapes.proofs.Rows.{form-array}
 use Rattle.shapes.proofs.Layouts.{layout-length, field-layout, element-layout, decide}
 use Rattle.relations.specs.Extends.{extends}
-use Rattle.relations.proofs.Extension.{extends-yes, extension-layout}
+use Rattle.relations.proofs.Extension.{extends-yes, extension-begins}
 use Rattle.frames.specs.Variables.{isGlobal, kindWithin, globalsFrom, globalsOf}
 use Rattle.frames.specs.Procedures.{claimedBy, firstVariable}
 use Rattle.frames.proofs.Claiming.{globals-within}
@@ -288,7 +288,7 @@ module _ (g : Program)
   object-front {at = at} {r} u st o e =
       let start : at + 0 ≡ at = omega arith in
       let extension = extends-yes (g .types) r u e in
-      let front = extension-layout (g .types) (g .fields) (ok .types) extension (object-typed o) in
+      let front = extension-begins (g .types) (g .fields) (ok .types) extension (object-typed o) .layout in
       rw start at (part-part (object-part st o) (part-map any-value front))
 
   -- ---- places of variables

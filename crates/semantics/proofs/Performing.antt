@@ -12,8 +12,7 @@ use Rattle.prelude.specs.Parts.{joined, Part}
 use Rattle.prelude.proofs.Choice.{choose-yes}
 use Rattle.prelude.proofs.Parts.{part-back}
 use Rattle.image.specs.declared.Row.{Row}
-use Rattle.image.specs.Rows.{rowAt, rowsOf}
-use Rattle.image.proofs.Bytes.{Bytes}
+use Rattle.image.specs.Rows.{Bytes, rowAt, rowsOf}
 use Rattle.shapes.specs.Forms.{form}
 use Rattle.shapes.specs.Sizes.{sizeOf}
 use Rattle.relations.specs.Extends.{extends}

@@ -9,13 +9,15 @@ use native.Mathlib.Decide.{decLt}
 use borrow.Author.Tests.{ltb-true, leb-true, eqb-true, lt-ltb, le-ltb}
 use lib.Dec.{ltb, eqb}
 use Rattle.prelude.specs.Choice.{choose}
+use Rattle.prelude.specs.Parts.{joined, Part}
 use Rattle.prelude.proofs.Choice.{choose-yes, choose-no, choose-cases, also-true, clash}
 use Rattle.prelude.proofs.Rec.{rec-eq, below-low}
 use Rattle.image.specs.declared.Row.{Row}
 use Rattle.image.specs.Rows.{rowAt, rowsOf}
 use Rattle.image.specs.Faults.{KeptIn}
 use Rattle.image.proofs.Faults.{all-each}
-use Rattle.shapes.specs.Forms.{Form, Form.scalar, Form.array, Form.recordOf, formOf, form, ofBase, ownTypes}
+use Rattle.shapes.specs.Forms.{Form, Form.scalar, Form.array, Form.recordOf, Form.noForm, formOf, form}
+use Rattle.shapes.specs.Forms.{baseOf, ofBase, ownTypes}
 use Rattle.shapes.specs.Sizes.{sizeBy, sizeOf, layoutBy, layoutOf, fieldsBy, fieldsOf}
 use Rattle.shapes.specs.Shapes.{usedBelow, scalarKept, arrayKept, fieldKept, baseKept, recordKept, laterKept}
 use Rattle.shapes.specs.Shapes.{shapeKept, typeKept}
@@ -201,6 +203,39 @@ module _ (t f : List ℕ) (r : ℕ) {used : ℕ} (shape : Shape t f used r (form
   fields-are =
       rec-eq [] (λ fields r. fieldsBy f fields (form t r)) r
       ∙ fields-by-agree _ _ shape (λ b low. below-low [] r _ b low)
+
+-- ---- "record base plus own fields, base first"
+
+-- type r begins with type u: layout with layout, fields with fields
+pub record Begins (t f : List ℕ) (r u : ℕ) : Type 0 where
+  pub layout : Part (layoutOf t f r) 0 (layoutOf t f u)
+  pub fields : Part (fieldsOf t f r) 0 (fieldsOf t f u)
+
+-- what has a base is a record
+based-form : (x : Form) {b : ℕ} → baseOf x ≡ suc b → (first : ℕ) × (count : ℕ) × (x ≡ recordOf (suc b) first count)
+unfolding baseOf
+based-form (scalar k) e = absurd (omega arith)
+based-form (array m n) e = absurd (omega arith)
+based-form (recordOf base first count) e = (first, count, rw e)
+based-form noForm e = absurd (omega arith)
+
+-- a record begins with its base
+pub base-first : (t f : List ℕ) (r : ℕ) {used b : ℕ} → Shape t f used r (form t r) → baseOf (form t r) ≡ suc b
+    → Begins t f r b
+unfolding layoutBy fieldsBy ofBase
+base-first t f r {b = b} shape base = let (first, count, is) = based-form (form t r) base in go first count is
+  where
+    go : (first count : ℕ) → form t r ≡ recordOf (suc b) first count → Begins t f r b
+    go first count is =
+        let own : List ℕ = ownTypes f first count in
+        record {
+          layout = record {
+            rest = joined (map (layoutOf t f) own);
+            seen = layout-is t f r shape ∙ rw is;
+            within = omega arith;
+          };
+          fields = record { rest = own; seen = fields-are t f r shape ∙ rw is; within = omega arith };
+        }
 
 -- ---- the whole table
 

@@ -1,7 +1,7 @@
 -- `finding::guard_place` meets its contract.
-use mathlib.Core.Path.{sym}
-use Rattle.prelude.specs.Choice.{choose}
-use Rattle.semantics.specs.Finding.{reach, guardPlace}
+use mathlib.Core.Path.{sym, _∙_}
+use Rattle.semantics.specs.Finding.{reach}
+use Rattle.semantics.proofs.Kinship.{guard-passes, guard-traps}
 use Rattle.finding.proofs.Missed.{reach-other}
 use borrow.Author.Needs.{needs}
 use Rattle.finding.proofs.guard_place.Statement.{statement}
@@ -17,12 +17,16 @@ extends-requires : tie.Need-extends-requires
 extends-requires c κs = search needs
 
 returns-2 : tie.Need-returns-2
-unfolding reach guardPlace choose
-returns-2 c = rw (c .before .before .before .found .given .1, ← c .before .extends .ensures, c .if1 .taken)
+unfolding reach
+returns-2 c =
+    rw (c .before .before .before .found .given .1)
+    (sym (guard-passes _ _ _ (sym (c .before .extends .ensures) ∙ c .if1 .taken)))
 
 returns-3 : tie.Need-returns-3
-unfolding reach guardPlace choose
-returns-3 c = rw (c .before .before .before .found .given .1, ← c .before .extends .ensures, c .if1 .left)
+unfolding reach
+returns-3 c =
+    rw (c .before .before .before .found .given .1)
+    (sym (guard-traps _ _ _ (sym (c .before .extends .ensures) ∙ c .if1 .left)))
 
 pub guard-place-spec : {M : Type 1} → statement M
 guard-place-spec =
