@@ -15,5 +15,5 @@ pub mod Reporting
 pub mod Outcomes
 pub mod Opened
 pub mod Images
-pub mod Table
+pub mod Acceptance
 pub mod Whole

@@ -11,7 +11,7 @@ use Rattle.checker.specs.Check.{checkOf}
 use Rattle.semantics.specs.Running.{resultOf, storeAfter, outputAfter}
 use Rattle.semantics.proofs.Opened.{run}
 use Rattle.semantics.proofs.Images.{start, count, row, zeros, nine}
-use Rattle.semantics.proofs.Table.{typeRows, fieldRows}
+use Rattle.semantics.proofs.Acceptance.{typeRows, fieldRows}
 
 -- Types 3 and 4 are case 7's: RECORD number: INTEGER END, and RECORD (type 3) set: SET END.
 -- VAR large: type 4; small: type 3;
