@@ -8,6 +8,7 @@ use Rattle.header.specs.declared.Tables.{Tables}
 use Rattle.header.specs.declared.HeaderAnswer.the-variants.{Yes}
 use Rattle.header.specs.Header.{headerOf, partOf}
 use Rattle.header.proofs.Fitting.{header-fits}
+use Rattle.sizes.specs.Cells.{CHECK_PLAN}
 use Rattle.checker.specs.Check.{checkOf}
 use Rattle.checker.specs.Prepared.{Leaves, Prepared.untouched}
 use Rattle.checker.proofs.Asking.{header-no, header-yes, counts-fit, prepared-no, prepared-yes}
@@ -21,7 +22,6 @@ use Rattle.checker.proofs.check_tables.Reads as check-tables-reads
 use Rattle.checker.proofs.fill_bounds.Reads as fill-bounds-reads
 use Rattle.header.proofs.header.Reads as header-reads
 use Rattle.header.proofs.part.Reads as part-reads
-use Rattle.sizes.specs.Cells.{CHECK_PLAN}
 
 header-requires : tie.Need-header-requires
 header-requires c κs = search needs

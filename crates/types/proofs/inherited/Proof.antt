@@ -5,6 +5,7 @@ use lib.ListN.{getD}
 use Prim.Native.Nat.{_+_}
 use mathlib.Core.Path.{sym, _∙_, ap}
 use Rattle.shapes.proofs.Rows.{of-no-base, of-base}
+use Rattle.sizes.specs.Cells.{INHERITED}
 use native.Mathlib.Omega.{arith}
 use borrow.Author.Needs.{needs}
 use Rattle.types.proofs.inherited.Statement.{statement}
@@ -12,7 +13,6 @@ use Rattle.types.proofs.inherited.Tie as tie
 use Rattle.types.proofs.inherited.Reads as reads
 use Rattle.types.proofs.inherited.Lts as lts
 use Rattle.image.proofs.row_at.Reads as row-at-reads
-use Rattle.sizes.specs.Cells.{INHERITED}
 use Rattle.sizes.proofs.cell.Reads as cell-reads
 
 returns : tie.Need-returns

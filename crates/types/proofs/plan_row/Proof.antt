@@ -5,6 +5,7 @@ use Prim.Native.Nat.{_+_, _≤_}
 use denote.Ref.{now}
 use lib.ListN.{getD, length-set}
 use Rattle.shapes.specs.Forms.{ofBase}
+use Rattle.sizes.specs.Cells.{INHERITED}
 use Rattle.types.specs.Filling.{OffsetsFit}
 use Rattle.types.proofs.Planning.{few-inherited, inherited-is, offsets-fit, plan-next, rest-next}
 use borrow.Author.Needs.{needs}
@@ -15,7 +16,6 @@ use Rattle.types.proofs.plan_row.Lts as lts
 use Rattle.shapes.proofs.base_of.Reads as base-of-reads
 use Rattle.sizes.proofs.base_size.Reads as base-size-reads
 use Rattle.shapes.proofs.claimed.Reads as claimed-reads
-use Rattle.sizes.specs.Cells.{INHERITED}
 use Rattle.types.proofs.inherited.Reads as inherited-reads
 use Rattle.types.proofs.plan_offsets.Reads as plan-offsets-reads
 
