@@ -16,8 +16,8 @@ pub fn signed_at(s: &[u8], at: usize) -> i32
     ((n as i64) - 2147483648) as i32
 }
 
-// Puts the next record at the start of the buffer and answers its length. At the end of the pack, or where the buffer is
-// too short, it answers one more than the buffer's length, and where the pack ends within the record, two more.
+// Puts the next record at the start of the buffer and answers its length. At the end of the pack, or where the buffer
+// is too short, it answers one more than the buffer's length, and where the pack ends within the record, two more.
 pub fn next_record(fd: i32, buffer: &mut [u8]) -> usize
     requires { ⌜ length (now buffer) < 4294967296 ⌝ }
     ensures { λ r. ⌜ NextRecord (now (buffer .entry)) r (now (buffer .exit)) ⌝ }

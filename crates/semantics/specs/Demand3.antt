@@ -1,5 +1,6 @@
 -- What demand 3 says: after every number of steps the tagged machine's state is sound, and until it finishes or traps
--- its next step goes on, finishes, or ends in a named trap. It is never stuck.
+-- its next step goes on, finishes, or ends in a named trap. It is never stuck. "Demand 3 is a single claim, about every
+-- number of steps from the fresh state, and not one for each kind of statement."
 use mathlib.Core.Path.{_≡_}
 use mathlib.Core.List.{List}
 use lib.IntN.{ℤ}

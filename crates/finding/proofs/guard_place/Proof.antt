@@ -1,5 +1,5 @@
 -- `finding::guard_place` meets its contract.
-use mathlib.Core.Path.{sym, _∙_}
+use mathlib.Core.Path.{sym}
 use Rattle.semantics.specs.Finding.{reach}
 use Rattle.semantics.proofs.Kinship.{guard-passes, guard-traps}
 use Rattle.finding.proofs.Missed.{reach-other}
@@ -20,13 +20,13 @@ returns-2 : tie.Need-returns-2
 unfolding reach
 returns-2 c =
     rw (c .before .before .before .found .given .1)
-    (sym (guard-passes _ _ _ (sym (c .before .extends .ensures) ∙ c .if1 .taken)))
+    (sym (guard-passes _ _ _ (rw (← c .before .extends .ensures) (c .if1 .taken))))
 
 returns-3 : tie.Need-returns-3
 unfolding reach
 returns-3 c =
     rw (c .before .before .before .found .given .1)
-    (sym (guard-traps _ _ _ (sym (c .before .extends .ensures) ∙ c .if1 .left)))
+    (sym (guard-traps _ _ _ (rw (← c .before .extends .ensures) (c .if1 .left))))
 
 pub guard-place-spec : {M : Type 1} → statement M
 guard-place-spec =
