@@ -1,17 +1,10 @@
-use mathlib.Core.Path.{_≡_, sym, _∙_, ap}
+use mathlib.Core.Path.{_≡_, sym}
 use lib.ListN.{length, take}
 use lib.Seq.{length-take-le}
 use native.Mathlib.Omega.{arith}
 use borrow.Author.Needs.{needs}
 use Rattle.cases_checker.proofs.main.Statement.{statement}
 use Rattle.cases_checker.proofs.main.Tie as tie
-use Rattle.cases_checker.proofs.main.Reads as reads
-use Rattle.cases_checker.proofs.main.Lts as lts
-use Rattle.checker.proofs.check.Reads as check-reads
-use Rattle.os.proofs.fail.Reads as fail-reads
-use Rattle.os.proofs.open_read.Reads as open-read-reads
-use Rattle.packs.proofs.next_record.Reads as next-record-reads
-use Rattle.packs.proofs.print_answer.Reads as print-answer-reads
 
 abbrev Inv-loop : tie.InvT-loop
 Inv-loop fd buffer₀ left₀ buffer left = length buffer ≡ 29714
