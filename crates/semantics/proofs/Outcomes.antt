@@ -33,9 +33,8 @@ use Rattle.semantics.proofs.Simulation.{eraseEnded, run-follows, fresh-
 use Rattle.semantics.specs.Demand3.{Unchanged, NextOk, NextOk.ok-goes, NextOk.ok-finished, NextOk.ok-trapped}
 use Rattle.semantics.proofs.Beginning.{fresh-sound, fresh-length}
 use Rattle.semantics.proofs.AnyStep.{step-ok}
-use Rattle.semantics.proofs.Reporting.{Keeps, Reports, Reports.reports-goes, Reports.reports-finished}
-use Rattle.semantics.proofs.Reporting.{Reports.reports-trapped, Reports.reports-stuck, keeps-all, keeps-on}
-use Rattle.semantics.proofs.Reporting.{step-reports}
+use Rattle.semantics.proofs.Reporting.{Keeps, Reports, Reports.reports-goes, Reports.reports-trapped}
+use Rattle.semantics.proofs.Reporting.{Reports.reports-stuck, keeps-all, keeps-on, step-reports}
 use Rattle.semantics.specs.Demand3.{SoundAfter, SoundAfter.sound-running, SoundAfter.sound-over}
 use Rattle.semantics.specs.Demand3.{SoundAfter.sound-failed}
 use Rattle.semantics.proofs.Demand3.{program-accepted, program-bytes, sound-after}
@@ -137,11 +136,6 @@ steps-lent image input store output steps =
     go (traps d low c r x) = omega arith
     go (sticks d low c r x) = omega arith
 
--- as many cells and outputs as before
-pub record SameRoom (s s′ : State Cell) : Type 0 where
-  pub cells : length (s′ .cells) ≡ length (s .cells)
-  pub output : length (s′ .output) ≡ length (s .output)
-
 -- ---- who is not refused
 
 checked : (image : List ℕ) → refusalOf (checkOf image) ≡ 0 → checkOf image ≡ Accepted
@@ -173,20 +167,21 @@ refusal-none image store e =
 module _ (g : Program)
     (ok : AcceptedTables (g .types) (g .fields) (g .variables) (g .procedures) (g .nodes) (g .statements))
     (bytes : Bytes (g .nodes)) (input : List ℤ) where
-  run-room : (n k : ℕ) (s : State Cell) → Sound g s → SameRoom s (runFrom tagged g input n k s .state)
+  -- a run leaves as many cells as there were
+  run-room : (n k : ℕ) (s : State Cell) → Sound g s
+      → length (runFrom tagged g input n k s .state .cells) ≡ length (s .cells)
   unfolding runFrom onward
-  run-room zero k s sound = record { cells = refl; output = refl }
+  run-room zero k s sound = refl
   run-room (suc n) k s sound =
       go (stepOf tagged g input s) (step-ok g ok bytes s sound input) (λ u h. run-room n (k + 1) u h)
     where
       go : (x : Next Cell) → NextOk g s x
-          → ((u : State Cell) → Sound g u → SameRoom u (runFrom tagged g input n (k + 1) u .state))
-          → SameRoom s (onward x s (k + 1) (λ u. runFrom tagged g input n (k + 1) u) .state)
-      go x (ok-goes {s′ = u} next cells output) later =
-          let rest = later u next in
-          record { cells = rest .cells ∙ cells; output = rest .output ∙ output }
-      go x ok-finished later = record { cells = refl; output = refl }
-      go x (ok-trapped same) later = record { cells = same .cells; output = rw (same .output) }
+          → ((u : State Cell) → Sound g u
+          → length (runFrom tagged g input n (k + 1) u .state .cells) ≡ length (u .cells))
+          → length (onward x s (k + 1) (λ u. runFrom tagged g input n (k + 1) u) .state .cells) ≡ length (s .cells)
+      go x (ok-goes {s′ = u} next cells output) later = later u next ∙ cells
+      go x ok-finished later = refl
+      go x (ok-trapped same) later = same .cells
 
 module _ (image : List ℕ) (bytes : Bytes image) (accepted : checkOf image ≡ Accepted) (input store output : List ℤ)
     (most : length store ≤ 65536) (least : firstTop (programOf image) ≤ length store) (steps : ℕ) where
@@ -255,21 +250,14 @@ module _ (image : List ℕ) (bytes : Bytes image) (accepted : checkOf image ≡ 
       rw (fresh-erased (programOf image) store output)
       (run-follows (programOf image) input steps 0 first never-stuck)
 
-  -- a run leaves as many cells and outputs as it was lent
+  -- a run leaves as many cells as it was lent
   pub ran-cells : length (ranOf image input store output steps .state .cells) ≡ length store
   unfolding ranOf fresh
   ran-cells =
       let ok = program-accepted image accepted in
       run-room (programOf image) ok (program-bytes image bytes) input steps 0 first
-      (fresh-sound (programOf image) ok store output most least) .cells
+      (fresh-sound (programOf image) ok store output most least)
       ∙ fresh-length (programOf image) ok store least
-
-  pub ran-output : length (ranOf image input store output steps .state .output) ≡ length output
-  unfolding ranOf fresh
-  ran-output =
-      let ok = program-accepted image accepted in
-      run-room (programOf image) ok (program-bytes image bytes) input steps 0 first
-      (fresh-sound (programOf image) ok store output most least) .output
 
   pub ran-outcome : ranOf image input store output steps .outcome ≤ 2
   ran-outcome = go ran never-stuck

@@ -1,20 +1,18 @@
 -- What a step does to the output places, and the number that a trap has, from any state of any memory.
 use mathlib.Core.Path.{_≡_, refl, _∙_}
-use mathlib.Core.Bool.{Bool, true, false}
-use mathlib.Core.List.{List, _∷_}
+use mathlib.Core.Bool.{Bool}
+use mathlib.Core.List.{List}
 use Prim.Native.Nat.{ℕ, zero, suc, _+_, _≤_}
 use native.Mathlib.Omega.{arith}
 use lib.IntN.{ℤ, pos}
 use lib.ListN.{length, getD, length-set}
 use lib.Seq.{getD-set-other}
-use Rattle.prelude.specs.Choice.{choose}
 use Rattle.prelude.proofs.Choice.{choose-has}
 use Rattle.image.specs.declared.Row.{Row}
 use Rattle.image.specs.Rows.{rowAt}
 use Rattle.values.specs.declared.Value.{Value}
 use Rattle.values.specs.declared.Value.the-variants as Vs
 use Rattle.values.specs.declared.Trap.{Trap}
-use Rattle.values.specs.declared.Trap.the-variants as Ts
 use Rattle.values.specs.declared.Answer.{Answer}
 use Rattle.values.specs.declared.Answer.the-variants as As
 use Rattle.values.specs.Values.{trapNumber}
@@ -25,7 +23,7 @@ use Rattle.semantics.specs.declared.Found.the-variants as Fs
 use Rattle.semantics.specs.declared.Mark.{Mark}
 use Rattle.semantics.specs.declared.Mark.the-variants.{Number, Nothing}
 use Rattle.semantics.specs.Memory.{Memory}
-use Rattle.semantics.specs.Layout.{Program, placeOf}
+use Rattle.semantics.specs.Layout.{Program}
 use Rattle.semantics.specs.Stepping.{State, Next, Next.goes, Next.finished, Next.trapped, Next.stuck}
 use Rattle.semantics.specs.Stepping.{onPlace, onValue, onInteger, onBoolean, onMark, goTo, following, withCells}
 use Rattle.semantics.specs.Stepping.{written, onPart, afterRead, copied, assigned, argumentCells, passed, entered}
@@ -121,10 +119,7 @@ module _ {X : Type 0} where
 
   -- ---- the statements
 
-  module _ (m : Memory X) (g : Program) (s : State X) where
-    abbrev here : Keeps s s
-    here = keeps-all s
-
+  module _ (s : State X) where
     went : (row : ℕ) → Keeps s (goTo s row)
     unfolding goTo
     went row = keeps-same refl refl
@@ -132,20 +127,7 @@ module _ {X : Type 0} where
     written-reports : (a : ℕ) (new : List X) → Reports s (written s a new)
     unfolding written following goTo withCells
     written-reports a new =
-        choose-has (Reports s) _ (λ e. reports-goes (keeps-same refl refl)) (λ e. reports-stuck here)
-
-    copied-reports : (target source : Place) → Reports s (copied m g s target source)
-    unfolding copied
-    copied-reports target source =
-        choose-has (Reports s) _ (λ e. reports-trapped here (no-number _))
-        (λ e. part-reports here _ _ _ (λ part. written-reports (target .address) part))
-
-    assigned-reports : (row : Row) → Reports s (assigned m g s row)
-    unfolding assigned
-    assigned-reports row =
-        place-reports here _ _ (λ target. choose-has (Reports s) _
-        (λ e. value-reports here _ _ (λ v. written-reports (target .address) _))
-        (λ e. place-reports here _ _ (λ source. copied-reports target source)))
+        choose-has (Reports s) _ (λ e. reports-goes (keeps-same refl refl)) (λ e. reports-stuck (keeps-all s))
 
   argument-reports : (m : Memory X) (g : Program) {s s′ : State X} → Keeps s s′ → (k : ℕ) (parameter : Row)
       (next : List X → Next X) → ((new : List X) → Reports s (next new))
@@ -166,6 +148,22 @@ module _ {X : Type 0} where
       passed-reports m g (k + 1) (a + 1) n _ (keeps-on kept (keeps-same refl refl)) next f)
 
   module _ (m : Memory X) (g : Program) (s : State X) where
+    abbrev here : Keeps s s
+    here = keeps-all s
+
+    copied-reports : (target source : Place) → Reports s (copied m g s target source)
+    unfolding copied
+    copied-reports target source =
+        choose-has (Reports s) _ (λ e. reports-trapped here (no-number _))
+        (λ e. part-reports here _ _ _ (λ part. written-reports s (target .address) part))
+
+    assigned-reports : (row : Row) → Reports s (assigned m g s row)
+    unfolding assigned
+    assigned-reports row =
+        place-reports here _ _ (λ target. choose-has (Reports s) _
+        (λ e. value-reports here _ _ (λ v. written-reports s (target .address) _))
+        (λ e. place-reports here _ _ (λ source. copied-reports target source)))
+
     entered-reports : (q : ℕ) (procedure : Row) (u : State X) → Keeps s u → Reports s (entered m g q procedure u)
     unfolding entered
     entered-reports q procedure u kept = reports-goes (keeps-on kept (keeps-same refl refl))
@@ -173,57 +171,57 @@ module _ {X : Type 0} where
     called-reports : (row : Row) → Reports s (called m g row s)
     unfolding called
     called-reports row =
-        choose-has (Reports s) _ (λ e. reports-trapped (keeps-all s) (no-number _))
-        (λ e. passed-reports m g _ _ _ s (keeps-all s) _ (λ u kept. entered-reports _ _ u kept))
+        choose-has (Reports s) _ (λ e. reports-trapped here (no-number _))
+        (λ e. passed-reports m g _ _ _ s here _ (λ u kept. entered-reports _ _ u kept))
 
     jumped-reports : (row : Row) → Reports s (jumped m g row s)
     unfolding jumped following
     jumped-reports row =
-        value-reports (keeps-all s) _ _ (λ v. boolean-reports (keeps-all s) v _ (λ holds.
-        reports-goes (choose-has (Keeps s) holds (λ e. went m g s _) (λ e. went m g s _))))
+        value-reports here _ _ (λ v. boolean-reports here v _ (λ holds.
+        reports-goes (choose-has (Keeps s) holds (λ e. went s _) (λ e. went s _))))
 
     returned-reports : Reports s (returned m g s)
     unfolding returned
     returned-reports =
         choose-has (Reports s) _ (λ e. reports-finished)
-        (λ e. mark-reports (keeps-all s) _ _ (λ row. mark-reports (keeps-all s) _ _ (λ base.
+        (λ e. mark-reports here _ _ (λ row. mark-reports here _ _ (λ base.
         reports-goes (keeps-same refl refl))))
 
     received-reports : (input : List ℤ) (row : Row) → Reports s (received m g input row s)
     unfolding received
     received-reports input row =
-        place-reports (keeps-all s) _ _ (λ target. choose-has (Reports s) _
-        (λ e. read-reports _ (written-reports m g s (target .address) _))
-        (λ e. reports-trapped (keeps-all s) (no-number _)))
+        place-reports here _ _ (λ target. choose-has (Reports s) _
+        (λ e. read-reports _ (written-reports s (target .address) _))
+        (λ e. reports-trapped here (no-number _)))
 
     sent-reports : (row : Row) → Reports s (sent m g row s)
     unfolding sent
     sent-reports row =
-        value-reports (keeps-all s) _ _ (λ v. integer-reports (keeps-all s) v _ (λ z. choose-has (Reports s) _
+        value-reports here _ _ (λ v. integer-reports here v _ (λ z. choose-has (Reports s) _
         (λ e. reports-goes (record {
           count = omega arith;
           places = length-set (s .output) _ z;
           place = λ i h. getD-set-other (s .output) _ i z (pos 0) (omega arith);
         }))
-        (λ e. reports-trapped (keeps-all s) (no-number _))))
+        (λ e. reports-trapped here (no-number _))))
 
     halted-reports : (row : Row) → Reports s (halted m g row s)
     unfolding halted
     halted-reports row =
-        value-reports (keeps-all s) _ _ (λ v. integer-reports (keeps-all s) v _ (λ z.
-        reports-trapped (keeps-all s) (record { halt = λ other. absurd (other halt-number) })))
+        value-reports here _ _ (λ v. integer-reports here v _ (λ z.
+        reports-trapped here (record { halt = λ other. absurd (other halt-number) })))
 
     perform-reports : (input : List ℤ) (kind : ℕ) (row : Row) → Reports s (perform m g input kind row s)
     unfolding perform
     perform-reports input kind row =
-        choose-has (Reports s) _ (λ e. assigned-reports m g s row)
+        choose-has (Reports s) _ (λ e. assigned-reports row)
         (λ e. choose-has (Reports s) _ (λ e. called-reports row)
         (λ e. choose-has (Reports s) _ (λ e. jumped-reports row)
-        (λ e. choose-has (Reports s) _ (λ e. reports-goes (went m g s (row .b)))
+        (λ e. choose-has (Reports s) _ (λ e. reports-goes (went s (row .b)))
         (λ e. choose-has (Reports s) _ (λ e. returned-reports)
         (λ e. choose-has (Reports s) _ (λ e. received-reports input row)
         (λ e. choose-has (Reports s) _ (λ e. sent-reports row)
-        (λ e. choose-has (Reports s) _ (λ e. halted-reports row) (λ e. reports-stuck (keeps-all s)))))))))
+        (λ e. choose-has (Reports s) _ (λ e. halted-reports row) (λ e. reports-stuck here))))))))
 
     pub step-reports : (input : List ℤ) → Reports s (stepOf m g input s)
     unfolding stepOf
