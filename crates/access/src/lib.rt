@@ -9,6 +9,7 @@ use sizes::FRAMES;
 use sizes::GLOBALS;
 use sizes::OWNERS;
 use sizes::PLACES;
+use sizes::RUN_PLAN;
 ghost use mathlib.Core.Path.{_≡_};
 ghost use Prim.Native.Nat.{_≤_, _<_};
 ghost use lib.ListN.{length};
@@ -26,6 +27,9 @@ ghost use Rattle.semantics.specs.Layout.{placeOf};
 ghost use Rattle.semantics.specs.Running.{programOf, globalRoom};
 ghost use Rattle.access.specs.Ready.{tableOf, Planned, Ready, Opened};
 
+// The plan of a run, lent by a reference that is one number: docs/PLAN.md.
+pub type Plan = [u32; RUN_PLAN];
+
 // ---- tables and rows
 
 // Table k of the six, in their order.
@@ -39,63 +43,66 @@ fn table<'a>(image: &'a [u8], plan: &[u32], k: usize) -> &'a [u8]
     &image[start..end]
 }
 
-pub fn type_at(image: &[u8], plan: &[u32], r: u16) -> Row
-    requires { ⌜ Planned (now image) (now plan) ⌝ }
-    ensures { λ x. ⌜ x ≡ rowAt (programOf (now (image .entry)) .types) r ⌝ }
+pub fn type_at(image: &&[u8], plan: &Plan, r: u16) -> Row
+    requires { ⌜ Planned (now (now image)) (now plan) ⌝ }
+    ensures { λ x. ⌜ x ≡ rowAt (programOf (now (now (image .entry))) .types) r ⌝ }
 {
-    image::row_at(table(image, plan, 0), r as usize)
+    image::row_at(table(*image, plan, 0), r as usize)
 }
 
-pub fn variable_at(image: &[u8], plan: &[u32], a: u32) -> Row
-    requires { ⌜ Planned (now image) (now plan) ⌝ }
-    ensures { λ x. ⌜ x ≡ rowAt (programOf (now (image .entry)) .variables) a ⌝ }
+pub fn variable_at(image: &&[u8], plan: &Plan, a: u32) -> Row
+    requires { ⌜ Planned (now (now image)) (now plan) ⌝ }
+    ensures { λ x. ⌜ x ≡ rowAt (programOf (now (now (image .entry))) .variables) a ⌝ }
 {
-    image::row_at(table(image, plan, 2), a as usize)
+    image::row_at(table(*image, plan, 2), a as usize)
 }
 
-pub fn procedure_at(image: &[u8], plan: &[u32], q: u16) -> Row
-    requires { ⌜ Planned (now image) (now plan) ⌝ }
-    ensures { λ x. ⌜ x ≡ rowAt (programOf (now (image .entry)) .procedures) q ⌝ }
+pub fn procedure_at(image: &&[u8], plan: &Plan, q: u16) -> Row
+    requires { ⌜ Planned (now (now image)) (now plan) ⌝ }
+    ensures { λ x. ⌜ x ≡ rowAt (programOf (now (now (image .entry))) .procedures) q ⌝ }
 {
-    image::row_at(table(image, plan, 3), q as usize)
+    image::row_at(table(*image, plan, 3), q as usize)
 }
 
-pub fn node_at(image: &[u8], plan: &[u32], r: u32) -> Row
-    requires { ⌜ Planned (now image) (now plan) ⌝ }
-    ensures { λ x. ⌜ x ≡ rowAt (programOf (now (image .entry)) .nodes) r ⌝ }
+pub fn node_at(image: &&[u8], plan: &Plan, r: u32) -> Row
+    requires { ⌜ Planned (now (now image)) (now plan) ⌝ }
+    ensures { λ x. ⌜ x ≡ rowAt (programOf (now (now (image .entry))) .nodes) r ⌝ }
 {
-    image::row_at(table(image, plan, 4), r as usize)
+    image::row_at(table(*image, plan, 4), r as usize)
 }
 
-pub fn statement_at(image: &[u8], plan: &[u32], r: u32) -> Row
-    requires { ⌜ Planned (now image) (now plan) ⌝ }
-    ensures { λ x. ⌜ x ≡ rowAt (programOf (now (image .entry)) .statements) r ⌝ }
+pub fn statement_at(image: &&[u8], plan: &Plan, r: u32) -> Row
+    requires { ⌜ Planned (now (now image)) (now plan) ⌝ }
+    ensures { λ x. ⌜ x ≡ rowAt (programOf (now (now (image .entry))) .statements) r ⌝ }
 {
-    image::row_at(table(image, plan, 5), r as usize)
+    image::row_at(table(*image, plan, 5), r as usize)
 }
 
 // ---- types
 
 // Whether type row r extends row u.
-pub fn extends(image: &[u8], plan: &[u32], r: u16, u: u16) -> bool
-    requires { ⌜ Planned (now image) (now plan) ⌝ }
-    ensures { λ x. ⌜ x ≡ extendsOf (programOf (now (image .entry)) .types) r u ⌝ }
+pub fn extends(image: &&[u8], plan: &Plan, r: u16, u: u16) -> bool
+    requires { ⌜ Planned (now (now image)) (now plan) ⌝ }
+    ensures { λ x. ⌜ x ≡ extendsOf (programOf (now (now (image .entry))) .types) r u ⌝ }
 {
-    relations::extends(table(image, plan, 0), r, u)
+    relations::extends(table(*image, plan, 0), r, u)
 }
 
-// Field n of type row r.
-pub fn field(image: &[u8], plan: &[u32], r: u16, n: u16) -> FieldAnswer
-    requires { ⌜ Planned (now image) (now plan) ⌝ }
-    ensures { λ x. ⌜ x ≡ fieldOf (programOf (now (image .entry)) .types) (programOf (now (image .entry)) .fields) r n ⌝ }
+// The field that node row k names, of an object of type row r.
+pub fn field(image: &&[u8], plan: &Plan, k: u32, r: u16) -> FieldAnswer
+    requires { ⌜ Planned (now (now image)) (now plan) × (rowAt (programOf (now (now image)) .nodes) k .kind ≡ 2) ⌝ }
+    ensures { λ x. ⌜ x ≡ fieldOf (programOf (now (now (image .entry))) .types)
+        (programOf (now (now (image .entry))) .fields) r
+        (rowAt (programOf (now (now (image .entry))) .nodes) k .b) ⌝ }
 {
-    relations::field(table(image, plan, 0), table(image, plan, 1), plan, r, n)
+    let n = node_at(image, plan, k).b;
+    relations::field(table(*image, plan, 0), table(*image, plan, 1), plan, r, n)
 }
 
 // The size of type row r.
-pub fn size_of(image: &[u8], plan: &[u32], r: u16) -> u32
-    requires { ⌜ Planned (now image) (now plan) × (r < rowsOf (programOf (now image) .types)) ⌝ }
-    ensures { λ x. ⌜ x ≡ sizeOf (programOf (now (image .entry)) .types) (programOf (now (image .entry)) .fields) r ⌝ }
+pub fn size_of(image: &&[u8], plan: &Plan, r: u16) -> u32
+    requires { ⌜ Planned (now (now image)) (now plan) × (r < rowsOf (programOf (now (now image)) .types)) ⌝ }
+    ensures { λ x. ⌜ x ≡ sizeOf (programOf (now (now (image .entry))) .types) (programOf (now (now (image .entry))) .fields) r ⌝ }
 {
     plan[r as usize]
 }
@@ -103,43 +110,43 @@ pub fn size_of(image: &[u8], plan: &[u32], r: u16) -> u32
 // ---- variables and procedures
 
 // Where variable row a begins: a global in the store, another in its frame.
-pub fn place_of(image: &[u8], plan: &[u32], a: u32) -> u32
-    requires { ⌜ Planned (now image) (now plan) × (a < rowsOf (programOf (now image) .variables)) ⌝ }
-    ensures { λ x. ⌜ x ≡ placeOf (programOf (now (image .entry))) a ⌝ }
+pub fn place_of(image: &&[u8], plan: &Plan, a: u32) -> u32
+    requires { ⌜ Planned (now (now image)) (now plan) × (a < rowsOf (programOf (now (now image)) .variables)) ⌝ }
+    ensures { λ x. ⌜ x ≡ placeOf (programOf (now (now (image .entry)))) a ⌝ }
 {
     plan[PLACES + a as usize]
 }
 
 // The size of procedure q's frame.
-pub fn frame_size(image: &[u8], plan: &[u32], q: u16) -> u32
-    requires { ⌜ Planned (now image) (now plan) × (q < rowsOf (programOf (now image) .procedures)) ⌝ }
-    ensures { λ x. ⌜ x ≡ frameSize (programOf (now (image .entry)) .types) (programOf (now (image .entry)) .fields)
-        (programOf (now (image .entry)) .variables) (programOf (now (image .entry)) .procedures) q ⌝ }
+pub fn frame_size(image: &&[u8], plan: &Plan, q: u16) -> u32
+    requires { ⌜ Planned (now (now image)) (now plan) × (q < rowsOf (programOf (now (now image)) .procedures)) ⌝ }
+    ensures { λ x. ⌜ x ≡ frameSize (programOf (now (now (image .entry))) .types) (programOf (now (now (image .entry))) .fields)
+        (programOf (now (now (image .entry))) .variables) (programOf (now (now (image .entry))) .procedures) q ⌝ }
 {
     plan[FRAMES + q as usize]
 }
 
 // The first variable row of procedure q.
-pub fn first_variable(image: &[u8], plan: &[u32], q: u16) -> u32
-    requires { ⌜ Planned (now image) (now plan) × (q < rowsOf (programOf (now image) .procedures)) ⌝ }
-    ensures { λ x. ⌜ x ≡ firstVariable (programOf (now (image .entry)) .variables)
-        (programOf (now (image .entry)) .procedures) q ⌝ }
+pub fn first_variable(image: &&[u8], plan: &Plan, q: u16) -> u32
+    requires { ⌜ Planned (now (now image)) (now plan) × (q < rowsOf (programOf (now (now image)) .procedures)) ⌝ }
+    ensures { λ x. ⌜ x ≡ firstVariable (programOf (now (now (image .entry))) .variables)
+        (programOf (now (now (image .entry))) .procedures) q ⌝ }
 {
     plan[FIRSTS + q as usize]
 }
 
 // How many cells the globals have.
-pub fn global_room(image: &[u8], plan: &[u32]) -> u32
-    requires { ⌜ Planned (now image) (now plan) ⌝ }
-    ensures { λ x. ⌜ x ≡ globalRoom (programOf (now (image .entry))) ⌝ }
+pub fn global_room(image: &&[u8], plan: &Plan) -> u32
+    requires { ⌜ Planned (now (now image)) (now plan) ⌝ }
+    ensures { λ x. ⌜ x ≡ globalRoom (programOf (now (now (image .entry)))) ⌝ }
 {
     plan[GLOBALS]
 }
 
 // The procedure whose body has statement row r.
-pub fn procedure_of(image: &[u8], plan: &[u32], r: u32) -> u32
-    requires { ⌜ Ready (now image) (now plan) × (r < rowsOf (programOf (now image) .statements)) ⌝ }
-    ensures { λ x. ⌜ x ≡ procedureAt (programOf (now (image .entry)) .procedures) r ⌝ }
+pub fn procedure_of(image: &&[u8], plan: &Plan, r: u32) -> u32
+    requires { ⌜ Ready (now (now image)) (now plan) × (r < rowsOf (programOf (now (now image)) .statements)) ⌝ }
+    ensures { λ x. ⌜ x ≡ procedureAt (programOf (now (now (image .entry))) .procedures) r ⌝ }
 {
     plan[OWNERS + r as usize]
 }

@@ -1,4 +1,5 @@
 // Calls: arguments, and the frame that they are passed in.
+use access::Plan;
 use image::Row;
 use semantics::Found;
 use semantics::Registers;
@@ -69,23 +70,23 @@ pub fn ended_by(x: Passing) -> Step
 
 // An object, at a place of the new frame: its address and dynamic type.
 fn pass_object(
-    image: &[u8],
-    plan: &[u32],
+    image: &&[u8],
+    plan: &Plan,
     store: &mut [i64],
     s: Registers,
     k: u32,
     place: u32,
 ) -> Passing
-    requires { ⌜ Ready (now image) (now plan) × Stands s (now store) 1 × (s .top + (place + 2) ≤ length (now store)) ⌝ }
+    requires { ⌜ Ready (now (now image)) (now plan) × Stands s (now store) 1 × (s .top + (place + 2) ≤ length (now store)) ⌝ }
     ensures { λ x. ⌜ ((output : List ℤ) → Passes (stateOf s (now (store .entry)) output)
         (λ next. onPlace (stateOf s (now (store .entry)) output)
-        (findOf bare (programOf (now (image .entry))) (s .base) (s .top) (now (store .entry)) k)
+        (findOf bare (programOf (now (now (image .entry)))) (s .base) (s .top) (now (store .entry)) k)
         (λ object. framed (stateOf s (now (store .entry)) output) place next
         (pos (object .address) ∷ pos (object .dynamic) ∷ []))) x (now (store .exit))) ⌝ }
 {
     let base = s.base;
     let top = s.top;
-    let found = finding::find(image, plan, store, base, top, k);
+    let found = finding::find_at(image, plan, store, base, top, k);
     let Found::At(object) = found else {
         return lost_place(found);
     };
@@ -97,22 +98,22 @@ fn pass_object(
 
 // A scalar value, at a place of the new frame.
 fn pass_value(
-    image: &[u8],
-    plan: &[u32],
+    image: &&[u8],
+    plan: &Plan,
     store: &mut [i64],
     s: Registers,
     k: u32,
     place: u32,
 ) -> Passing
-    requires { ⌜ Ready (now image) (now plan) × Stands s (now store) 1 × (s .top + (place + 1) ≤ length (now store)) ⌝ }
+    requires { ⌜ Ready (now (now image)) (now plan) × Stands s (now store) 1 × (s .top + (place + 1) ≤ length (now store)) ⌝ }
     ensures { λ x. ⌜ ((output : List ℤ) → Passes (stateOf s (now (store .entry)) output)
         (λ next. onValue (stateOf s (now (store .entry)) output)
-        (evalOf bare (programOf (now (image .entry))) (s .base) (s .top) (now (store .entry)) k)
+        (evalOf bare (programOf (now (now (image .entry)))) (s .base) (s .top) (now (store .entry)) k)
         (λ v. framed (stateOf s (now (store .entry)) output) place next (bare .put v ∷ []))) x (now (store .exit))) ⌝ }
 {
     let base = s.base;
     let top = s.top;
-    let answer = finding::fresh(finding::eval(image, plan, store, base, top, k));
+    let answer = finding::fresh(finding::eval_at(image, plan, store, base, top, k));
     let Answer::Val(value) = answer else {
         return lost_value(answer);
     };
@@ -123,27 +124,27 @@ fn pass_value(
 
 // The cells of an object, as one of type row r, at a place of the new frame.
 fn pass_cells(
-    image: &[u8],
-    plan: &[u32],
+    image: &&[u8],
+    plan: &Plan,
     store: &mut [i64],
     s: Registers,
     k: u32,
     place: u32,
     r: u16,
 ) -> Passing
-    requires { ⌜ Ready (now image) (now plan) × Stands s (now store) 1 × (r < rowsOf (programOf (now image) .types))
-        × (s .top + (place + sizeOf (programOf (now image) .types) (programOf (now image) .fields) r)
+    requires { ⌜ Ready (now (now image)) (now plan) × Stands s (now store) 1 × (r < rowsOf (programOf (now (now image)) .types))
+        × (s .top + (place + sizeOf (programOf (now (now image)) .types) (programOf (now (now image)) .fields) r)
         ≤ length (now store)) ⌝ }
     ensures { λ x. ⌜ ((output : List ℤ) → Passes (stateOf s (now (store .entry)) output)
         (λ next. onPlace (stateOf s (now (store .entry)) output)
-        (findOf bare (programOf (now (image .entry))) (s .base) (s .top) (now (store .entry)) k)
+        (findOf bare (programOf (now (now (image .entry)))) (s .base) (s .top) (now (store .entry)) k)
         (λ object. onPart (stateOf s (now (store .entry)) output) (object .address)
-        (sizeOf (programOf (now (image .entry)) .types) (programOf (now (image .entry)) .fields) r)
+        (sizeOf (programOf (now (now (image .entry))) .types) (programOf (now (now (image .entry))) .fields) r)
         (framed (stateOf s (now (store .entry)) output) place next))) x (now (store .exit))) ⌝ }
 {
     let base = s.base;
     let top = s.top;
-    let found = finding::find(image, plan, store, base, top, k);
+    let found = finding::find_at(image, plan, store, base, top, k);
     let Found::At(object) = found else {
         return lost_place(found);
     };
@@ -158,10 +159,10 @@ fn pass_cells(
 }
 
 // One argument: node row k, to variable row a.
-fn pass(image: &[u8], plan: &[u32], store: &mut [i64], s: Registers, k: u32, a: u32) -> Passing
-    requires { ⌜ Ready (now image) (now plan) × Stands s (now store) 1 × Roomy (now image) (s .top) a (now store) ⌝ }
+fn pass(image: &&[u8], plan: &Plan, store: &mut [i64], s: Registers, k: u32, a: u32) -> Passing
+    requires { ⌜ Ready (now (now image)) (now plan) × Stands s (now store) 1 × Roomy (now (now image)) (s .top) a (now store) ⌝ }
     ensures { λ x. ⌜ ((output : List ℤ) → Passes (stateOf s (now (store .entry)) output)
-        (passedOne bare (programOf (now (image .entry))) k a (stateOf s (now (store .entry)) output))
+        (passedOne bare (programOf (now (now (image .entry)))) k a (stateOf s (now (store .entry)) output))
         x (now (store .exit))) ⌝ }
 {
     let parameter = access::variable_at(image, plan, a);
@@ -179,18 +180,18 @@ fn pass(image: &[u8], plan: &[u32], store: &mut [i64], s: Registers, k: u32, a: 
 
 // n arguments from node row k on, to the variables from row a on.
 fn pass_all(
-    image: &[u8],
-    plan: &[u32],
+    image: &&[u8],
+    plan: &Plan,
     store: &mut [i64],
     s: Registers,
     k: u32,
     a: u32,
     n: u32,
 ) -> Passing
-    requires { ⌜ Ready (now image) (now plan) × Stands s (now store) 1 × (k ≤ 65536) × (a ≤ 65536) × (n ≤ 65536)
-        × ((j : ℕ) → j < n → Roomy (now image) (s .top) (a + j) (now store)) ⌝ }
+    requires { ⌜ Ready (now (now image)) (now plan) × Stands s (now store) 1 × (k ≤ 65536) × (a ≤ 65536) × (n ≤ 65536)
+        × ((j : ℕ) → j < n → Roomy (now (now image)) (s .top) (a + j) (now store)) ⌝ }
     ensures { λ x. ⌜ ((output : List ℤ) → Passes (stateOf s (now (store .entry)) output)
-        (passed bare (programOf (now (image .entry))) k a n (stateOf s (now (store .entry)) output))
+        (passed bare (programOf (now (now (image .entry)))) k a n (stateOf s (now (store .entry)) output))
         x (now (store .exit))) ⌝ }
 {
     let mut j: u32 = 0;
@@ -220,11 +221,11 @@ fn write_frame(frame: &mut [i64], past: u32, size: u32, caller: u32, back: u32, 
 }
 
 // Where the locals of procedure q begin in its frame.
-fn locals_place(image: &[u8], plan: &[u32], q: u16) -> u32
-    requires { ⌜ Ready (now image) (now plan) × (q < rowsOf (programOf (now image) .procedures)) ⌝ }
-    ensures { λ x. ⌜ x ≡ 3 + roomFrom (programOf (now (image .entry)) .types) (programOf (now (image .entry)) .fields)
-        (programOf (now (image .entry)) .variables) (firstVariable (programOf (now (image .entry)) .variables)
-        (programOf (now (image .entry)) .procedures) q) (rowAt (programOf (now (image .entry)) .procedures) q .b) ⌝ }
+fn locals_place(image: &&[u8], plan: &Plan, q: u16) -> u32
+    requires { ⌜ Ready (now (now image)) (now plan) × (q < rowsOf (programOf (now (now image)) .procedures)) ⌝ }
+    ensures { λ x. ⌜ x ≡ 3 + roomFrom (programOf (now (now (image .entry))) .types) (programOf (now (now (image .entry))) .fields)
+        (programOf (now (now (image .entry))) .variables) (firstVariable (programOf (now (now (image .entry))) .variables)
+        (programOf (now (now (image .entry))) .procedures) q) (rowAt (programOf (now (now (image .entry))) .procedures) q .b) ⌝ }
 {
     let procedure = access::procedure_at(image, plan, q);
     let parameters = procedure.b;
@@ -237,13 +238,13 @@ fn locals_place(image: &[u8], plan: &[u32], q: u16) -> u32
 }
 
 // The call of procedure q, whose arguments are passed.
-fn enter(image: &[u8], plan: &[u32], store: &mut [i64], s: Registers, q: u16) -> Step
-    requires { ⌜ Ready (now image) (now plan) × Stands s (now store) 1
-        × (q < rowsOf (programOf (now image) .procedures)) × (s .row < rowsOf (programOf (now image) .statements))
-        × (s .top + frameSize (programOf (now image) .types) (programOf (now image) .fields)
-        (programOf (now image) .variables) (programOf (now image) .procedures) q ≤ length (now store)) ⌝ }
+fn enter(image: &&[u8], plan: &Plan, store: &mut [i64], s: Registers, q: u16) -> Step
+    requires { ⌜ Ready (now (now image)) (now plan) × Stands s (now store) 1
+        × (q < rowsOf (programOf (now (now image)) .procedures)) × (s .row < rowsOf (programOf (now (now image)) .statements))
+        × (s .top + frameSize (programOf (now (now image)) .types) (programOf (now (now image)) .fields)
+        (programOf (now (now image)) .variables) (programOf (now (now image)) .procedures) q ≤ length (now store)) ⌝ }
     ensures { λ x. ⌜ ((output : List ℤ) → Shows (stateOf s (now (store .entry)) output)
-        (entered bare (programOf (now (image .entry))) q (rowAt (programOf (now (image .entry)) .procedures) q)
+        (entered bare (programOf (now (now (image .entry)))) q (rowAt (programOf (now (now (image .entry))) .procedures) q)
         (stateOf s (now (store .entry)) output)) x (now (store .exit)) output) ⌝ }
 {
     let row = s.row;
@@ -269,12 +270,12 @@ fn enter(image: &[u8], plan: &[u32], store: &mut [i64], s: Registers, q: u16) ->
 }
 
 // Statement kind 1: the store check first, then the arguments, then the frame.
-pub fn call(image: &[u8], plan: &[u32], store: &mut [i64], s: Registers, statement: Row) -> Step
-    requires { ⌜ Ready (now image) (now plan) × Stands s (now store) 1
-        × (statement .a < rowsOf (programOf (now image) .procedures))
-        × (s .row < rowsOf (programOf (now image) .statements)) ⌝ }
+pub fn call(image: &&[u8], plan: &Plan, store: &mut [i64], s: Registers, statement: Row) -> Step
+    requires { ⌜ Ready (now (now image)) (now plan) × Stands s (now store) 1
+        × (statement .a < rowsOf (programOf (now (now image)) .procedures))
+        × (s .row < rowsOf (programOf (now (now image)) .statements)) ⌝ }
     ensures { λ x. ⌜ ((output : List ℤ) → Shows (stateOf s (now (store .entry)) output)
-        (called bare (programOf (now (image .entry))) statement (stateOf s (now (store .entry)) output))
+        (called bare (programOf (now (now (image .entry)))) statement (stateOf s (now (store .entry)) output))
         x (now (store .exit)) output) ⌝ }
 {
     let q = statement.a;

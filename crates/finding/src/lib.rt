@@ -1,4 +1,5 @@
 // Finding a designator and evaluating an expression.
+use access::Plan;
 use image::Row;
 use relations::FieldAnswer;
 use semantics::Found;
@@ -76,15 +77,11 @@ fn no_value(x: Found) -> Answer
 }
 
 // The value of an object that was found.
-fn load(store: &[i64], top: u32, found: Found) -> Answer
-    requires { ⌜ top ≤ length (now store) ⌝ }
-    ensures { λ r. ⌜ r ≡ content found (λ place. valueAt bare top (now (store .entry)) (place .declared)
-        (place .address)) ⌝ }
+fn load(store: &&[i64], top: u32, place: Place) -> Answer
+    requires { ⌜ (top ≤ length (now (now store))) × (top ≤ 65536) ⌝ }
+    ensures { λ r. ⌜ r ≡ valueAt bare top (now (now (store .entry))) (place .declared) (place .address) ⌝ }
 {
-    let Found::At(place) = found else {
-        return no_value(found);
-    };
-    cells::value_at(store, top, place.declared, place.address)
+    cells::value_at(*store, top, place.declared, place.address)
 }
 
 // ---- designators
@@ -101,14 +98,14 @@ fn plain(address: u32, r: u16) -> Found
 }
 
 // The object of a VAR parameter of type row r, whose two cells begin at `at`.
-fn parameter_place(store: &[i64], top: u32, at: u32, r: u16) -> Found
-    requires { ⌜ (top ≤ length (now store)) × (at < 4294967295) ⌝ }
-    ensures { λ x. ⌜ x ≡ parameterPlace bare top (now (store .entry)) at r ⌝ }
+fn parameter_place(store: &&[i64], top: u32, at: u32, r: u16) -> Found
+    requires { ⌜ (top ≤ length (now (now store))) × (at < 4294967295) ⌝ }
+    ensures { λ x. ⌜ x ≡ parameterPlace bare top (now (now (store .entry))) at r ⌝ }
 {
-    let Mark::Number(address) = cells::mark_at(store, top, at) else {
+    let Mark::Number(address) = cells::mark_at(*store, top, at) else {
         return Found::Stuck;
     };
-    let Mark::Number(dynamic) = cells::mark_at(store, top, at + 1) else {
+    let Mark::Number(dynamic) = cells::mark_at(*store, top, at + 1) else {
         return Found::Stuck;
     };
     Found::At(Place {
@@ -119,10 +116,10 @@ fn parameter_place(store: &[i64], top: u32, at: u32, r: u16) -> Found
 }
 
 // Node kind 1: variable row a.
-fn variable_place(image: &[u8], plan: &[u32], store: &[i64], base: u32, top: u32, a: u16) -> Found
-    requires { ⌜ Standing (now image) (now plan) base top (now store) ⌝ }
-    ensures { λ x. ⌜ x ≡ variablePlace bare (programOf (now (image .entry))) base top (now (store .entry)) a
-        (rowAt (programOf (now (image .entry)) .variables) a) ⌝ }
+fn variable_place(image: &&[u8], plan: &Plan, store: &&[i64], base: u32, top: u32, a: u16) -> Found
+    requires { ⌜ Standing (now (now image)) (now plan) base top (now (now store)) ⌝ }
+    ensures { λ x. ⌜ x ≡ variablePlace bare (programOf (now (now (image .entry)))) base top (now (now (store .entry))) a
+        (rowAt (programOf (now (now (image .entry))) .variables) a) ⌝ }
 {
     let row = access::variable_at(image, plan, a as u32);
     let kind = row.kind;
@@ -142,24 +139,24 @@ fn variable_place(image: &[u8], plan: &[u32], store: &[i64], base: u32, top: u32
 }
 
 // Node kind 2: field n of an object.
-fn field_place(image: &[u8], plan: &[u32], whole: Place, n: u16) -> Found
-    requires { ⌜ Planned (now image) (now plan) × Within (now image) whole ⌝ }
-    ensures { λ x. ⌜ x ≡ fieldPlace whole (fieldOf (programOf (now (image .entry)) .types)
-        (programOf (now (image .entry)) .fields) (whole .declared) n) ⌝ }
+fn field_place(image: &&[u8], plan: &Plan, whole: Place, r: u32, n: u16) -> Found
+    requires { ⌜ Planned (now (now image)) (now plan) × Within (now (now image)) whole ⌝ }
+    ensures { λ x. ⌜ x ≡ fieldPlace whole (fieldOf (programOf (now (now (image .entry))) .types)
+        (programOf (now (now (image .entry))) .fields) (whole .declared) n) ⌝ }
 {
     let address = whole.address;
     let declared = whole.declared;
-    let FieldAnswer::Field(offset, r) = access::field(image, plan, declared, n) else {
+    let FieldAnswer::Field(offset, part) = access::field(image, plan, r, declared, n) else {
         return Found::Stuck;
     };
-    plain(address + offset, r)
+    plain(address + offset, part)
 }
 
 // The element at an index of an array whose type row is `array`.
-fn element_place(image: &[u8], plan: &[u32], whole: Place, array: Row, index: i32) -> Found
-    requires { ⌜ Planned (now image) (now plan) × Within (now image) whole
-        × (array ≡ rowAt (programOf (now image) .types) (whole .declared)) × (array .kind ≡ 3) ⌝ }
-    ensures { λ x. ⌜ x ≡ elementPlace (programOf (now (image .entry))) whole array index ⌝ }
+fn element_place(image: &&[u8], plan: &Plan, whole: Place, array: Row, index: i32) -> Found
+    requires { ⌜ Planned (now (now image)) (now plan) × Within (now (now image)) whole
+        × (array ≡ rowAt (programOf (now (now image)) .types) (whole .declared)) × (array .kind ≡ 3) ⌝ }
+    ensures { λ x. ⌜ x ≡ elementPlace (programOf (now (now (image .entry)))) whole array index ⌝ }
 {
     let address = whole.address;
     let element = array.a;
@@ -176,33 +173,11 @@ fn element_place(image: &[u8], plan: &[u32], whole: Place, array: Row, index: i3
     plain(address + offset, element)
 }
 
-// Node kind 3: the element of an object at an index that was evaluated.
-fn array_place(image: &[u8], plan: &[u32], whole: Place, answer: Answer) -> Found
-    requires { ⌜ Planned (now image) (now plan) × Within (now image) whole ⌝ }
-    ensures { λ x. ⌜ x ≡ arrayPlace (programOf (now (image .entry))) whole answer ⌝ }
-{
-    let array = access::type_at(image, plan, whole.declared);
-    let kind = array.kind;
-    if kind != 3 {
-        return Found::Stuck;
-    }
-    let Answer::Val(value) = answer else {
-        return no_place(answer);
-    };
-    let Value::Int(index) = value else {
-        return Found::Stuck;
-    };
-    element_place(image, plan, whole, array, index)
-}
-
 // Node kind 4: an object guarded by type row b.
-fn guard_place(image: &[u8], plan: &[u32], found: Found, b: u16) -> Found
-    requires { ⌜ Planned (now image) (now plan) ⌝ }
-    ensures { λ x. ⌜ x ≡ reach found (guardPlace (programOf (now (image .entry))) b) ⌝ }
+fn guard_place(image: &&[u8], plan: &Plan, place: Place, b: u16) -> Found
+    requires { ⌜ Planned (now (now image)) (now plan) ⌝ }
+    ensures { λ x. ⌜ x ≡ guardPlace (programOf (now (now (image .entry)))) b place ⌝ }
 {
-    let Found::At(place) = found else {
-        return found;
-    };
     let address = place.address;
     let dynamic = place.dynamic;
     if access::extends(image, plan, dynamic, b) {
@@ -216,22 +191,19 @@ fn guard_place(image: &[u8], plan: &[u32], found: Found, b: u16) -> Found
 }
 
 // Node kind 7: whether an object's dynamic type extends type row b.
-fn type_test(image: &[u8], plan: &[u32], found: Found, b: u16) -> Answer
-    requires { ⌜ Planned (now image) (now plan) ⌝ }
-    ensures { λ x. ⌜ x ≡ content found (testOf (programOf (now (image .entry))) b) ⌝ }
+fn type_test(image: &&[u8], plan: &Plan, place: Place, b: u16) -> Answer
+    requires { ⌜ Planned (now (now image)) (now plan) ⌝ }
+    ensures { λ x. ⌜ x ≡ testOf (programOf (now (now (image .entry)))) b place ⌝ }
 {
-    let Found::At(place) = found else {
-        return no_value(found);
-    };
     Answer::Val(Value::Bool(access::extends(image, plan, place.dynamic, b)))
 }
 
 // ---- nodes
 
 // The object that node row r designates.
-pub fn find(image: &[u8], plan: &[u32], store: &[i64], base: u32, top: u32, r: u32) -> Found
-    requires { ⌜ Standing (now image) (now plan) base top (now store) ⌝ }
-    ensures { λ x. ⌜ x ≡ findOf bare (programOf (now (image .entry))) base top (now (store .entry)) r ⌝ }
+pub fn find(image: &&[u8], plan: &Plan, store: &&[i64], base: u32, top: u32, r: u32) -> Found
+    requires { ⌜ Standing (now (now image)) (now plan) base top (now (now store)) ⌝ }
+    ensures { λ x. ⌜ x ≡ findOf bare (programOf (now (now (image .entry)))) base top (now (now (store .entry))) r ⌝ }
 {
     let node = access::node_at(image, plan, r);
     let kind = node.kind;
@@ -249,7 +221,7 @@ pub fn find(image: &[u8], plan: &[u32], store: &[i64], base: u32, top: u32, r: u
             let Found::At(owner) = whole else {
                 return whole;
             };
-            fresh_place(field_place(image, plan, owner, b))
+            fresh_place(field_place(image, plan, owner, r, b))
         }
         3 => {
             if r <= first {
@@ -259,15 +231,28 @@ pub fn find(image: &[u8], plan: &[u32], store: &[i64], base: u32, top: u32, r: u
             let Found::At(array) = list else {
                 return list;
             };
+            let row = access::type_at(image, plan, array.declared);
+            if row.kind != 3 {
+                return Found::Stuck;
+            }
             if r <= second {
                 return Found::Stuck;
             }
             let index = fresh(eval(image, plan, store, base, top, second));
-            fresh_place(array_place(image, plan, array, index))
+            let Answer::Val(value) = index else {
+                return no_place(index);
+            };
+            let Value::Int(i) = value else {
+                return Found::Stuck;
+            };
+            fresh_place(element_place(image, plan, array, row, i))
         }
         4 => {
             let guarded = variable_place(image, plan, store, base, top, a);
-            guard_place(image, plan, guarded, b)
+            let Found::At(object) = guarded else {
+                return guarded;
+            };
+            guard_place(image, plan, object, b)
         }
         8 => {
             if r <= first {
@@ -280,9 +265,9 @@ pub fn find(image: &[u8], plan: &[u32], store: &[i64], base: u32, top: u32, r: u
 }
 
 // The value of node row r.
-pub fn eval(image: &[u8], plan: &[u32], store: &[i64], base: u32, top: u32, r: u32) -> Answer
-    requires { ⌜ Standing (now image) (now plan) base top (now store) ⌝ }
-    ensures { λ x. ⌜ x ≡ evalOf bare (programOf (now (image .entry))) base top (now (store .entry)) r ⌝ }
+pub fn eval(image: &&[u8], plan: &Plan, store: &&[i64], base: u32, top: u32, r: u32) -> Answer
+    requires { ⌜ Standing (now (now image)) (now plan) base top (now (now store)) ⌝ }
+    ensures { λ x. ⌜ x ≡ evalOf bare (programOf (now (now (image .entry)))) base top (now (now (store .entry))) r ⌝ }
 {
     let node = access::node_at(image, plan, r);
     let kind = node.kind;
@@ -295,7 +280,10 @@ pub fn eval(image: &[u8], plan: &[u32], store: &[i64], base: u32, top: u32, r: u
         0 => values::constant(a, b, c),
         1 => {
             let variable = variable_place(image, plan, store, base, top, a);
-            fresh(load(store, top, variable))
+            let Found::At(object) = variable else {
+                return no_value(variable);
+            };
+            fresh(load(store, top, object))
         }
         2 => {
             if r <= first {
@@ -305,8 +293,11 @@ pub fn eval(image: &[u8], plan: &[u32], store: &[i64], base: u32, top: u32, r: u
             let Found::At(owner) = whole else {
                 return no_value(whole);
             };
-            let part = fresh_place(field_place(image, plan, owner, b));
-            fresh(load(store, top, part))
+            let part = fresh_place(field_place(image, plan, owner, r, b));
+            let Found::At(object) = part else {
+                return no_value(part);
+            };
+            fresh(load(store, top, object))
         }
         3 => {
             if r <= first {
@@ -316,17 +307,36 @@ pub fn eval(image: &[u8], plan: &[u32], store: &[i64], base: u32, top: u32, r: u
             let Found::At(array) = list else {
                 return no_value(list);
             };
+            let row = access::type_at(image, plan, array.declared);
+            if row.kind != 3 {
+                return Answer::Stuck;
+            }
             if r <= second {
                 return Answer::Stuck;
             }
             let index = fresh(eval(image, plan, store, base, top, second));
-            let element = fresh_place(array_place(image, plan, array, index));
-            fresh(load(store, top, element))
+            let Answer::Val(value) = index else {
+                return index;
+            };
+            let Value::Int(i) = value else {
+                return Answer::Stuck;
+            };
+            let element = fresh_place(element_place(image, plan, array, row, i));
+            let Found::At(object) = element else {
+                return no_value(element);
+            };
+            fresh(load(store, top, object))
         }
         4 => {
             let guarded = variable_place(image, plan, store, base, top, a);
-            let narrowed = guard_place(image, plan, guarded, b);
-            fresh(load(store, top, narrowed))
+            let Found::At(whole) = guarded else {
+                return no_value(guarded);
+            };
+            let narrowed = guard_place(image, plan, whole, b);
+            let Found::At(object) = narrowed else {
+                return no_value(narrowed);
+            };
+            fresh(load(store, top, object))
         }
         5 => {
             if r <= first {
@@ -348,11 +358,14 @@ pub fn eval(image: &[u8], plan: &[u32], store: &[i64], base: u32, top: u32, r: u
             };
             fresh(operators::dyadic(c, x, y))
         }
-        6 => {
+        6 | 8 => {
             if r <= first {
                 return Answer::Stuck;
             }
             let operand = fresh(eval(image, plan, store, base, top, first));
+            if kind == 8 {
+                return operand;
+            }
             let Answer::Val(z) = operand else {
                 return operand;
             };
@@ -360,22 +373,19 @@ pub fn eval(image: &[u8], plan: &[u32], store: &[i64], base: u32, top: u32, r: u
         }
         7 => {
             let tested = variable_place(image, plan, store, base, top, a);
-            type_test(image, plan, tested, b)
-        }
-        8 => {
-            if r <= first {
-                return Answer::Stuck;
-            }
-            fresh(eval(image, plan, store, base, top, first))
+            let Found::At(object) = tested else {
+                return no_value(tested);
+            };
+            type_test(image, plan, object, b)
         }
         _ => Answer::Stuck,
     }
 }
 
 // The same as find, where most objects are variables: such a one takes no call.
-pub fn locate(image: &[u8], plan: &[u32], store: &[i64], base: u32, top: u32, r: u32) -> Found
-    requires { ⌜ Standing (now image) (now plan) base top (now store) ⌝ }
-    ensures { λ x. ⌜ x ≡ findOf bare (programOf (now (image .entry))) base top (now (store .entry)) r ⌝ }
+fn locate(image: &&[u8], plan: &Plan, store: &&[i64], base: u32, top: u32, r: u32) -> Found
+    requires { ⌜ Standing (now (now image)) (now plan) base top (now (now store)) ⌝ }
+    ensures { λ x. ⌜ x ≡ findOf bare (programOf (now (now (image .entry)))) base top (now (now (store .entry))) r ⌝ }
 {
     let node = access::node_at(image, plan, r);
     let kind = node.kind;
@@ -384,4 +394,27 @@ pub fn locate(image: &[u8], plan: &[u32], store: &[i64], base: u32, top: u32, r:
         return variable_place(image, plan, store, base, top, a);
     }
     fresh_place(find(image, plan, store, base, top, r))
+}
+
+// ---- at a statement, which has the store as a slice
+
+pub fn find_at(image: &&[u8], plan: &Plan, store: &[i64], base: u32, top: u32, r: u32) -> Found
+    requires { ⌜ Standing (now (now image)) (now plan) base top (now store) ⌝ }
+    ensures { λ x. ⌜ x ≡ findOf bare (programOf (now (now (image .entry)))) base top (now (store .entry)) r ⌝ }
+{
+    find(image, plan, &store, base, top, r)
+}
+
+pub fn eval_at(image: &&[u8], plan: &Plan, store: &[i64], base: u32, top: u32, r: u32) -> Answer
+    requires { ⌜ Standing (now (now image)) (now plan) base top (now store) ⌝ }
+    ensures { λ x. ⌜ x ≡ evalOf bare (programOf (now (now (image .entry)))) base top (now (store .entry)) r ⌝ }
+{
+    eval(image, plan, &store, base, top, r)
+}
+
+pub fn locate_at(image: &&[u8], plan: &Plan, store: &[i64], base: u32, top: u32, r: u32) -> Found
+    requires { ⌜ Standing (now (now image)) (now plan) base top (now store) ⌝ }
+    ensures { λ x. ⌜ x ≡ findOf bare (programOf (now (now (image .entry)))) base top (now (store .entry)) r ⌝ }
+{
+    locate(image, plan, &store, base, top, r)
 }

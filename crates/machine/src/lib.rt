@@ -1,4 +1,5 @@
 // The run: the check, the fresh state, and steps until the last.
+use access::Plan;
 use calling::Step;
 use checker::CheckAnswer;
 use semantics::Registers;
@@ -55,16 +56,16 @@ fn stop_by(x: Step, s: Registers, k: u32) -> Stop
 
 // At most n steps from any state.
 pub fn advance(
-    image: &[u8],
-    plan: &[u32],
+    image: &&[u8],
+    plan: &Plan,
     input: &[i32],
     store: &mut [i64],
     output: &mut [i32],
     from: Registers,
     n: u32,
 ) -> Stop
-    requires { ⌜ Ready (now image) (now plan) × Stands from (now store) n ⌝ }
-    ensures { λ x. ⌜ Stops (runFrom bare (programOf (now (image .entry))) (now (input .entry)) n 0
+    requires { ⌜ Ready (now (now image)) (now plan) × Stands from (now store) n ⌝ }
+    ensures { λ x. ⌜ Stops (runFrom bare (programOf (now (now (image .entry)))) (now (input .entry)) n 0
         (stateOf from (now (store .entry)) (now (output .entry)))) x (now (store .exit)) (now (output .exit)) ⌝ }
 {
     let mut s = from;
@@ -134,9 +135,9 @@ fn numbers(stop: Stop) -> RunResult
 }
 
 // G + F0: how many cells the globals and procedure 0's frame have.
-fn first_top(image: &[u8], plan: &[u32]) -> u32
-    requires { ⌜ Ready (now image) (now plan) ⌝ }
-    ensures { λ x. ⌜ x ≡ firstTop (programOf (now (image .entry))) ⌝ }
+fn first_top(image: &&[u8], plan: &Plan) -> u32
+    requires { ⌜ Ready (now (now image)) (now plan) ⌝ }
+    ensures { λ x. ⌜ x ≡ firstTop (programOf (now (now (image .entry)))) ⌝ }
 {
     let globals = access::global_room(image, plan);
     let frame = access::frame_size(image, plan, 0);
@@ -166,8 +167,8 @@ pub fn run(
     if 65536 < store.len() {
         return refused(12, 0);
     }
-    let base = access::global_room(image, &plan);
-    let top = first_top(image, &plan);
+    let base = access::global_room(&image, &plan);
+    let top = first_top(&image, &plan);
     if store.len() < top as usize {
         return refused(13, 0);
     }
@@ -179,6 +180,6 @@ pub fn run(
         read: 0,
         written: 0,
     };
-    let stop = advance(image, &plan, input, store, output, first, steps);
+    let stop = advance(&image, &plan, input, store, output, first, steps);
     numbers(stop)
 }

@@ -28,5 +28,14 @@ OWNERS = BOUNDS + 12
 abbrev pub CHECK_PLAN : ℕ
 CHECK_PLAN = OWNERS
 
+abbrev pub NODES : ℕ
+NODES = OWNERS + 1024
+
+abbrev pub LOWER : ℕ
+LOWER = NODES + 2048
+
+abbrev pub UPPER : ℕ
+UPPER = LOWER + 64
+
 abbrev pub RUN_PLAN : ℕ
-RUN_PLAN = OWNERS + 1024
+RUN_PLAN = UPPER + 64

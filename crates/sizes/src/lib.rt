@@ -20,9 +20,12 @@ ghost use Rattle.shapes.specs.Sizes.{sizeBy};
 //  769  GLOBALS     how many cells the globals have                                                         places
 //  770  BOUNDS      + 2 * k, + 2 * k + 1: where table k of the six starts and ends in the image             checker
 //  782  OWNERS      + r: the procedure whose body has statement row r                                       access
+// 1806  NODES       + r: of node row r the field's offset, the type, and the record that the field is in    access
+// 3854  LOWER       + r: bit u: type row r extends row u                                                    access
+// 3918  UPPER       + r: bit u: type row r extends row 32 + u                                               access
 //
 //  782  CHECK_PLAN  how many cells the check needs
-// 1806  RUN_PLAN    how many cells a run needs
+// 3982  RUN_PLAN    how many cells a run needs
 pub const INHERITED: usize = 64;
 
 pub const OFFSETS: usize = INHERITED + 64;
@@ -41,7 +44,13 @@ pub const OWNERS: usize = BOUNDS + 12;
 
 pub const CHECK_PLAN: usize = OWNERS;
 
-pub const RUN_PLAN: usize = OWNERS + 1024;
+pub const NODES: usize = OWNERS + 1024;
+
+pub const LOWER: usize = NODES + 2048;
+
+pub const UPPER: usize = LOWER + 64;
+
+pub const RUN_PLAN: usize = UPPER + 64;
 
 // A cell of the plan, 0 past its end.
 pub fn cell(plan: &[u32], i: usize) -> u32

@@ -1,4 +1,5 @@
 // One step: the eight statements.
+use access::Plan;
 use calling::Step;
 use image::Row;
 use semantics::Found;
@@ -53,9 +54,9 @@ fn write_cell(store: &mut [i64], s: Registers, address: u32, z: i64) -> Step
 // ---- statement kind 0
 
 // Whether a target is a record of another dynamic type than the declared one.
-fn other_record(image: &[u8], plan: &[u32], target: Place) -> bool
-    requires { ⌜ Ready (now image) (now plan) ⌝ }
-    ensures { λ x. ⌜ x ≡ otherRecord (programOf (now (image .entry))) target ⌝ }
+fn other_record(image: &&[u8], plan: &Plan, target: Place) -> bool
+    requires { ⌜ Ready (now (now image)) (now plan) ⌝ }
+    ensures { λ x. ⌜ x ≡ otherRecord (programOf (now (now (image .entry)))) target ⌝ }
 {
     let declared = target.declared;
     let dynamic = target.dynamic;
@@ -68,17 +69,17 @@ fn other_record(image: &[u8], plan: &[u32], target: Place) -> bool
 
 // The target type's cells, from the source to the target.
 fn copy_object(
-    image: &[u8],
-    plan: &[u32],
+    image: &&[u8],
+    plan: &Plan,
     store: &mut [i64],
     s: Registers,
     target: Place,
     source: Place,
 ) -> Step
-    requires { ⌜ Ready (now image) (now plan) × Stands s (now store) 1 × (s .row < 65536)
-        × Within (now image) target × Within (now image) source ⌝ }
+    requires { ⌜ Ready (now (now image)) (now plan) × Stands s (now store) 1 × (s .row < 65536)
+        × Within (now (now image)) target × Within (now (now image)) source ⌝ }
     ensures { λ x. ⌜ ((output : List ℤ) → Shows (stateOf s (now (store .entry)) output)
-        (copied bare (programOf (now (image .entry))) (stateOf s (now (store .entry)) output) target source)
+        (copied bare (programOf (now (now (image .entry)))) (stateOf s (now (store .entry)) output) target source)
         x (now (store .exit)) output) ⌝ }
 {
     let next = s.row + 1;
@@ -102,31 +103,31 @@ fn copy_object(
     Step::Goes(at_row(s, next))
 }
 
-fn assign(image: &[u8], plan: &[u32], store: &mut [i64], s: Registers, statement: Row) -> Step
-    requires { ⌜ Ready (now image) (now plan) × Stands s (now store) 1 × (s .row < 65536) ⌝ }
+fn assign(image: &&[u8], plan: &Plan, store: &mut [i64], s: Registers, statement: Row) -> Step
+    requires { ⌜ Ready (now (now image)) (now plan) × Stands s (now store) 1 × (s .row < 65536) ⌝ }
     ensures { λ x. ⌜ ((output : List ℤ) → Shows (stateOf s (now (store .entry)) output)
-        (assigned bare (programOf (now (image .entry))) (stateOf s (now (store .entry)) output) statement)
+        (assigned bare (programOf (now (now (image .entry)))) (stateOf s (now (store .entry)) output) statement)
         x (now (store .exit)) output) ⌝ }
 {
     let base = s.base;
     let top = s.top;
     let a = statement.a as u32;
     let b = statement.b as u32;
-    let found = finding::locate(image, plan, store, base, top, a);
+    let found = finding::locate_at(image, plan, store, base, top, a);
     let Found::At(target) = found else {
         return calling::ended_by(calling::lost_place(found));
     };
     let address = target.address;
     let declared = target.declared;
     if declared <= 2 {
-        let answer = finding::fresh(finding::eval(image, plan, store, base, top, b));
+        let answer = finding::fresh(finding::eval_at(image, plan, store, base, top, b));
         let Answer::Val(value) = answer else {
             return calling::ended_by(calling::lost_value(answer));
         };
         let number = values::number_of(value);
         return write_cell(store, s, address, number);
     }
-    let origin = finding::fresh_place(finding::find(image, plan, store, base, top, b));
+    let origin = finding::fresh_place(finding::find_at(image, plan, store, base, top, b));
     let Found::At(source) = origin else {
         return calling::ended_by(calling::lost_place(origin));
     };
@@ -135,10 +136,10 @@ fn assign(image: &[u8], plan: &[u32], store: &mut [i64], s: Registers, statement
 
 // ---- statement kinds 2 and 4
 
-fn jump(image: &[u8], plan: &[u32], store: &[i64], s: Registers, statement: Row) -> Step
-    requires { ⌜ Ready (now image) (now plan) × Stands s (now store) 1 × (s .row < 65536) ⌝ }
+fn jump(image: &&[u8], plan: &Plan, store: &[i64], s: Registers, statement: Row) -> Step
+    requires { ⌜ Ready (now (now image)) (now plan) × Stands s (now store) 1 × (s .row < 65536) ⌝ }
     ensures { λ x. ⌜ ((output : List ℤ) → Shows (stateOf s (now (store .entry)) output)
-        (jumped bare (programOf (now (image .entry))) statement (stateOf s (now (store .entry)) output))
+        (jumped bare (programOf (now (now (image .entry)))) statement (stateOf s (now (store .entry)) output))
         x (now (store .entry)) output) ⌝ }
 {
     let base = s.base;
@@ -146,7 +147,7 @@ fn jump(image: &[u8], plan: &[u32], store: &[i64], s: Registers, statement: Row)
     let next = s.row + 1;
     let a = statement.a as u32;
     let b = statement.b as u32;
-    let answer = finding::eval(image, plan, store, base, top, a);
+    let answer = finding::eval_at(image, plan, store, base, top, a);
     let Answer::Val(value) = answer else {
         return calling::ended_by(calling::lost_value(answer));
     };
@@ -159,11 +160,11 @@ fn jump(image: &[u8], plan: &[u32], store: &[i64], s: Registers, statement: Row)
     Step::Goes(at_row(s, b))
 }
 
-fn give_back(image: &[u8], plan: &[u32], store: &[i64], s: Registers) -> Step
-    requires { ⌜ Ready (now image) (now plan) × Stands s (now store) 1
-        × (s .row < rowsOf (programOf (now image) .statements)) ⌝ }
+fn give_back(image: &&[u8], plan: &Plan, store: &[i64], s: Registers) -> Step
+    requires { ⌜ Ready (now (now image)) (now plan) × Stands s (now store) 1
+        × (s .row < rowsOf (programOf (now (now image)) .statements)) ⌝ }
     ensures { λ x. ⌜ ((output : List ℤ) → Shows (stateOf s (now (store .entry)) output)
-        (returned bare (programOf (now (image .entry))) (stateOf s (now (store .entry)) output))
+        (returned bare (programOf (now (now (image .entry)))) (stateOf s (now (store .entry)) output))
         x (now (store .entry)) output) ⌝ }
 {
     let base = s.base;
@@ -195,16 +196,16 @@ fn give_back(image: &[u8], plan: &[u32], store: &[i64], s: Registers) -> Step
 // ---- statement kinds 5 to 7
 
 fn receive(
-    image: &[u8],
-    plan: &[u32],
+    image: &&[u8],
+    plan: &Plan,
     input: &[i32],
     store: &mut [i64],
     s: Registers,
     statement: Row,
 ) -> Step
-    requires { ⌜ Ready (now image) (now plan) × Stands s (now store) 1 × (s .row < 65536) ⌝ }
+    requires { ⌜ Ready (now (now image)) (now plan) × Stands s (now store) 1 × (s .row < 65536) ⌝ }
     ensures { λ x. ⌜ ((output : List ℤ) → Shows (stateOf s (now (store .entry)) output)
-        (received bare (programOf (now (image .entry))) (now (input .entry)) statement
+        (received bare (programOf (now (now (image .entry)))) (now (input .entry)) statement
         (stateOf s (now (store .entry)) output)) x (now (store .exit)) output) ⌝ }
 {
     let base = s.base;
@@ -214,7 +215,7 @@ fn receive(
     let more = read + 1;
     let written = s.written;
     let a = statement.a as u32;
-    let found = finding::find(image, plan, store, base, top, a);
+    let found = finding::find_at(image, plan, store, base, top, a);
     let Found::At(target) = found else {
         return calling::ended_by(calling::lost_place(found));
     };
@@ -237,16 +238,16 @@ fn receive(
 }
 
 fn send(
-    image: &[u8],
-    plan: &[u32],
+    image: &&[u8],
+    plan: &Plan,
     store: &[i64],
     output: &mut [i32],
     s: Registers,
     statement: Row,
 ) -> Step
-    requires { ⌜ Ready (now image) (now plan) × Stands s (now store) 1 × (s .row < 65536) ⌝ }
+    requires { ⌜ Ready (now (now image)) (now plan) × Stands s (now store) 1 × (s .row < 65536) ⌝ }
     ensures { λ x. ⌜ Shows (stateOf s (now (store .entry)) (now (output .entry)))
-        (sent bare (programOf (now (image .entry))) statement
+        (sent bare (programOf (now (now (image .entry)))) statement
         (stateOf s (now (store .entry)) (now (output .entry)))) x (now (store .entry)) (now (output .exit)) ⌝ }
 {
     let base = s.base;
@@ -256,7 +257,7 @@ fn send(
     let written = s.written;
     let more = written + 1;
     let a = statement.a as u32;
-    let answer = finding::eval(image, plan, store, base, top, a);
+    let answer = finding::eval_at(image, plan, store, base, top, a);
     let Answer::Val(value) = answer else {
         return calling::ended_by(calling::lost_value(answer));
     };
@@ -276,16 +277,16 @@ fn send(
     })
 }
 
-fn halt(image: &[u8], plan: &[u32], store: &[i64], s: Registers, statement: Row) -> Step
-    requires { ⌜ Ready (now image) (now plan) × Stands s (now store) 1 ⌝ }
+fn halt(image: &&[u8], plan: &Plan, store: &[i64], s: Registers, statement: Row) -> Step
+    requires { ⌜ Ready (now (now image)) (now plan) × Stands s (now store) 1 ⌝ }
     ensures { λ x. ⌜ ((output : List ℤ) → Shows (stateOf s (now (store .entry)) output)
-        (halted bare (programOf (now (image .entry))) statement (stateOf s (now (store .entry)) output))
+        (halted bare (programOf (now (now (image .entry)))) statement (stateOf s (now (store .entry)) output))
         x (now (store .entry)) output) ⌝ }
 {
     let base = s.base;
     let top = s.top;
     let a = statement.a as u32;
-    let answer = finding::eval(image, plan, store, base, top, a);
+    let answer = finding::eval_at(image, plan, store, base, top, a);
     let Answer::Val(value) = answer else {
         return calling::ended_by(calling::lost_value(answer));
     };
@@ -298,16 +299,16 @@ fn halt(image: &[u8], plan: &[u32], store: &[i64], s: Registers, statement: Row)
 // ---- by the kind
 
 pub fn step(
-    image: &[u8],
-    plan: &[u32],
+    image: &&[u8],
+    plan: &Plan,
     input: &[i32],
     store: &mut [i64],
     output: &mut [i32],
     s: Registers,
 ) -> Step
-    requires { ⌜ Ready (now image) (now plan) × Stands s (now store) 1 ⌝ }
+    requires { ⌜ Ready (now (now image)) (now plan) × Stands s (now store) 1 ⌝ }
     ensures { λ x. ⌜ Shows (stateOf s (now (store .entry)) (now (output .entry)))
-        (stepOf bare (programOf (now (image .entry))) (now (input .entry))
+        (stepOf bare (programOf (now (now (image .entry)))) (now (input .entry))
         (stateOf s (now (store .entry)) (now (output .entry)))) x (now (store .exit)) (now (output .exit)) ⌝ }
 {
     let row = s.row;

@@ -12,12 +12,12 @@ add-result c = search needs
 mul-result : tie.Need-mul-result
 mul-result c = search needs
 
-shared-slice-read-result : tie.Need-shared-slice-read-result
-shared-slice-read-result c = let s = c .before in
+element-copy-out-result : tie.Need-element-copy-out-result
+element-copy-out-result c = let s = c in
     omega (arith, s .pre .0 .planned .cells, statements-few (s .pre .0 .planned), s .pre .1)
 
 returns : tie.Need-returns
 returns c = let s = c .before in s .pre .0 .owner _ (s .pre .1)
 
 pub procedure-of-spec : {M : Type 1} → statement M
-procedure-of-spec = tie.close (tie.spec add-result mul-result shared-slice-read-result returns)
+procedure-of-spec = tie.close (tie.spec add-result mul-result element-copy-out-result returns)

@@ -9,12 +9,12 @@ use Rattle.access.proofs.size_of.Lts as lts
 mul-result : tie.Need-mul-result
 mul-result c = search needs
 
-shared-slice-read-result : tie.Need-shared-slice-read-result
-shared-slice-read-result c = let s = c .before in
+element-copy-out-result : tie.Need-element-copy-out-result
+element-copy-out-result c = let s = c in
     omega (arith, s .pre .0 .cells, types-few (s .pre .0), s .pre .1)
 
 returns : tie.Need-returns
 returns c = let s = c .before in s .pre .0 .size _ (s .pre .1)
 
 pub size-of-spec : {M : Type 1} → statement M
-size-of-spec = tie.close (tie.spec mul-result shared-slice-read-result returns)
+size-of-spec = tie.close (tie.spec mul-result element-copy-out-result returns)
