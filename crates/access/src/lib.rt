@@ -90,7 +90,8 @@ pub fn extends(image: &&[u8], plan: &Plan, r: u16, u: u16) -> bool
 
 // The field that node row k names, of an object of type row r.
 pub fn field(image: &&[u8], plan: &Plan, k: u32, r: u16) -> FieldAnswer
-    requires { ⌜ Planned (now (now image)) (now plan) × (rowAt (programOf (now (now image)) .nodes) k .kind ≡ 2) ⌝ }
+    requires { ⌜ Planned (now (now image)) (now plan) × (rowAt (programOf (now (now image)) .nodes) k .kind ≡ 2)
+        × (r < rowsOf (programOf (now (now image)) .types)) ⌝ }
     ensures { λ x. ⌜ x ≡ fieldOf (programOf (now (now (image .entry))) .types)
         (programOf (now (now (image .entry))) .fields) r
         (rowAt (programOf (now (now (image .entry))) .nodes) k .b) ⌝ }
