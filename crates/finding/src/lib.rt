@@ -77,10 +77,14 @@ fn no_value(x: Found) -> Answer
 }
 
 // The value of an object that was found.
-fn load(store: &&[i64], top: u32, place: Place) -> Answer
-    requires { ⌜ (top ≤ length (now (now store))) × (top ≤ 65536) ⌝ }
-    ensures { λ r. ⌜ r ≡ valueAt bare top (now (now (store .entry))) (place .declared) (place .address) ⌝ }
+fn load(store: &&[i64], top: u32, found: Found) -> Answer
+    requires { ⌜ top ≤ length (now (now store)) ⌝ }
+    ensures { λ r. ⌜ r ≡ content found (λ place. valueAt bare top (now (now (store .entry))) (place .declared)
+        (place .address)) ⌝ }
 {
+    let Found::At(place) = found else {
+        return no_value(found);
+    };
     cells::value_at(*store, top, place.declared, place.address)
 }
 
@@ -138,18 +142,20 @@ fn variable_place(image: &&[u8], plan: &Plan, store: &&[i64], base: u32, top: u3
     parameter_place(store, top, at, r)
 }
 
-// Node kind 2: field n of an object.
-fn field_place(image: &&[u8], plan: &Plan, whole: Place, r: u32, n: u16) -> Found
-    requires { ⌜ Planned (now (now image)) (now plan) × Within (now (now image)) whole ⌝ }
+// Node kind 2: the field that node row k names, of an object.
+fn field_place(image: &&[u8], plan: &Plan, whole: Place, k: u32) -> Found
+    requires { ⌜ Planned (now (now image)) (now plan) × Within (now (now image)) whole
+        × (rowAt (programOf (now (now image)) .nodes) k .kind ≡ 2) ⌝ }
     ensures { λ x. ⌜ x ≡ fieldPlace whole (fieldOf (programOf (now (now (image .entry))) .types)
-        (programOf (now (now (image .entry))) .fields) (whole .declared) n) ⌝ }
+        (programOf (now (now (image .entry))) .fields) (whole .declared)
+        (rowAt (programOf (now (now (image .entry))) .nodes) k .b)) ⌝ }
 {
     let address = whole.address;
     let declared = whole.declared;
-    let FieldAnswer::Field(offset, part) = access::field(image, plan, r, declared, n) else {
+    let FieldAnswer::Field(offset, r) = access::field(image, plan, k, declared) else {
         return Found::Stuck;
     };
-    plain(address + offset, part)
+    plain(address + offset, r)
 }
 
 // The element at an index of an array whose type row is `array`.
@@ -173,11 +179,33 @@ fn element_place(image: &&[u8], plan: &Plan, whole: Place, array: Row, index: i3
     plain(address + offset, element)
 }
 
-// Node kind 4: an object guarded by type row b.
-fn guard_place(image: &&[u8], plan: &Plan, place: Place, b: u16) -> Found
-    requires { ⌜ Planned (now (now image)) (now plan) ⌝ }
-    ensures { λ x. ⌜ x ≡ guardPlace (programOf (now (now (image .entry)))) b place ⌝ }
+// Node kind 3: the element of an object at an index that was evaluated.
+fn array_place(image: &&[u8], plan: &Plan, whole: Place, answer: Answer) -> Found
+    requires { ⌜ Planned (now (now image)) (now plan) × Within (now (now image)) whole ⌝ }
+    ensures { λ x. ⌜ x ≡ arrayPlace (programOf (now (now (image .entry)))) whole answer ⌝ }
 {
+    let array = access::type_at(image, plan, whole.declared);
+    let kind = array.kind;
+    if kind != 3 {
+        return Found::Stuck;
+    }
+    let Answer::Val(value) = answer else {
+        return no_place(answer);
+    };
+    let Value::Int(index) = value else {
+        return Found::Stuck;
+    };
+    element_place(image, plan, whole, array, index)
+}
+
+// Node kind 4: an object guarded by type row b.
+fn guard_place(image: &&[u8], plan: &Plan, found: Found, b: u16) -> Found
+    requires { ⌜ Planned (now (now image)) (now plan) ⌝ }
+    ensures { λ x. ⌜ x ≡ reach found (guardPlace (programOf (now (now (image .entry)))) b) ⌝ }
+{
+    let Found::At(place) = found else {
+        return found;
+    };
     let address = place.address;
     let dynamic = place.dynamic;
     if access::extends(image, plan, dynamic, b) {
@@ -191,10 +219,13 @@ fn guard_place(image: &&[u8], plan: &Plan, place: Place, b: u16) -> Found
 }
 
 // Node kind 7: whether an object's dynamic type extends type row b.
-fn type_test(image: &&[u8], plan: &Plan, place: Place, b: u16) -> Answer
+fn type_test(image: &&[u8], plan: &Plan, found: Found, b: u16) -> Answer
     requires { ⌜ Planned (now (now image)) (now plan) ⌝ }
-    ensures { λ x. ⌜ x ≡ testOf (programOf (now (now (image .entry)))) b place ⌝ }
+    ensures { λ x. ⌜ x ≡ content found (testOf (programOf (now (now (image .entry)))) b) ⌝ }
 {
+    let Found::At(place) = found else {
+        return no_value(found);
+    };
     Answer::Val(Value::Bool(access::extends(image, plan, place.dynamic, b)))
 }
 
@@ -221,7 +252,7 @@ pub fn find(image: &&[u8], plan: &Plan, store: &&[i64], base: u32, top: u32, r: 
             let Found::At(owner) = whole else {
                 return whole;
             };
-            fresh_place(field_place(image, plan, owner, r, b))
+            fresh_place(field_place(image, plan, owner, r))
         }
         3 => {
             if r <= first {
@@ -231,28 +262,15 @@ pub fn find(image: &&[u8], plan: &Plan, store: &&[i64], base: u32, top: u32, r: 
             let Found::At(array) = list else {
                 return list;
             };
-            let row = access::type_at(image, plan, array.declared);
-            if row.kind != 3 {
-                return Found::Stuck;
-            }
             if r <= second {
                 return Found::Stuck;
             }
             let index = fresh(eval(image, plan, store, base, top, second));
-            let Answer::Val(value) = index else {
-                return no_place(index);
-            };
-            let Value::Int(i) = value else {
-                return Found::Stuck;
-            };
-            fresh_place(element_place(image, plan, array, row, i))
+            fresh_place(array_place(image, plan, array, index))
         }
         4 => {
             let guarded = variable_place(image, plan, store, base, top, a);
-            let Found::At(object) = guarded else {
-                return guarded;
-            };
-            guard_place(image, plan, object, b)
+            guard_place(image, plan, guarded, b)
         }
         8 => {
             if r <= first {
@@ -280,10 +298,7 @@ pub fn eval(image: &&[u8], plan: &Plan, store: &&[i64], base: u32, top: u32, r: 
         0 => values::constant(a, b, c),
         1 => {
             let variable = variable_place(image, plan, store, base, top, a);
-            let Found::At(object) = variable else {
-                return no_value(variable);
-            };
-            fresh(load(store, top, object))
+            fresh(load(store, top, variable))
         }
         2 => {
             if r <= first {
@@ -293,11 +308,8 @@ pub fn eval(image: &&[u8], plan: &Plan, store: &&[i64], base: u32, top: u32, r: 
             let Found::At(owner) = whole else {
                 return no_value(whole);
             };
-            let part = fresh_place(field_place(image, plan, owner, r, b));
-            let Found::At(object) = part else {
-                return no_value(part);
-            };
-            fresh(load(store, top, object))
+            let part = fresh_place(field_place(image, plan, owner, r));
+            fresh(load(store, top, part))
         }
         3 => {
             if r <= first {
@@ -307,36 +319,17 @@ pub fn eval(image: &&[u8], plan: &Plan, store: &&[i64], base: u32, top: u32, r: 
             let Found::At(array) = list else {
                 return no_value(list);
             };
-            let row = access::type_at(image, plan, array.declared);
-            if row.kind != 3 {
-                return Answer::Stuck;
-            }
             if r <= second {
                 return Answer::Stuck;
             }
             let index = fresh(eval(image, plan, store, base, top, second));
-            let Answer::Val(value) = index else {
-                return index;
-            };
-            let Value::Int(i) = value else {
-                return Answer::Stuck;
-            };
-            let element = fresh_place(element_place(image, plan, array, row, i));
-            let Found::At(object) = element else {
-                return no_value(element);
-            };
-            fresh(load(store, top, object))
+            let element = fresh_place(array_place(image, plan, array, index));
+            fresh(load(store, top, element))
         }
         4 => {
             let guarded = variable_place(image, plan, store, base, top, a);
-            let Found::At(whole) = guarded else {
-                return no_value(guarded);
-            };
-            let narrowed = guard_place(image, plan, whole, b);
-            let Found::At(object) = narrowed else {
-                return no_value(narrowed);
-            };
-            fresh(load(store, top, object))
+            let narrowed = guard_place(image, plan, guarded, b);
+            fresh(load(store, top, narrowed))
         }
         5 => {
             if r <= first {
@@ -358,14 +351,11 @@ pub fn eval(image: &&[u8], plan: &Plan, store: &&[i64], base: u32, top: u32, r: 
             };
             fresh(operators::dyadic(c, x, y))
         }
-        6 | 8 => {
+        6 => {
             if r <= first {
                 return Answer::Stuck;
             }
             let operand = fresh(eval(image, plan, store, base, top, first));
-            if kind == 8 {
-                return operand;
-            }
             let Answer::Val(z) = operand else {
                 return operand;
             };
@@ -373,10 +363,13 @@ pub fn eval(image: &&[u8], plan: &Plan, store: &&[i64], base: u32, top: u32, r: 
         }
         7 => {
             let tested = variable_place(image, plan, store, base, top, a);
-            let Found::At(object) = tested else {
-                return no_value(tested);
-            };
-            type_test(image, plan, object, b)
+            type_test(image, plan, tested, b)
+        }
+        8 => {
+            if r <= first {
+                return Answer::Stuck;
+            }
+            fresh(eval(image, plan, store, base, top, first))
         }
         _ => Answer::Stuck,
     }

@@ -5,6 +5,7 @@ use denote.Ref.{now}
 use borrow.Author.Tests.{ne-eqb}
 use Rattle.prelude.specs.Choice.{choose}
 use Rattle.image.specs.declared.Row.{Row}
+use Rattle.image.specs.Rows.{rowAt}
 use Rattle.values.specs.Values.{bind}
 use Rattle.values.specs.declared.Answer.{Answer}
 use Rattle.values.proofs.Binding.{bind-value, bind-other}
@@ -48,23 +49,23 @@ use Rattle.values.proofs.constant.Reads as constant-reads
 use Rattle.finding.proofs.+eval+find.{statement}
 use Rattle.finding.proofs.+eval+find.Tie.{close}
 
-abbrev μ-eval : Measures 3 eval-kinds.ps ℕ
+abbrev μ-eval : Measures 5 eval-kinds.ps ℕ
 μ-eval κs a = a .1 .1 .1 .1 .1 .0
 
-abbrev μ-find : Measures 3 find-kinds.ps ℕ
+abbrev μ-find : Measures 5 find-kinds.ps ℕ
 μ-find κs a = a .1 .1 .1 .1 .1 .0
 
-abbrev eval-at : ℕ → In 3 eval-kinds.ps
-eval-at t = and 3 eval-kinds.ps (is 3 eval-kinds.ps μ-eval t) eval.Pre
+abbrev eval-at : ℕ → In 5 eval-kinds.ps
+eval-at t = and 5 eval-kinds.ps (is 5 eval-kinds.ps μ-eval t) eval.Pre
 
-abbrev below-eval : ℕ → In 3 eval-kinds.ps
-below-eval t = and 3 eval-kinds.ps (falls 3 eval-kinds.ps _<_ μ-eval t) eval.Pre
+abbrev below-eval : ℕ → In 5 eval-kinds.ps
+below-eval t = and 5 eval-kinds.ps (falls 5 eval-kinds.ps _<_ μ-eval t) eval.Pre
 
-abbrev find-at : ℕ → In 3 find-kinds.ps
-find-at t = and 3 find-kinds.ps (is 3 find-kinds.ps μ-find t) find.Pre
+abbrev find-at : ℕ → In 5 find-kinds.ps
+find-at t = and 5 find-kinds.ps (is 5 find-kinds.ps μ-find t) find.Pre
 
-abbrev below-find : ℕ → In 3 find-kinds.ps
-below-find t = and 3 find-kinds.ps (falls 3 find-kinds.ps _<_ μ-find t) find.Pre
+abbrev below-find : ℕ → In 5 find-kinds.ps
+below-find t = and 5 find-kinds.ps (falls 5 find-kinds.ps _<_ μ-find t) find.Pre
 
 abbrev eval-claims : ℕ → eval-lts.Claims
 eval-claims t = (
@@ -131,7 +132,7 @@ module _ (t : ℕ) where
   Node = eval-lts.After-node-at (eval-claims t) (eval-at t) eval.Post
 
   abbrev program : Node → Program
-  program m = programOf (now (m .before .before .before .args .image))
+  program m = programOf (now (now (m .before .args .image)))
 
   abbrev row : Node → Row
   row m = m .node-at .result
@@ -139,14 +140,14 @@ module _ (t : ℕ) where
   -- what the node is worth
   abbrev worth : Node → Answer
   worth m =
-      let a = m .before .before .before .args in
-      evalOf bare (program m) (a .base) (a .top) (now (a .store)) (a .r)
+      let a = m .before .args in
+      evalOf bare (program m) (a .base) (a .top) (now (now (a .store))) (a .r)
 
   -- what lower nodes mean
   abbrev low : Node → ℕ → Meaning
   low m =
-      let a = m .before .before .before .args in
-      lower bare (program m) (a .base) (a .top) (now (a .store)) (a .r)
+      let a = m .before .args in
+      lower bare (program m) (a .base) (a .top) (now (now (a .store))) (a .r)
 
   -- the node's field or element of an object
   abbrev field : Node → Place → Found
@@ -156,16 +157,24 @@ module _ (t : ℕ) where
   abbrev element : Node → Answer → Place → Found
   element m answer whole = arrayPlace (program m) whole answer
 
+  -- the field that the node names
+  named : (m : Node) (whole : Place) →
+      fieldPlace whole (fieldOf (program m .types) (program m .fields) (whole .declared)
+      (rowAt (program m .nodes) (m .before .args .r) .b)) ≡ field m whole
+  named m whole =
+      ap (λ (x : Row). fieldPlace whole (fieldOf (program m .types) (program m .fields) (whole .declared) (x .b)))
+      (sym (m .node-at .ensures))
+
   -- what an object holds
   abbrev held : Node → Found → Answer
   held m x =
-      let a = m .before .before .before .args in
-      content x (λ place. valueAt bare (a .top) (now (a .store)) (place .declared) (place .address))
+      let a = m .before .args in
+      content x (λ place. valueAt bare (a .top) (now (now (a .store))) (place .declared) (place .address))
 
   -- a node of a kind
-  at-row : (m : Node) (kind : ℕ) → row m .kind ≡ kind → let a = m .before .before .before .args in
+  at-row : (m : Node) (kind : ℕ) → row m .kind ≡ kind → let a = m .before .args in
       worth m
-      ≡ meaningBy bare (program m) (a .base) (a .top) (now (a .store)) (low m) kind (row m) .value
+      ≡ meaningBy bare (program m) (a .base) (a .top) (now (now (a .store))) (low m) kind (row m) .value
   at-row m kind e = eval-row _ _ _ _ _ _ (row m) (m .node-at .ensures) kind e
 
   -- a field: the record
@@ -184,13 +193,16 @@ module _ (t : ℕ) where
       at-whole (c .before .before) ∙ rw (c .whole .given .1)
 
   at-record-within : (c : eval-lts.After-whole (eval-claims t) (eval-at t) eval.Post) →
-      let a = c .before .before .before .before .before .before .before .before .before .args in
-      Planned (now (a .image)) (now (a .plan)) × Within (now (a .image)) (c .whole .given .0 .0)
+      let a = c .before .before .before .before .before .before .before .args in
+      Planned (now (now (a .image))) (now (a .plan)) × Within (now (now (a .image))) (c .whole .given .0 .0)
+      × (rowAt (programOf (now (now (a .image))) .nodes) (a .r) .kind ≡ 2)
   at-record-within c =
-      let s = c .before .before .before .before .before .before .before .before .before .pre .1 in (
+      let s = c .before .before .before .before .before .before .before .pre .1 in (
         s .planned,
         find-within s _ _ (sym (c .before .before .fresh-place .ensures
             ∙ c .before .before .before .find .ensures) ∙ c .whole .given .1),
+        rw (← c .before .before .before .before .before .before .node-at .ensures)
+            (c .before .before .before .before .before .match .keys3),
       )
 
   -- an element: the array, and then the index
@@ -211,10 +223,10 @@ module _ (t : ℕ) where
       at-list (c .before .before) ∙ rw (c .list .given .1)
 
   at-array-within : (c : eval-lts.After-list (eval-claims t) (eval-at t) eval.Post) →
-      let a = c .before .before .before .before .before .before .before .before .before .args in
-      Planned (now (a .image)) (now (a .plan)) × Within (now (a .image)) (c .list .given .0 .0)
+      let a = c .before .before .before .before .before .before .before .args in
+      Planned (now (now (a .image))) (now (a .plan)) × Within (now (now (a .image))) (c .list .given .0 .0)
   at-array-within c =
-      let s = c .before .before .before .before .before .before .before .before .before .pre .1 in (
+      let s = c .before .before .before .before .before .before .before .pre .1 in (
         s .planned,
         find-within s _ _ (sym (c .before .before .fresh-place3 .ensures
             ∙ c .before .before .before .find2 .ensures) ∙ c .list .given .1),
@@ -369,7 +381,7 @@ eval-fresh-place-requires-4 t c κs = search needs
 eval-load-requires-3 : (t : ℕ) → eval-lts.Need-load-requires-3 (eval-claims t) (eval-at t) eval.Post
 eval-load-requires-3 t c κs =
     let l = c .before .before .before .before .before .before in
-    l .before .before .before .before .before .before .before .before .before .pre .1 .stored
+    l .before .before .before .before .before .before .before .pre .1 .stored
 
 eval-fresh-requires-4 : (t : ℕ) → eval-lts.Need-fresh-requires-4 (eval-claims t) (eval-at t) eval.Post
 eval-fresh-requires-4 t c κs = search needs
@@ -498,7 +510,11 @@ eval-returns-16 : (t : ℕ) → eval-lts.Need-returns-16 (eval-claims t) (eval-a
 eval-returns-16 t c =
     c .fresh2 .ensures
     ∙ c .before .load2 .ensures
-    ∙ rw (c .before .before .fresh-place2 .ensures, c .before .before .before .field-place .ensures)
+    ∙ rw (
+      c .before .before .fresh-place2 .ensures,
+      c .before .before .before .field-place .ensures
+          ∙ named t (c .before .before .before .before .before .before .before .before .before .before .before) _,
+    )
     (sym (at-record t (c .before .before .before .before .before)))
 
 eval-returns-17 : (t : ℕ) → eval-lts.Need-returns-17 (eval-claims t) (eval-at t) eval.Post
@@ -569,7 +585,7 @@ module _ (t : ℕ) where
   NodeF = find-lts.After-node-at (find-claims t) (find-at t) find.Post
 
   abbrev programF : NodeF → Program
-  programF m = programOf (now (m .before .before .before .args .image))
+  programF m = programOf (now (now (m .before .args .image)))
 
   abbrev rowF : NodeF → Row
   rowF m = m .node-at .result
@@ -577,14 +593,14 @@ module _ (t : ℕ) where
   -- what the node designates
   abbrev found : NodeF → Found
   found m =
-      let a = m .before .before .before .args in
-      findOf bare (programF m) (a .base) (a .top) (now (a .store)) (a .r)
+      let a = m .before .args in
+      findOf bare (programF m) (a .base) (a .top) (now (now (a .store))) (a .r)
 
   -- what lower nodes mean
   abbrev lowF : NodeF → ℕ → Meaning
   lowF m =
-      let a = m .before .before .before .args in
-      lower bare (programF m) (a .base) (a .top) (now (a .store)) (a .r)
+      let a = m .before .args in
+      lower bare (programF m) (a .base) (a .top) (now (now (a .store))) (a .r)
 
   -- the node's field or element of an object
   abbrev fieldF : NodeF → Place → Found
@@ -594,10 +610,18 @@ module _ (t : ℕ) where
   abbrev elementF : NodeF → Answer → Place → Found
   elementF m answer whole = arrayPlace (programF m) whole answer
 
+  -- the field that the node names
+  namedF : (m : NodeF) (whole : Place) →
+      fieldPlace whole (fieldOf (programF m .types) (programF m .fields) (whole .declared)
+      (rowAt (programF m .nodes) (m .before .args .r) .b)) ≡ fieldF m whole
+  namedF m whole =
+      ap (λ (x : Row). fieldPlace whole (fieldOf (programF m .types) (programF m .fields) (whole .declared) (x .b)))
+      (sym (m .node-at .ensures))
+
   -- a node of a kind
-  f-row : (m : NodeF) (kind : ℕ) → rowF m .kind ≡ kind → let a = m .before .before .before .args in
+  f-row : (m : NodeF) (kind : ℕ) → rowF m .kind ≡ kind → let a = m .before .args in
       found m
-      ≡ meaningBy bare (programF m) (a .base) (a .top) (now (a .store)) (lowF m) kind (rowF m) .place
+      ≡ meaningBy bare (programF m) (a .base) (a .top) (now (now (a .store))) (lowF m) kind (rowF m) .place
   f-row m kind e = find-row _ _ _ _ _ _ (rowF m) (m .node-at .ensures) kind e
 
   -- a field: the record
@@ -616,13 +640,16 @@ module _ (t : ℕ) where
       f-whole (c .before .before) ∙ rw (c .whole .given .1)
 
   f-record-within : (c : find-lts.After-whole (find-claims t) (find-at t) find.Post) →
-      let a = c .before .before .before .before .before .before .before .before .before .args in
-      Planned (now (a .image)) (now (a .plan)) × Within (now (a .image)) (c .whole .given .0 .0)
+      let a = c .before .before .before .before .before .before .before .args in
+      Planned (now (now (a .image))) (now (a .plan)) × Within (now (now (a .image))) (c .whole .given .0 .0)
+      × (rowAt (programOf (now (now (a .image))) .nodes) (a .r) .kind ≡ 2)
   f-record-within c =
-      let s = c .before .before .before .before .before .before .before .before .before .pre .1 in (
+      let s = c .before .before .before .before .before .before .before .pre .1 in (
         s .planned,
         find-within s _ _ (sym (c .before .before .fresh-place .ensures
             ∙ c .before .before .before .find .ensures) ∙ c .whole .given .1),
+        rw (← c .before .before .before .before .before .before .node-at .ensures)
+            (c .before .before .before .before .before .match .keys2),
       )
 
   -- an element: the array, and then the index
@@ -643,10 +670,10 @@ module _ (t : ℕ) where
       f-list (c .before .before) ∙ rw (c .list .given .1)
 
   f-array-within : (c : find-lts.After-list (find-claims t) (find-at t) find.Post) →
-      let a = c .before .before .before .before .before .before .before .before .before .args in
-      Planned (now (a .image)) (now (a .plan)) × Within (now (a .image)) (c .list .given .0 .0)
+      let a = c .before .before .before .before .before .before .before .args in
+      Planned (now (now (a .image))) (now (a .plan)) × Within (now (now (a .image))) (c .list .given .0 .0)
   f-array-within c =
-      let s = c .before .before .before .before .before .before .before .before .before .pre .1 in (
+      let s = c .before .before .before .before .before .before .before .pre .1 in (
         s .planned,
         find-within s _ _ (sym (c .before .before .fresh-place3 .ensures
             ∙ c .before .before .before .find2 .ensures) ∙ c .list .given .1),
@@ -756,7 +783,9 @@ find-returns-7 t c =
 
 find-returns-8 : (t : ℕ) → find-lts.Need-returns-8 (find-claims t) (find-at t) find.Post
 find-returns-8 t c =
-    c .fresh-place2 .ensures ∙ c .before .field-place .ensures ∙ sym (f-record t (c .before .before .before))
+    c .fresh-place2 .ensures ∙ c .before .field-place .ensures
+    ∙ namedF t (c .before .before .before .before .before .before .before .before .before) _
+    ∙ sym (f-record t (c .before .before .before))
 
 find-returns-9 : (t : ℕ) → find-lts.Need-returns-9 (find-claims t) (find-at t) find.Post
 find-returns-9 t c =

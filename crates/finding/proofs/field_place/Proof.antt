@@ -22,7 +22,7 @@ returns c = rw (← c .before .before .field .ensures, c .enum-told .given .1)
 
 add-plain : tie.Need-add-plain
 add-plain c =
-    let s = c .before .before .before .before .before .before in
+    let s = c .before .before .before .before in
     let answer = sym (c .before .before .before .field .ensures) ∙ c .before .offset .given .1 in
     record { fits = omega (arith, s .pre .1 .low, field-low (s .pre .0) _ _ _ _ answer .0) }
 

@@ -20,7 +20,7 @@ value-at-requires c κs = search needs
 
 returns-2 : tie.Need-returns-2
 unfolding content
-returns-2 c = c .value-at .ensures ∙ rw (c .before .before .found .given .1)
+returns-2 c = c .value-at .ensures ∙ rw (c .before .before .before .found .given .1)
 
 pub load-spec : {M : Type 1} → statement M
 load-spec =

@@ -33,17 +33,17 @@ enum-told-2 c = search needs
 returns-2 : tie.Need-returns-2
 unfolding parameterPlace withMark
 returns-2 c =
-    let address = c .before .before .before .before in
+    let address = c .before .before .before .before .before in
     rw (← address .before .before .mark-at .ensures ADDRESS, address .address .given .1)
     (rw (← c .before .before .mark-at2 .ensures TYPE, c .enum-told2 .given .1))
 
-cast-t9 : tie.Need-cast-t9
-cast-t9 c = search needs
+cast-t10 : tie.Need-cast-t10
+cast-t10 c = search needs
 
 returns-3 : tie.Need-returns-3
 unfolding parameterPlace withMark
 returns-3 c =
-    let address = c .before .before .before .before .before in
+    let address = c .before .before .before .before .before .before in
     rw (← address .before .before .mark-at .ensures ADDRESS, address .address .given .1)
     (rw (← c .before .before .before .mark-at2 .ensures TYPE, c .before .dynamic .given .1))
 
@@ -60,5 +60,5 @@ parameter-place-spec =
     enum-known-dynamic
     enum-told-2
     returns-2
-    cast-t9
+    cast-t10
     returns-3)

@@ -34,8 +34,8 @@ claims = (
 )
 
 -- the variable's row is there
-variable-there : (c : lts.Else1 claims reads.Pre reads.Post) → let a = c .before .before .before .before .args in
-    a .a < rowsOf (programOf (now (a .image)) .variables)
+variable-there : (c : lts.Else1 claims reads.Pre reads.Post) → let a = c .before .before .args in
+    a .a < rowsOf (programOf (now (now (a .image))) .variables)
 variable-there c =
     let h : c .before .variable-at .result .kind < 255 = omega arith in
     row-there _ _ (rw (c .before .variable-at .ensures) at h)
@@ -43,7 +43,7 @@ variable-there c =
 -- and its place is low
 place-small : (c : lts.Else2 claims reads.Pre reads.Post) → c .before .place-of .result ≤ 1048579
 place-small c =
-    let s = c .before .before .before .before .before .before in
+    let s = c .before .before .before .before in
     rw (c .before .place-of .ensures) (place-low (s .pre .planned) (s .args .a) (variable-there (c .before .before)))
 
 variable-at-requires : tie.Need-variable-at-requires
@@ -58,7 +58,7 @@ returns c =
     rw (← row .ensures, ne-eqb k 0 (omega arith), lt-leb k 2 (omega arith), ne-eqb k 3 (omega arith))
 
 place-of-requires : tie.Need-place-of-requires
-place-of-requires c κs = (c .before .before .before .before .pre .planned, variable-there c)
+place-of-requires c κs = (c .before .before .pre .planned, variable-there c)
 
 plain-requires : tie.Need-plain-requires
 plain-requires c κs = search needs
@@ -73,7 +73,7 @@ returns-2 c =
 add-at : tie.Need-add-at
 add-at c =
     let l = place-small c in
-    record { fits = omega (arith, c .before .before .before .before .before .before .pre .low) }
+    record { fits = omega (arith, c .before .before .before .before .pre .low) }
 
 plain-requires-2 : tie.Need-plain-requires-2
 plain-requires-2 c κs = search needs
@@ -89,7 +89,7 @@ returns-3 c =
 
 parameter-place-requires : tie.Need-parameter-place-requires
 parameter-place-requires c κs =
-    let s = c .before .before .before .before .before .before .before in
+    let s = c .before .before .before .before .before in
     let l = place-small (c .before) in
     (s .pre .stored, omega (arith, s .pre .low))
 
