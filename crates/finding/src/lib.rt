@@ -76,15 +76,11 @@ fn no_value(x: Found) -> Answer
     }
 }
 
-// The value of an object that was found.
-fn load(store: &&[i64], top: u32, found: Found) -> Answer
+// The value of an object.
+fn load(store: &&[i64], top: u32, place: Place) -> Answer
     requires { ⌜ top ≤ length (now (now store)) ⌝ }
-    ensures { λ r. ⌜ r ≡ content found (λ place. valueAt bare top (now (now (store .entry))) (place .declared)
-        (place .address)) ⌝ }
+    ensures { λ r. ⌜ r ≡ valueAt bare top (now (now (store .entry))) (place .declared) (place .address) ⌝ }
 {
-    let Found::At(place) = found else {
-        return no_value(found);
-    };
     cells::value_at(*store, top, place.declared, place.address)
 }
 
@@ -158,7 +154,7 @@ fn field_place(image: &&[u8], plan: &Plan, whole: Place, k: u32) -> Found
     plain(address + offset, r)
 }
 
-// The element at an index of an array whose type row is `array`.
+// Node kind 3: the element at an index of an object whose type row is `array`.
 fn element_place(image: &&[u8], plan: &Plan, whole: Place, array: Row, index: i32) -> Found
     requires { ⌜ Planned (now (now image)) (now plan) × Within (now (now image)) whole
         × (array ≡ rowAt (programOf (now (now image)) .types) (whole .declared)) × (array .kind ≡ 3) ⌝ }
@@ -179,33 +175,11 @@ fn element_place(image: &&[u8], plan: &Plan, whole: Place, array: Row, index: i3
     plain(address + offset, element)
 }
 
-// Node kind 3: the element of an object at an index that was evaluated.
-fn array_place(image: &&[u8], plan: &Plan, whole: Place, answer: Answer) -> Found
-    requires { ⌜ Planned (now (now image)) (now plan) × Within (now (now image)) whole ⌝ }
-    ensures { λ x. ⌜ x ≡ arrayPlace (programOf (now (now (image .entry)))) whole answer ⌝ }
-{
-    let array = access::type_at(image, plan, whole.declared);
-    let kind = array.kind;
-    if kind != 3 {
-        return Found::Stuck;
-    }
-    let Answer::Val(value) = answer else {
-        return no_place(answer);
-    };
-    let Value::Int(index) = value else {
-        return Found::Stuck;
-    };
-    element_place(image, plan, whole, array, index)
-}
-
 // Node kind 4: an object guarded by type row b.
-fn guard_place(image: &&[u8], plan: &Plan, found: Found, b: u16) -> Found
+fn guard_place(image: &&[u8], plan: &Plan, place: Place, b: u16) -> Found
     requires { ⌜ Planned (now (now image)) (now plan) ⌝ }
-    ensures { λ x. ⌜ x ≡ reach found (guardPlace (programOf (now (now (image .entry)))) b) ⌝ }
+    ensures { λ x. ⌜ x ≡ guardPlace (programOf (now (now (image .entry)))) b place ⌝ }
 {
-    let Found::At(place) = found else {
-        return found;
-    };
     let address = place.address;
     let dynamic = place.dynamic;
     if access::extends(image, plan, dynamic, b) {
@@ -219,13 +193,10 @@ fn guard_place(image: &&[u8], plan: &Plan, found: Found, b: u16) -> Found
 }
 
 // Node kind 7: whether an object's dynamic type extends type row b.
-fn type_test(image: &&[u8], plan: &Plan, found: Found, b: u16) -> Answer
+fn type_test(image: &&[u8], plan: &Plan, place: Place, b: u16) -> Answer
     requires { ⌜ Planned (now (now image)) (now plan) ⌝ }
-    ensures { λ x. ⌜ x ≡ content found (testOf (programOf (now (now (image .entry)))) b) ⌝ }
+    ensures { λ x. ⌜ x ≡ testOf (programOf (now (now (image .entry)))) b place ⌝ }
 {
-    let Found::At(place) = found else {
-        return no_value(found);
-    };
     Answer::Val(Value::Bool(access::extends(image, plan, place.dynamic, b)))
 }
 
@@ -262,15 +233,28 @@ pub fn find(image: &&[u8], plan: &Plan, store: &&[i64], base: u32, top: u32, r: 
             let Found::At(array) = list else {
                 return list;
             };
+            let row = access::type_at(image, plan, array.declared);
+            if row.kind != 3 {
+                return Found::Stuck;
+            }
             if r <= second {
                 return Found::Stuck;
             }
             let index = fresh(eval(image, plan, store, base, top, second));
-            fresh_place(array_place(image, plan, array, index))
+            let Answer::Val(value) = index else {
+                return no_place(index);
+            };
+            let Value::Int(i) = value else {
+                return Found::Stuck;
+            };
+            fresh_place(element_place(image, plan, array, row, i))
         }
         4 => {
             let guarded = variable_place(image, plan, store, base, top, a);
-            guard_place(image, plan, guarded, b)
+            let Found::At(object) = guarded else {
+                return guarded;
+            };
+            guard_place(image, plan, object, b)
         }
         8 => {
             if r <= first {
@@ -298,7 +282,10 @@ pub fn eval(image: &&[u8], plan: &Plan, store: &&[i64], base: u32, top: u32, r: 
         0 => values::constant(a, b, c),
         1 => {
             let variable = variable_place(image, plan, store, base, top, a);
-            fresh(load(store, top, variable))
+            let Found::At(object) = variable else {
+                return no_value(variable);
+            };
+            fresh(load(store, top, object))
         }
         2 => {
             if r <= first {
@@ -309,7 +296,10 @@ pub fn eval(image: &&[u8], plan: &Plan, store: &&[i64], base: u32, top: u32, r: 
                 return no_value(whole);
             };
             let part = fresh_place(field_place(image, plan, owner, r));
-            fresh(load(store, top, part))
+            let Found::At(object) = part else {
+                return no_value(part);
+            };
+            fresh(load(store, top, object))
         }
         3 => {
             if r <= first {
@@ -319,17 +309,36 @@ pub fn eval(image: &&[u8], plan: &Plan, store: &&[i64], base: u32, top: u32, r: 
             let Found::At(array) = list else {
                 return no_value(list);
             };
+            let row = access::type_at(image, plan, array.declared);
+            if row.kind != 3 {
+                return Answer::Stuck;
+            }
             if r <= second {
                 return Answer::Stuck;
             }
             let index = fresh(eval(image, plan, store, base, top, second));
-            let element = fresh_place(array_place(image, plan, array, index));
-            fresh(load(store, top, element))
+            let Answer::Val(value) = index else {
+                return index;
+            };
+            let Value::Int(i) = value else {
+                return Answer::Stuck;
+            };
+            let element = fresh_place(element_place(image, plan, array, row, i));
+            let Found::At(object) = element else {
+                return no_value(element);
+            };
+            fresh(load(store, top, object))
         }
         4 => {
             let guarded = variable_place(image, plan, store, base, top, a);
-            let narrowed = guard_place(image, plan, guarded, b);
-            fresh(load(store, top, narrowed))
+            let Found::At(whole) = guarded else {
+                return no_value(guarded);
+            };
+            let narrowed = guard_place(image, plan, whole, b);
+            let Found::At(object) = narrowed else {
+                return no_value(narrowed);
+            };
+            fresh(load(store, top, object))
         }
         5 => {
             if r <= first {
@@ -349,13 +358,34 @@ pub fn eval(image: &&[u8], plan: &Plan, store: &&[i64], base: u32, top: u32, r: 
             let Answer::Val(y) = right else {
                 return right;
             };
-            fresh(operators::dyadic(c, x, y))
+            match x {
+                Value::Bool(p) => {
+                    let Value::Bool(q) = y else {
+                        return Answer::Stuck;
+                    };
+                    operators::booleans(c, p, q)
+                }
+                Value::Int(i) => match y {
+                    Value::Bool(_) => Answer::Stuck,
+                    Value::Int(j) => fresh(operators::integers(c, i, j)),
+                    Value::Set(u) => operators::membership(c, i, u),
+                },
+                Value::Set(s) => {
+                    let Value::Set(t) = y else {
+                        return Answer::Stuck;
+                    };
+                    fresh(operators::sets(c, s, t))
+                }
+            }
         }
-        6 => {
+        6 | 8 => {
             if r <= first {
                 return Answer::Stuck;
             }
             let operand = fresh(eval(image, plan, store, base, top, first));
+            if kind == 8 {
+                return operand;
+            }
             let Answer::Val(z) = operand else {
                 return operand;
             };
@@ -363,13 +393,10 @@ pub fn eval(image: &&[u8], plan: &Plan, store: &&[i64], base: u32, top: u32, r: 
         }
         7 => {
             let tested = variable_place(image, plan, store, base, top, a);
-            type_test(image, plan, tested, b)
-        }
-        8 => {
-            if r <= first {
-                return Answer::Stuck;
-            }
-            fresh(eval(image, plan, store, base, top, first))
+            let Found::At(object) = tested else {
+                return no_value(tested);
+            };
+            type_test(image, plan, object, b)
         }
         _ => Answer::Stuck,
     }

@@ -55,14 +55,18 @@ booleansOf op p q =
     (choose (eqb op 13) (As.Val (Vs.Bool (p && q)))
     (choose (eqb op 14) (As.Val (Vs.Bool (p || q))) As.Stuck))
 
--- "5 dyadic a, b, operator c", both operands found. "IN takes INTEGER, SET"
+-- an INTEGER and a SET: "IN takes INTEGER, SET"
+unfoldable pub membershipOf : ℕ → ℤ → ℕ → Answer
+membershipOf op x t = choose (eqb op 15) (As.Val (Vs.Bool (memberOf x t))) As.Stuck
+
+-- "5 dyadic a, b, operator c", both operands found
 unfoldable pub dyadicOf : ℕ → Value → Value → Answer
 dyadicOf op (Vs.Bool p) (Vs.Bool q) = booleansOf op p q
 dyadicOf op (Vs.Bool p) (Vs.Int y) = As.Stuck
 dyadicOf op (Vs.Bool p) (Vs.Set t) = As.Stuck
 dyadicOf op (Vs.Int x) (Vs.Bool q) = As.Stuck
 dyadicOf op (Vs.Int x) (Vs.Int y) = integersOf op x y
-dyadicOf op (Vs.Int x) (Vs.Set t) = choose (eqb op 15) (As.Val (Vs.Bool (memberOf x t))) As.Stuck
+dyadicOf op (Vs.Int x) (Vs.Set t) = membershipOf op x t
 dyadicOf op (Vs.Set s) (Vs.Bool q) = As.Stuck
 dyadicOf op (Vs.Set s) (Vs.Int y) = As.Stuck
 dyadicOf op (Vs.Set s) (Vs.Set t) = setsOf op s t

@@ -2,7 +2,7 @@
 use values::Answer;
 use values::Value;
 ghost use mathlib.Core.Path.{_≡_};
-ghost use Rattle.operators.specs.Operators.{compareOf, integersOf, setsOf, booleansOf, dyadicOf, monadicOf};
+ghost use Rattle.operators.specs.Operators.{compareOf, integersOf, setsOf, booleansOf, membershipOf, monadicOf};
 ghost use Rattle.operators.specs.Operators.{decides as decidesOf};
 
 // Operators 7 to 12, from whether the left is less and whether the two are equal.
@@ -20,7 +20,7 @@ fn compare(op: u16, less: bool, equal: bool) -> bool
 }
 
 // An operator on two INTEGERs.
-fn integers(op: u16, x: i32, y: i32) -> Answer
+pub fn integers(op: u16, x: i32, y: i32) -> Answer
     ensures { λ r. ⌜ r ≡ integersOf op x y ⌝ }
 {
     match op {
@@ -32,7 +32,7 @@ fn integers(op: u16, x: i32, y: i32) -> Answer
 }
 
 // An operator on two SETs.
-fn sets(op: u16, s: u32, t: u32) -> Answer
+pub fn sets(op: u16, s: u32, t: u32) -> Answer
     ensures { λ r. ⌜ r ≡ setsOf op s t ⌝ }
 {
     match op {
@@ -46,7 +46,7 @@ fn sets(op: u16, s: u32, t: u32) -> Answer
 }
 
 // An operator on two BOOLEANs.
-fn booleans(op: u16, p: bool, q: bool) -> Answer
+pub fn booleans(op: u16, p: bool, q: bool) -> Answer
     ensures { λ r. ⌜ r ≡ booleansOf op p q ⌝ }
 {
     match op {
@@ -57,31 +57,13 @@ fn booleans(op: u16, p: bool, q: bool) -> Answer
     }
 }
 
-// A dyadic operator, both operands found.
-pub fn dyadic(op: u16, left: Value, right: Value) -> Answer
-    ensures { λ r. ⌜ r ≡ dyadicOf op left right ⌝ }
+// An operator on an INTEGER and a SET.
+pub fn membership(op: u16, x: i32, t: u32) -> Answer
+    ensures { λ r. ⌜ r ≡ membershipOf op x t ⌝ }
 {
-    match left {
-        Value::Bool(p) => {
-            let Value::Bool(q) = right else {
-                return Answer::Stuck;
-            };
-            booleans(op, p, q)
-        }
-        Value::Int(x) => match right {
-            Value::Bool(_) => Answer::Stuck,
-            Value::Int(y) => integers(op, x, y),
-            Value::Set(u) => match op {
-                15 => Answer::Val(Value::Bool(sets::member(x, u))),
-                _ => Answer::Stuck,
-            },
-        },
-        Value::Set(s) => {
-            let Value::Set(t) = right else {
-                return Answer::Stuck;
-            };
-            sets(op, s, t)
-        }
+    match op {
+        15 => Answer::Val(Value::Bool(sets::member(x, t))),
+        _ => Answer::Stuck,
     }
 }
 

@@ -9,8 +9,8 @@ use Rattle.values.specs.Values.{integerCell, setCell, cellOf, signedOf, constan
 use Rattle.kinds.specs.Kinds.{integersKind, setsKind, booleansKind, dyadicKind, monadicKind}
 use Rattle.integers.specs.Integers.{integerOf, divOf, modOf, dividedBy, arithmeticOf}
 use Rattle.sets.specs.Sets.{memberOf, elementsOf, rangeOf, complementOf}
-use Rattle.operators.specs.Operators.{compareOf, equalZ, integersOf, setsOf, booleansOf, dyadicOf, monadicOf, decides}
-use Rattle.operators.specs.Operators.{appliedTo}
+use Rattle.operators.specs.Operators.{compareOf, equalZ, integersOf, setsOf, booleansOf, membershipOf, dyadicOf}
+use Rattle.operators.specs.Operators.{monadicOf, decides, appliedTo}
 use Rattle.shapes.specs.Forms.{formOf, form, baseOf, countOf, ofBase, ownTypes}
 use Rattle.shapes.specs.Sizes.{sizeBy, sizeOf, layoutBy, layoutOf, fieldsBy, fieldsOf, offsetOf}
 use Rattle.shapes.specs.Shapes.{usedBelow, scalarKept, arrayKept, fieldKept, baseKept, recordKept, laterKept}
@@ -73,7 +73,7 @@ unfolding isInteger trapNumber integerOf divOf modOf dividedBy arithmeticOf comp
 integers = tt
 
 unfoldable pub operators : Unit {0}
-unfolding bind memberOf elementsOf complementOf setsOf booleansOf dyadicOf monadicOf decides appliedTo
+unfolding bind memberOf elementsOf complementOf setsOf booleansOf membershipOf dyadicOf monadicOf decides appliedTo
 operators = tt
 
 unfoldable pub values : Unit {0}
