@@ -7,6 +7,7 @@ use values::Value;
 ghost use mathlib.Core.Path.{_≡_};
 ghost use Prim.Native.Nat.{_+_, _*_, _<_, _≤_, _/_};
 ghost use lib.ListN.{length, getD};
+ghost use Rattle.operators.specs.Operators.{dyadicOf};
 ghost use Rattle.cases_values.specs.Cases.{halfAt, operandAt, wideAt, dyadicCase, monadicCase, cellCase};
 ghost use Rattle.cases_values.specs.Cases.{numberCase, answerOf, sameValue, sameAs, agrees as agreesOf};
 ghost use Rattle.cases_values.specs.Cases.{isGood, weightAt, counted};
@@ -46,6 +47,31 @@ fn wide_at(high: i32, b: u16, c: u16) -> i64
 
 // ---- what the crates answer
 
+// A dyadic operator, by its operands' kinds.
+fn dyadic(op: u16, left: Value, right: Value) -> Answer
+    ensures { λ r. ⌜ r ≡ dyadicOf op left right ⌝ }
+{
+    match left {
+        Value::Bool(p) => {
+            let Value::Bool(q) = right else {
+                return Answer::Stuck;
+            };
+            operators::booleans(op, p, q)
+        }
+        Value::Int(x) => match right {
+            Value::Bool(_) => Answer::Stuck,
+            Value::Int(y) => operators::integers(op, x, y),
+            Value::Set(t) => operators::membership(op, x, t),
+        },
+        Value::Set(s) => {
+            let Value::Set(t) = right else {
+                return Answer::Stuck;
+            };
+            operators::sets(op, s, t)
+        }
+    }
+}
+
 fn dyadic_case(s: &[u8]) -> Answer
     requires { ⌜ 17 ≤ length (now s) ⌝ }
     ensures { λ r. ⌜ r ≡ dyadicCase (now (s .entry)) ⌝ }
@@ -58,7 +84,7 @@ fn dyadic_case(s: &[u8]) -> Answer
     let Answer::Val(w) = right else {
         return right;
     };
-    operators::dyadic(byte_at(s, 1), v, w)
+    dyadic(byte_at(s, 1), v, w)
 }
 
 fn monadic_case(s: &[u8]) -> Answer
