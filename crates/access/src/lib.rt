@@ -7,6 +7,7 @@ use sizes::BOUNDS;
 use sizes::FIRSTS;
 use sizes::FRAMES;
 use sizes::GLOBALS;
+use sizes::NODES;
 use sizes::OWNERS;
 use sizes::PLACES;
 use sizes::RUN_PLAN;
@@ -16,7 +17,8 @@ ghost use lib.ListN.{length};
 ghost use Rattle.prelude.specs.Cells.{Filled};
 ghost use Rattle.image.specs.Rows.{rowAt, rowsOf};
 ghost use Rattle.shapes.specs.Sizes.{sizeOf};
-ghost use Rattle.sizes.specs.Cells.{OWNERS, RUN_PLAN};
+ghost use Rattle.sizes.specs.Cells.{OWNERS, NODES, RUN_PLAN};
+ghost use Rattle.types.specs.Plan.{Plan as TypesPlan};
 ghost use Rattle.relations.specs.Extends.{extends as extendsOf};
 ghost use Rattle.relations.specs.Fields.{fieldOf};
 ghost use Rattle.frames.specs.Procedures.{firstVariable};
@@ -25,7 +27,7 @@ ghost use Rattle.places.specs.Places.{frameSize};
 ghost use Rattle.checker.specs.Check.{checkOf};
 ghost use Rattle.semantics.specs.Layout.{placeOf};
 ghost use Rattle.semantics.specs.Running.{programOf, globalRoom};
-ghost use Rattle.access.specs.Ready.{tableOf, Planned, Ready, Opened};
+ghost use Rattle.access.specs.Ready.{tableOf, nodeCell, Checked, Planned, Ready, Opened};
 
 // The plan of a run, lent by a reference that is one number: docs/PLAN.md.
 pub type Plan = [u32; RUN_PLAN];
@@ -34,7 +36,7 @@ pub type Plan = [u32; RUN_PLAN];
 
 // Table k of the six, in their order.
 fn table<'a>(image: &'a [u8], plan: &[u32], k: usize) -> &'a [u8]
-    requires { ⌜ Planned (now image) (now plan) × (k < 6) ⌝ }
+    requires { ⌜ Checked (now image) (now plan) × (k < 6) ⌝ }
     ensures { λ x. ⌜ now x ≡ tableOf (programOf (now (image .entry))) k ⌝ }
 {
     let at = BOUNDS + 2 * k;
@@ -96,6 +98,10 @@ pub fn field(image: &&[u8], plan: &Plan, k: u32, r: u16) -> FieldAnswer
         (programOf (now (now (image .entry))) .fields) r
         (rowAt (programOf (now (now (image .entry))) .nodes) k .b) ⌝ }
 {
+    let cell = plan[NODES + k as usize];
+    if designators::record_in(cell) == r {
+        return FieldAnswer::Field(designators::offset_in(cell), designators::type_in(cell));
+    }
     let n = node_at(image, plan, k).b;
     relations::field(table(*image, plan, 0), table(*image, plan, 1), plan, r, n)
 }
@@ -168,6 +174,20 @@ fn fill_owners(p: &[u8], n: usize, plan: &mut [u32])
     }
 }
 
+// Writes what each node row designates.
+fn fill_nodes(image: &[u8], plan: &mut [u32])
+    requires { ⌜ Checked (now image) (now plan) × TypesPlan (programOf (now image) .types) (programOf (now image) .fields)
+        (rowsOf (programOf (now image) .types)) (now plan) ⌝ }
+    ensures { λ x. ⌜ Filled NODES (rowsOf (programOf (now (image .entry)) .nodes))
+        (nodeCell (programOf (now (image .entry)))) (now (plan .entry)) (now (plan .exit)) ⌝ }
+{
+    let t = table(image, plan, 0);
+    let f = table(image, plan, 1);
+    let v = table(image, plan, 2);
+    let n = table(image, plan, 4);
+    designators::fill(t, f, v, n, plan);
+}
+
 // The check, which leaves a whole plan of an image that it accepts.
 pub fn open_image(image: &[u8], plan: &mut [u32]) -> CheckAnswer
     requires { ⌜ RUN_PLAN ≤ length (now plan) ⌝ }
@@ -181,5 +201,6 @@ pub fn open_image(image: &[u8], plan: &mut [u32]) -> CheckAnswer
     let p = table(image, plan, 3);
     let n = image::rows_of(table(image, plan, 5));
     fill_owners(p, n, plan);
+    fill_nodes(image, plan);
     CheckAnswer::Accepted
 }
