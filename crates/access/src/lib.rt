@@ -7,9 +7,11 @@ use sizes::BOUNDS;
 use sizes::FIRSTS;
 use sizes::FRAMES;
 use sizes::GLOBALS;
+use sizes::LOWER;
 use sizes::OWNERS;
 use sizes::PLACES;
 use sizes::RUN_PLAN;
+use sizes::UPPER;
 ghost use mathlib.Core.Path.{_≡_};
 ghost use Prim.Native.Nat.{_≤_, _<_};
 ghost use lib.ListN.{length};
@@ -25,7 +27,7 @@ ghost use Rattle.places.specs.Places.{frameSize};
 ghost use Rattle.checker.specs.Check.{checkOf};
 ghost use Rattle.semantics.specs.Layout.{placeOf};
 ghost use Rattle.semantics.specs.Running.{programOf, globalRoom};
-ghost use Rattle.access.specs.Ready.{tableOf, Planned, Ready, Opened};
+ghost use Rattle.access.specs.Ready.{tableOf, Checked, Planned, Ready, Opened};
 
 // The plan of a run, lent by a reference that is one number: docs/PLAN.md.
 pub type Plan = [u32; RUN_PLAN];
@@ -34,7 +36,7 @@ pub type Plan = [u32; RUN_PLAN];
 
 // Table k of the six, in their order.
 fn table<'a>(image: &'a [u8], plan: &[u32], k: usize) -> &'a [u8]
-    requires { ⌜ Planned (now image) (now plan) × (k < 6) ⌝ }
+    requires { ⌜ Checked (now image) (now plan) × (k < 6) ⌝ }
     ensures { λ x. ⌜ now x ≡ tableOf (programOf (now (image .entry))) k ⌝ }
 {
     let at = BOUNDS + 2 * k;
@@ -85,7 +87,16 @@ pub fn extends(image: &&[u8], plan: &Plan, r: u16, u: u16) -> bool
     requires { ⌜ Planned (now (now image)) (now plan) ⌝ }
     ensures { λ x. ⌜ x ≡ extendsOf (programOf (now (now (image .entry))) .types) r u ⌝ }
 {
-    relations::extends(table(*image, plan, 0), r, u)
+    if 63 < r {
+        return r == u;
+    }
+    if u < 32 {
+        return ancestors::holds(plan[LOWER + r as usize], u);
+    }
+    if u < 64 {
+        return ancestors::holds(plan[UPPER + r as usize], u - 32);
+    }
+    false
 }
 
 // The field that node row k names, of an object of type row r.
@@ -180,6 +191,9 @@ pub fn open_image(image: &[u8], plan: &mut [u32]) -> CheckAnswer
     };
     let p = table(image, plan, 3);
     let n = image::rows_of(table(image, plan, 5));
+    let t = table(image, plan, 0);
     fill_owners(p, n, plan);
+    ancestors::fill(t, plan, LOWER, 0);
+    ancestors::fill(t, plan, UPPER, 32);
     CheckAnswer::Accepted
 }

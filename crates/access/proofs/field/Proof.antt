@@ -29,7 +29,7 @@ returns c =
     let node = c .before .before .before .before .before .before .before .before .node-at .ensures in
     let types = c .before .before .before .before .before .table .ensures in
     let fields = c .before .before .table2 .ensures in
-    c .field .ensures ∙ rw (types, fields, node) (s .pre .0 .field _ _)
+    c .field .ensures ∙ rw (types, fields, node) (s .pre .0 .checked .field _ _)
 
 pub field-spec : {M : Type 1} → statement M
 field-spec = tie.close (tie.spec node-at-requires table-requires table-requires-2 field-requires returns)
