@@ -10,7 +10,7 @@ use lib.ListN.{length, getD}
 use Rattle.prelude.specs.Cells.{Filled}
 use Rattle.image.specs.Rows.{rowAt, rowsOf}
 use Rattle.header.specs.Header.{tablesIn}
-use Rattle.sizes.specs.Cells.{PLACES, FRAMES, FIRSTS, GLOBALS, BOUNDS, OWNERS, NODES, RUN_PLAN}
+use Rattle.sizes.specs.Cells.{PLACES, FRAMES, FIRSTS, GLOBALS, BOUNDS, OWNERS, NODES, LOWER, UPPER, RUN_PLAN}
 use Rattle.types.specs.Plan.{Plan}
 use Rattle.relations.proofs.Fielding.{field-known}
 use Rattle.frames.specs.Variables.{isGlobal, globalsOf}
@@ -29,6 +29,7 @@ use Rattle.semantics.specs.Running.{programOf, globalRoom}
 use Rattle.semantics.specs.Sound.{Own}
 use Rattle.semantics.proofs.Demand3.{program-accepted}
 use Rattle.semantics.proofs.Objects.{global-kind, place-own, place-global}
+use Rattle.ancestors.specs.Ancestors.{wordOf}
 use Rattle.access.specs.Ready.{nodeCell, Checked, Ready, Opened, Opened.closed, Opened.opened}
 
 -- a variable behind the globals is a procedure's own
@@ -148,18 +149,28 @@ module _ (image old between plan : List ℕ) (room : RUN_PLAN ≤ length old) (a
       typed image old (left .between) room accepted (left .whole-plan) plan (cells ∙ left .filled .cells) low-same
       bounds-same
 
--- and the procedures of statements and what nodes designate with it
+-- and the procedures of statements, what nodes designate and what each type extends with it
 pub opened-ready : (image old plan : List ℕ) (x : CheckAnswer) → RUN_PLAN ≤ length old → x ≡ Accepted
     → checkOf image ≡ x → Opened image old x plan → Ready image plan
 opened-ready image old plan x room e check (closed p) = let z : _≡_ {A = ℕ} 0 1 = cc in absurd (omega arith)
-opened-ready image old plan x room e check (opened {between = between} p owners nodes) =
-    let few = program-accepted image check .counts .statements in
+opened-ready image old plan x room e check
+    (opened {between = between} {owned = first} {designated = second} p owners nodes lower upper) =
+    let few = program-accepted image check .counts in
+    let types-last : (i : ℕ) → i < LOWER → getD plan i 0 ≡ getD second i 0 =
+    λ i h. upper .below i (omega arith) ∙ lower .below i h in
+    let nodes-last : (i : ℕ) → i < NODES → getD plan i 0 ≡ getD first i 0 =
+    λ i h. types-last i (omega arith) ∙ nodes .below i h in
     let checked =
-    prepared-checked image old between plan room check p (nodes .cells ∙ owners .cells)
-    (λ i h. nodes .below i (omega arith) ∙ owners .below i h) in
+    prepared-checked image old between plan room check p (upper .cells ∙ lower .cells ∙ nodes .cells ∙ owners .cells)
+    (λ i h. nodes-last i (omega arith) ∙ owners .below i h) in
     record {
-      planned = record { checked = checked; node = nodes .cell };
-      owner = λ r h. nodes .below (OWNERS + r) (omega arith) ∙ owners .cell r h;
+      planned = record {
+        checked = checked;
+        node = λ r h. types-last (NODES + r) (omega (arith, few .nodes)) ∙ nodes .cell r h;
+        lower = λ r h. upper .below (LOWER + r) (omega arith) ∙ lower .cell r h;
+        upper = upper .cell;
+      };
+      owner = λ r h. nodes-last (OWNERS + r) (omega (arith, few .statements)) ∙ owners .cell r h;
     }
 
 -- ---- what `open_image` leaves
@@ -170,10 +181,12 @@ pub opened-no : (image old plan : List ℕ) (x : CheckAnswer) {q row : ℕ} → 
 opened-no image old plan x e p = rw e (closed (rw e at p))
 
 -- of an accepted one
-pub opened-yes : (image old between owned plan p : List ℕ) (n : ℕ) → Prepared image old Accepted between
-    → p ≡ programOf image .procedures → n ≡ rowsOf (programOf image .statements)
+pub opened-yes : (image old between owned designated half plan p t : List ℕ) (n : ℕ)
+    → Prepared image old Accepted between → p ≡ programOf image .procedures
+    → n ≡ rowsOf (programOf image .statements) → t ≡ programOf image .types
     → Filled OWNERS n (procedureAt p) between owned
-    → Filled NODES (rowsOf (programOf image .nodes)) (nodeCell (programOf image)) owned plan
+    → Filled NODES (rowsOf (programOf image .nodes)) (nodeCell (programOf image)) owned designated
+    → Filled LOWER 64 (wordOf t 0) designated half → Filled UPPER 64 (wordOf t 32) half plan
     → Opened image old Accepted plan
-opened-yes image old between owned plan p n left procedures rows owners nodes =
-    opened left (rw (procedures, rows) at owners) nodes
+opened-yes image old between owned designated half plan p t n left procedures rows types owners nodes lower upper =
+    opened left (rw (procedures, rows) at owners) nodes (rw types at lower) (rw types at upper)

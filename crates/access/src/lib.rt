@@ -7,10 +7,12 @@ use sizes::BOUNDS;
 use sizes::FIRSTS;
 use sizes::FRAMES;
 use sizes::GLOBALS;
+use sizes::LOWER;
 use sizes::NODES;
 use sizes::OWNERS;
 use sizes::PLACES;
 use sizes::RUN_PLAN;
+use sizes::UPPER;
 ghost use mathlib.Core.Path.{_≡_};
 ghost use Prim.Native.Nat.{_≤_, _<_};
 ghost use lib.ListN.{length};
@@ -87,7 +89,16 @@ pub fn extends(image: &&[u8], plan: &Plan, r: u16, u: u16) -> bool
     requires { ⌜ Planned (now (now image)) (now plan) ⌝ }
     ensures { λ x. ⌜ x ≡ extendsOf (programOf (now (now (image .entry))) .types) r u ⌝ }
 {
-    relations::extends(table(*image, plan, 0), r, u)
+    if 63 < r {
+        return r == u;
+    }
+    if u < 32 {
+        return ancestors::holds(plan[LOWER + r as usize], u);
+    }
+    if u < 64 {
+        return ancestors::holds(plan[UPPER + r as usize], u - 32);
+    }
+    false
 }
 
 // The field that node row k names, of an object of type row r.
@@ -200,7 +211,10 @@ pub fn open_image(image: &[u8], plan: &mut [u32]) -> CheckAnswer
     };
     let p = table(image, plan, 3);
     let n = image::rows_of(table(image, plan, 5));
+    let t = table(image, plan, 0);
     fill_owners(p, n, plan);
     fill_nodes(image, plan);
+    ancestors::fill(t, plan, LOWER, 0);
+    ancestors::fill(t, plan, UPPER, 32);
     CheckAnswer::Accepted
 }

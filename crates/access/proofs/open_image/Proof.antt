@@ -6,6 +6,7 @@ use Rattle.image.specs.Rows.{rowsOf}
 use Rattle.checker.specs.declared.CheckAnswer.the-variants.{Accepted}
 use Rattle.checker.specs.Check.{checkOf}
 use Rattle.checker.specs.Prepared.{Prepared}
+use Rattle.semantics.specs.Running.{programOf}
 use Rattle.semantics.proofs.Demand3.{program-accepted}
 use Rattle.access.specs.Ready.{tableOf, Checked}
 use Rattle.access.proofs.Opening.{prepared-checked, prepared-typed, opened-no, opened-yes}
@@ -17,6 +18,7 @@ use Rattle.access.proofs.open_image.Lts as lts
 use Rattle.access.proofs.fill_nodes.Reads as fill-nodes-reads
 use Rattle.access.proofs.fill_owners.Reads as fill-owners-reads
 use Rattle.access.proofs.table.Reads as table-reads
+use Rattle.ancestors.proofs.fill.Reads as fill-reads
 use Rattle.checker.proofs.prepare.Reads as prepare-reads
 use Rattle.image.proofs.rows_of.Reads as rows-of-reads
 
@@ -29,13 +31,25 @@ accepted c = let d = c .before .before .before .before in
     let e = c .enum-told .given .1 in
     (sym (d .prepare .ensures .0) ∙ e, rw e at (d .prepare .ensures .1))
 
--- .. and its plan is there
+-- .. its plan is there ..
 checked : (c : tie.After-enum-told) → let d = c .before .before .before .before in
     let s = d .before .before .before .before in
     Checked (now (s .args .image)) (d .prepare .last .1 .0)
 checked c = let s = c .before .before .before .before .before .before .before .before in
     let (check, left) = accepted c in
     prepared-checked _ _ _ _ (s .pre) check left refl (λ i h. refl)
+
+-- .. and these are its procedures, its statements' rows and its types
+tables : (c : tie.After-table3) → let n = c .before .before in
+    let p = n .before .before .before in
+    let s = p .before .before .before .before .before .before .before .before .before .before in
+    let program = programOf (now (s .args .image)) in
+    (now (p .table .result) ≡ program .procedures) × (n .rows-of .result ≡ rowsOf (program .statements))
+    × (now (c .table3 .result) ≡ program .types)
+unfolding tableOf choose
+tables c = let n = c .before .before in
+    let p = n .before .before .before in
+    (p .table .ensures, n .rows-of .ensures ∙ ap rowsOf (n .before .table2 .ensures), c .table3 .ensures)
 
 prepare-requires : tie.Need-prepare-requires
 prepare-requires c κs = search needs
@@ -62,17 +76,18 @@ table-requires-2 c κs = (checked (c .before .before .before), omega arith)
 rows-of-requires : tie.Need-rows-of-requires
 rows-of-requires c κs = search needs
 
+table-requires-3 : tie.Need-table-requires-3
+table-requires-3 c κs = (checked (c .before .before .before .before .before .before), omega arith)
+
 fill-owners-requires : tie.Need-fill-owners-requires
-unfolding tableOf choose
-fill-owners-requires c κs = let b = checked (c .before .before .before .before .before .before) in
-    let few = program-accepted _ (b .accepted) .counts in
-    let rows = c .before .rows-of .ensures ∙ ap rowsOf (c .before .before .table2 .ensures) in
-    let procedures = c .before .before .before .before .table .ensures in
-    (omega (arith, rows, few .statements), rw procedures (few .procedures), b .cells)
+fill-owners-requires c κs = let b = c .before .before .before .before .before .before .before .before in
+    let counts = program-accepted _ (accepted b .0) .counts in
+    let (procedures, rows, types) = tables (c .before) in
+    (omega (arith, rows, counts .statements), rw procedures (counts .procedures), checked b .cells)
 
 fill-nodes-requires : tie.Need-fill-nodes-requires
 fill-nodes-requires c κs = let o = c .before .before .before in
-    let e = o .before .before .before .before .before .before .before in
+    let e = o .before .before .before .before .before .before .before .before .before in
     let s = e .before .before .before .before .before .before .before .before in
     let (check, left) = accepted e in
     let owners = o .fill-owners .ensures in (
@@ -80,18 +95,43 @@ fill-nodes-requires c κs = let o = c .before .before .before in
       prepared-typed _ _ _ _ (s .pre) check left (owners .cells) (owners .below),
     )
 
+fill-requires : tie.Need-fill-requires
+fill-requires c κs = search needs
+
+fill-requires-2 : tie.Need-fill-requires-2
+fill-requires-2 c κs = let lower = c .before .before .before in
+    let nodes = lower .before .before .before .before in
+    let owners = nodes .before .before .before .before in
+    let b = checked (owners .before .before .before .before .before .before .before .before .before) in (
+      omega arith,
+      omega
+          (arith, lower .fill .ensures .cells, nodes .fill-nodes .ensures .cells, owners .fill-owners .ensures .cells, b .cells),
+    )
+
 same-length-2 : tie.Need-same-length-2
-same-length-2 c = search needs
+same-length-2 c = let upper = c .before .before in
+    let lower = upper .before .before .before .before in
+    let nodes = lower .before .before .before .before in
+    let owners = nodes .before .before .before .before in
+    let e = owners .before .before .before .before .before .before .before .before .before in
+    upper .fill2 .ensures .cells
+    ∙ lower .fill .ensures .cells
+    ∙ nodes .fill-nodes .ensures .cells
+    ∙ owners .fill-owners .ensures .cells
+    ∙ e .before .before .before .before .prepare .kept .1 .0
 
 returns-2 : tie.Need-returns-2
-unfolding tableOf choose
-returns-2 c = let d = c .before .before in
-    let o = d .before .before .before .before in
-    let n = o .before .before in
-    let rows = n .rows-of .ensures ∙ ap rowsOf (n .before .table2 .ensures) in
-    let procedures = n .before .before .before .table .ensures in
-    let (check, left) = accepted (n .before .before .before .before .before) in
-    (sym check, opened-yes _ _ _ _ _ _ _ left procedures rows (o .fill-owners .ensures) (d .fill-nodes .ensures))
+returns-2 c = let upper = c .before .before in
+    let lower = upper .before .before .before .before in
+    let nodes = lower .before .before .before .before in
+    let owners = nodes .before .before .before .before in
+    let t = owners .before .before in
+    let (check, left) = accepted (t .before .before .before .before .before .before .before) in
+    let (procedures, rows, types) = tables t in (
+      sym check,
+      opened-yes _ _ _ _ _ _ _ _ _ _ left procedures rows types (owners .fill-owners .ensures)
+          (nodes .fill-nodes .ensures) (lower .fill .ensures) (upper .fill2 .ensures),
+    )
 
 pub open-image-spec : {M : Type 1} → statement M
 open-image-spec =
@@ -105,7 +145,10 @@ open-image-spec =
     table-requires
     table-requires-2
     rows-of-requires
+    table-requires-3
     fill-owners-requires
     fill-nodes-requires
+    fill-requires
+    fill-requires-2
     same-length-2
     returns-2)
