@@ -47,7 +47,7 @@ module _ {image plan : List ℕ} (p : Planned image plan) where
   g = programOf image
 
   ok : AcceptedTables (g .types) (g .fields) (g .variables) (g .procedures) (g .nodes) (g .statements)
-  ok = program-accepted image (p .accepted)
+  ok = program-accepted image (p .checked .accepted)
 
   -- ---- types
 
@@ -65,7 +65,7 @@ module _ {image plan : List ℕ} (p : Planned image plan) where
           let other : rowAt (g .types) r .kind ≡ 4 → ⊥ =
           λ kind. absurd (h (row-there (g .types) r (omega arith))) in
           let none = planned-other (g .types) (g .fields) plan n r refl other in
-          let same : Missing ≡ Field offset x = sym none ∙ p .field r n ∙ e in
+          let same : Missing ≡ Field offset x = sym none ∙ p .checked .field r n ∙ e in
           let z : _≡_ {A = ℕ} 0 1 = cc in
           absurd (omega arith)
 

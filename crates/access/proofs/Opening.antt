@@ -10,7 +10,7 @@ use lib.ListN.{length, getD}
 use Rattle.prelude.specs.Cells.{Filled}
 use Rattle.image.specs.Rows.{rowAt, rowsOf}
 use Rattle.header.specs.Header.{tablesIn}
-use Rattle.sizes.specs.Cells.{PLACES, FRAMES, FIRSTS, GLOBALS, BOUNDS, OWNERS, RUN_PLAN}
+use Rattle.sizes.specs.Cells.{PLACES, FRAMES, FIRSTS, GLOBALS, BOUNDS, OWNERS, NODES, LOWER, UPPER, RUN_PLAN}
 use Rattle.types.specs.Plan.{Plan}
 use Rattle.relations.proofs.Fielding.{field-known}
 use Rattle.frames.specs.Variables.{isGlobal, globalsOf}
@@ -29,7 +29,8 @@ use Rattle.semantics.specs.Running.{programOf, globalRoom}
 use Rattle.semantics.specs.Sound.{Own}
 use Rattle.semantics.proofs.Demand3.{program-accepted}
 use Rattle.semantics.proofs.Objects.{global-kind, place-own, place-global}
-use Rattle.access.specs.Ready.{Planned, Ready, Opened, Opened.closed, Opened.opened}
+use Rattle.ancestors.specs.Ancestors.{wordOf}
+use Rattle.access.specs.Ready.{nodeCell, Checked, Ready, Opened, Opened.closed, Opened.opened}
 
 -- a variable behind the globals is a procedure's own
 owned : (v p : List ℕ) (a n : ℕ) → globalsOf v ≤ a → a < firstVariable v p n → (q : ℕ) × (q < n) × OwnRow v p q a
@@ -86,9 +87,9 @@ module _ (image old between : List ℕ) (room : RUN_PLAN ≤ length old) (accept
         plan-kept (g .types) (g .fields) (left .typed) plan types-same (ok .questions .types) (ok .counts .types)
         (ok .counts .fields) (left .planned)
 
-    whole-planned : Planned image plan
+    whole-checked : Checked image plan
     unfolding globalRoom
-    whole-planned =
+    whole-checked =
         let few = ok .counts in
         let many = few .variables in
         let procedures = few .procedures in
@@ -125,26 +126,51 @@ prepared-left image old plan x e (refused l) = let z : _≡_ {A = ℕ} 0 1 = cc 
 prepared-left image old plan x e (prepared {between = between} l filled) =
     record { between = between; whole-plan = leaves-whole refl l; filled = filled }
 
--- a plan that the check left with acceptance
-pub prepared-planned : (image old plan : List ℕ) → RUN_PLAN ≤ length old → checkOf image ≡ Accepted
-    → Prepared image old Accepted plan → Planned image plan
-prepared-planned image old plan room accepted p =
-    let l = prepared-left image old plan Accepted refl p in
-    whole-planned image old (l .between) room accepted (l .whole-plan) plan (l .filled .cells) (l .filled .below)
-    (l .filled .cell)
+-- what the check left with acceptance is there while only cells behind it are written
+module _ (image old between plan : List ℕ) (room : RUN_PLAN ≤ length old) (accepted : checkOf image ≡ Accepted)
+    (p : Prepared image old Accepted between) (cells : length plan ≡ length between)
+    (same : (i : ℕ) → i < OWNERS → getD plan i 0 ≡ getD between i 0) where
+  left : Left image old between
+  left = prepared-left image old between Accepted refl p
 
--- and the procedures of statements with it
+  low-same : (i : ℕ) → i < BOUNDS → getD plan i 0 ≡ getD (left .between) i 0
+  low-same i h = same i (omega arith) ∙ left .filled .below i h
+
+  bounds-same : (j : ℕ) → j < 12 → getD plan (BOUNDS + j) 0 ≡ boundOf (tablesIn image) j
+  bounds-same j h = same (BOUNDS + j) (omega arith) ∙ left .filled .cell j h
+
+  pub prepared-checked : Checked image plan
+  prepared-checked =
+      whole-checked image old (left .between) room accepted (left .whole-plan) plan (cells ∙ left .filled .cells) low-same
+      bounds-same
+
+  pub prepared-typed : Plan (programOf image .types) (programOf image .fields) (rowsOf (programOf image .types)) plan
+  prepared-typed =
+      typed image old (left .between) room accepted (left .whole-plan) plan (cells ∙ left .filled .cells) low-same
+      bounds-same
+
+-- and the procedures of statements, what nodes designate and what each type extends with it
 pub opened-ready : (image old plan : List ℕ) (x : CheckAnswer) → RUN_PLAN ≤ length old → x ≡ Accepted
     → checkOf image ≡ x → Opened image old x plan → Ready image plan
 opened-ready image old plan x room e check (closed p) = let z : _≡_ {A = ℕ} 0 1 = cc in absurd (omega arith)
-opened-ready image old plan x room e check (opened {between = between} p owners) =
-    let l = prepared-left image old between Accepted refl p in
+opened-ready image old plan x room e check
+    (opened {between = between} {owned = first} {designated = second} p owners nodes lower upper) =
+    let few = program-accepted image check .counts in
+    let types-last : (i : ℕ) → i < LOWER → getD plan i 0 ≡ getD second i 0 =
+    λ i h. upper .below i (omega arith) ∙ lower .below i h in
+    let nodes-last : (i : ℕ) → i < NODES → getD plan i 0 ≡ getD first i 0 =
+    λ i h. types-last i (omega arith) ∙ nodes .below i h in
+    let checked =
+    prepared-checked image old between plan room check p (upper .cells ∙ lower .cells ∙ nodes .cells ∙ owners .cells)
+    (λ i h. nodes-last i (omega arith) ∙ owners .below i h) in
     record {
-      planned = whole-planned image old (l .between) room check (l .whole-plan) plan
-          (owners .cells ∙ l .filled .cells)
-          (λ i h. owners .below i (omega arith) ∙ l .filled .below i h)
-          (λ j h. owners .below (BOUNDS + j) (omega arith) ∙ l .filled .cell j h);
-      owner = owners .cell;
+      planned = record {
+        checked = checked;
+        node = λ r h. types-last (NODES + r) (omega (arith, few .nodes)) ∙ nodes .cell r h;
+        lower = λ r h. upper .below (LOWER + r) (omega arith) ∙ lower .cell r h;
+        upper = upper .cell;
+      };
+      owner = λ r h. nodes-last (OWNERS + r) (omega (arith, few .statements)) ∙ owners .cell r h;
     }
 
 -- ---- what `open_image` leaves
@@ -155,7 +181,12 @@ pub opened-no : (image old plan : List ℕ) (x : CheckAnswer) {q row : ℕ} → 
 opened-no image old plan x e p = rw e (closed (rw e at p))
 
 -- of an accepted one
-pub opened-yes : (image old between plan p : List ℕ) (n : ℕ) → Prepared image old Accepted between
-    → p ≡ programOf image .procedures → n ≡ rowsOf (programOf image .statements)
-    → Filled OWNERS n (procedureAt p) between plan → Opened image old Accepted plan
-opened-yes image old between plan p n left procedures rows filled = opened left (rw (procedures, rows) at filled)
+pub opened-yes : (image old between owned designated half plan p t : List ℕ) (n : ℕ)
+    → Prepared image old Accepted between → p ≡ programOf image .procedures
+    → n ≡ rowsOf (programOf image .statements) → t ≡ programOf image .types
+    → Filled OWNERS n (procedureAt p) between owned
+    → Filled NODES (rowsOf (programOf image .nodes)) (nodeCell (programOf image)) owned designated
+    → Filled LOWER 64 (wordOf t 0) designated half → Filled UPPER 64 (wordOf t 32) half plan
+    → Opened image old Accepted plan
+opened-yes image old between owned designated half plan p t n left procedures rows types owners nodes lower upper =
+    opened left (rw (procedures, rows) at owners) nodes (rw types at lower) (rw types at upper)

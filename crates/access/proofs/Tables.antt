@@ -13,7 +13,7 @@ use Rattle.checker.specs.Prepared.{boundOf}
 use Rattle.checker.proofs.Accepted.{accepted-header}
 use Rattle.checker.proofs.Bounds.{bounds-fit}
 use Rattle.semantics.specs.Running.{programOf}
-use Rattle.access.specs.Ready.{tableOf, Planned}
+use Rattle.access.specs.Ready.{tableOf, Checked}
 
 -- a table is the part of the image from `start` to `end`
 pub record Stands (image : List ℕ) (start end : ℕ) (table : List ℕ) : Type 0 where
@@ -38,7 +38,7 @@ stands image fits (suc (suc (suc (suc zero)))) h = placed-stands (fits .nodes)
 stands image fits (suc (suc (suc (suc (suc zero))))) h = placed-stands (fits .statements)
 stands image fits (suc (suc (suc (suc (suc (suc k)))))) h = absurd (omega arith)
 
-module _ {image plan : List ℕ} (p : Planned image plan) (k : ℕ) (h : k < 6) where
+module _ {image plan : List ℕ} (p : Checked image plan) (k : ℕ) (h : k < 6) where
   fits : Fits image (tablesIn image)
   fits = header-fits image (tablesIn image) (accepted-header image (p .accepted))
 

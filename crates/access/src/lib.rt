@@ -7,16 +7,20 @@ use sizes::BOUNDS;
 use sizes::FIRSTS;
 use sizes::FRAMES;
 use sizes::GLOBALS;
+use sizes::LOWER;
+use sizes::NODES;
 use sizes::OWNERS;
 use sizes::PLACES;
 use sizes::RUN_PLAN;
+use sizes::UPPER;
 ghost use mathlib.Core.Path.{_≡_};
 ghost use Prim.Native.Nat.{_≤_, _<_};
 ghost use lib.ListN.{length};
 ghost use Rattle.prelude.specs.Cells.{Filled};
 ghost use Rattle.image.specs.Rows.{rowAt, rowsOf};
 ghost use Rattle.shapes.specs.Sizes.{sizeOf};
-ghost use Rattle.sizes.specs.Cells.{OWNERS, RUN_PLAN};
+ghost use Rattle.sizes.specs.Cells.{OWNERS, NODES, RUN_PLAN};
+ghost use Rattle.types.specs.Plan.{Plan as TypesPlan};
 ghost use Rattle.relations.specs.Extends.{extends as extendsOf};
 ghost use Rattle.relations.specs.Fields.{fieldOf};
 ghost use Rattle.frames.specs.Procedures.{firstVariable};
@@ -25,7 +29,7 @@ ghost use Rattle.places.specs.Places.{frameSize};
 ghost use Rattle.checker.specs.Check.{checkOf};
 ghost use Rattle.semantics.specs.Layout.{placeOf};
 ghost use Rattle.semantics.specs.Running.{programOf, globalRoom};
-ghost use Rattle.access.specs.Ready.{tableOf, Planned, Ready, Opened};
+ghost use Rattle.access.specs.Ready.{tableOf, nodeCell, Checked, Planned, Ready, Opened};
 
 // The plan of a run, lent by a reference that is one number: docs/PLAN.md.
 pub type Plan = [u32; RUN_PLAN];
@@ -34,7 +38,7 @@ pub type Plan = [u32; RUN_PLAN];
 
 // Table k of the six, in their order.
 fn table<'a>(image: &'a [u8], plan: &[u32], k: usize) -> &'a [u8]
-    requires { ⌜ Planned (now image) (now plan) × (k < 6) ⌝ }
+    requires { ⌜ Checked (now image) (now plan) × (k < 6) ⌝ }
     ensures { λ x. ⌜ now x ≡ tableOf (programOf (now (image .entry))) k ⌝ }
 {
     let at = BOUNDS + 2 * k;
@@ -85,7 +89,16 @@ pub fn extends(image: &&[u8], plan: &Plan, r: u16, u: u16) -> bool
     requires { ⌜ Planned (now (now image)) (now plan) ⌝ }
     ensures { λ x. ⌜ x ≡ extendsOf (programOf (now (now (image .entry))) .types) r u ⌝ }
 {
-    relations::extends(table(*image, plan, 0), r, u)
+    if 63 < r {
+        return r == u;
+    }
+    if u < 32 {
+        return ancestors::holds(plan[LOWER + r as usize], u);
+    }
+    if u < 64 {
+        return ancestors::holds(plan[UPPER + r as usize], u - 32);
+    }
+    false
 }
 
 // The field that node row k names, of an object of type row r.
@@ -96,6 +109,10 @@ pub fn field(image: &&[u8], plan: &Plan, k: u32, r: u16) -> FieldAnswer
         (programOf (now (now (image .entry))) .fields) r
         (rowAt (programOf (now (now (image .entry))) .nodes) k .b) ⌝ }
 {
+    let cell = plan[NODES + k as usize];
+    if designators::record_in(cell) == r {
+        return FieldAnswer::Field(designators::offset_in(cell), designators::type_in(cell));
+    }
     let n = node_at(image, plan, k).b;
     relations::field(table(*image, plan, 0), table(*image, plan, 1), plan, r, n)
 }
@@ -168,6 +185,20 @@ fn fill_owners(p: &[u8], n: usize, plan: &mut [u32])
     }
 }
 
+// Writes what each node row designates.
+fn fill_nodes(image: &[u8], plan: &mut [u32])
+    requires { ⌜ Checked (now image) (now plan) × TypesPlan (programOf (now image) .types) (programOf (now image) .fields)
+        (rowsOf (programOf (now image) .types)) (now plan) ⌝ }
+    ensures { λ x. ⌜ Filled NODES (rowsOf (programOf (now (image .entry)) .nodes))
+        (nodeCell (programOf (now (image .entry)))) (now (plan .entry)) (now (plan .exit)) ⌝ }
+{
+    let t = table(image, plan, 0);
+    let f = table(image, plan, 1);
+    let v = table(image, plan, 2);
+    let n = table(image, plan, 4);
+    designators::fill(t, f, v, n, plan);
+}
+
 // The check, which leaves a whole plan of an image that it accepts.
 pub fn open_image(image: &[u8], plan: &mut [u32]) -> CheckAnswer
     requires { ⌜ RUN_PLAN ≤ length (now plan) ⌝ }
@@ -180,6 +211,10 @@ pub fn open_image(image: &[u8], plan: &mut [u32]) -> CheckAnswer
     };
     let p = table(image, plan, 3);
     let n = image::rows_of(table(image, plan, 5));
+    let t = table(image, plan, 0);
     fill_owners(p, n, plan);
+    fill_nodes(image, plan);
+    ancestors::fill(t, plan, LOWER, 0);
+    ancestors::fill(t, plan, UPPER, 32);
     CheckAnswer::Accepted
 }

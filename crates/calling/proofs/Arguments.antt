@@ -182,7 +182,7 @@ module _ {image : List ℕ} {top a : ℕ} {cells : List ℤ} (roomy : Roomy imag
     -- room for a scalar
     pub value-room : (row .kind ≡ 3 → ⊥) → row .a ≤ 2 → top + (place + 1) ≤ length cells
     value-room other low =
-        let kept = program-accepted image (planned .accepted) .types in
+        let kept = program-accepted image (planned .checked .accepted) .types in
         rw (scalar-size (g .types) (g .fields) kept (row .a) low type-there) at (cells-room other)
 
 module _ (g : Program) (k : ℕ) (s : State ℤ) where

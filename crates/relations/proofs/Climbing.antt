@@ -21,13 +21,13 @@ use Rattle.sizes.specs.Cells.{INHERITED}
 
 -- what a base gives: nothing where there is none, or none below
 module _ {X : Type 0} (none : X) (g : ℕ → X) (r a : ℕ) where
-  up-none : a ≡ 0 → ofBase none (below none r g) a ≡ none
+  pub up-none : a ≡ 0 → ofBase none (below none r g) a ≡ none
   up-none e = of-no-base none (below none r g) a e
 
-  up-high : 0 < a → r ≤ a - 1 → ofBase none (below none r g) a ≡ none
+  pub up-high : 0 < a → r ≤ a - 1 → ofBase none (below none r g) a ≡ none
   up-high h l = of-base none (below none r g) a h ∙ below-high none r g (a - 1) l
 
-  up-low : 0 < a → a - 1 < r → ofBase none (below none r g) a ≡ g (a - 1)
+  pub up-low : 0 < a → a - 1 < r → ofBase none (below none r g) a ≡ g (a - 1)
   up-low h l = of-base none (below none r g) a h ∙ below-low none r g (a - 1) l
 
 -- ---- extension

@@ -3,10 +3,10 @@ use mathlib.Core.Path.{_≡_, refl, sym, _∙_}
 use mathlib.Core.Bool.{Bool, true, false}
 use mathlib.Core.List.{List, [], append-nil}
 use mathlib.Core.Logic.{⊎-elim}
-use Prim.Native.Nat.{ℕ, zero, suc, _<_}
+use Prim.Native.Nat.{ℕ, zero, suc, _≤_, _<_}
 use native.Mathlib.Omega.{arith}
 use native.Mathlib.Decide.{decLt}
-use borrow.Author.Tests.{eqb-true}
+use borrow.Author.Tests.{eqb-true, eqb-false}
 use lib.Dec.{eqb}
 use Rattle.prelude.specs.Choice.{choose}
 use Rattle.prelude.specs.Parts.{Part}
@@ -14,12 +14,14 @@ use Rattle.prelude.specs.Rec.{below}
 use Rattle.prelude.proofs.Choice.{choose-cases, clash}
 use Rattle.prelude.proofs.Parts.{part-part}
 use Rattle.prelude.proofs.Rec.{below-low, below-high}
-use Rattle.image.specs.Rows.{rowsOf}
+use Rattle.image.specs.Rows.{rowsOf, noRow}
+use Rattle.image.proofs.Bytes.{row-missing}
 use Rattle.shapes.specs.Forms.{form, baseOf, ofBase}
 use Rattle.shapes.specs.Sizes.{layoutOf, fieldsOf}
 use Rattle.relations.specs.Extends.{extendsTo, extends}
+use Rattle.shapes.proofs.Rows.{no-record}
 use Rattle.shapes.proofs.Accepted.{TypesKept, Begins, base-first}
-use Rattle.relations.proofs.Climbing.{extends-eq, extends-same}
+use Rattle.relations.proofs.Climbing.{extends-eq, extends-same, extends-none}
 
 -- "T extends U if T is U or T's base extends U", as a proof goes through it
 pub data Extends (t : List ℕ) : ℕ → ℕ → Type 0 where
@@ -69,6 +71,30 @@ trans (up base low h) k = up base low (trans h k)
 
 pub extends-trans : (t : List ℕ) (r u v : ℕ) → extends t r u ≡ true → extends t u v ≡ true → extends t r v ≡ true
 extends-trans t r u v a b = yes-extends (trans (extends-yes t r u a) (extends-yes t u v b))
+
+-- ---- rows that are not extended
+
+-- an extension stands in no lower row
+pub extended-low : {t : List ℕ} {r u : ℕ} → Extends t r u → u ≤ r
+extended-low same = omega arith
+extended-low (up base low e) = let rest = extended-low e in omega arith
+
+pub extends-later : (t : List ℕ) (r u : ℕ) → r < u → extends t r u ≡ false
+extends-later t r u h = go (extends t r u) refl
+  where
+    go : (b : Bool) → extends t r u ≡ b → b ≡ false
+    go true e = let low = extended-low (extends-yes t r u e) in absurd (omega arith)
+    go false e = refl
+
+-- a row that is not there extends itself alone
+pub extends-missing : (t : List ℕ) (r u : ℕ) → rowsOf t ≤ r → extends t r u ≡ eqb r u
+extends-missing t r u h = go (eqb r u) refl
+  where
+    go : (b : Bool) → eqb r u ≡ b → extends t r u ≡ b
+    go true e = extends-same t u r (eqb-true r u e)
+    go false e =
+        let none = no-record noRow (λ k. absurd (omega arith)) .0 in
+        extends-none t u r (eqb-false r u e) (sym (row-missing t r h)) (sym none) refl
 
 -- ---- an extension begins with what it extends
 

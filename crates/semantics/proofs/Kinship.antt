@@ -25,7 +25,7 @@ use Rattle.relations.specs.declared.FieldAnswer.{FieldAnswer}
 use Rattle.relations.specs.declared.FieldAnswer.the-variants.{Missing, Field}
 use Rattle.relations.specs.Extends.{extends}
 use Rattle.relations.specs.Fields.{fieldOf}
-use Rattle.relations.proofs.Extension.{Extends, Extends.same, Extends.up, extends-yes, extension-begins}
+use Rattle.relations.proofs.Extension.{Extends, Extends.same, Extends.up, extends-yes, extended-low, extension-begins}
 use Rattle.frames.specs.Variables.{isGlobal, globalsFrom, globalsOf}
 use Rattle.frames.proofs.Accepted.{VariableRow}
 use Rattle.values.specs.declared.Trap.the-variants as Ts
@@ -56,10 +56,6 @@ module _ {t f : List ℕ} {used r : ℕ} where
   shape-scalar layout h (is-record l on rows own) = absurd (omega arith)
 
 -- an extension stands in no lower row
-extended-low : {t : List ℕ} {r u : ℕ} → Extends t r u → u ≤ r
-extended-low same = omega arith
-extended-low (up base low e) = let rest = extended-low e in omega arith
-
 pub extends-low : (t : List ℕ) (r u : ℕ) → extends t r u ≡ true → u ≤ r
 extends-low t r u e = extended-low (extends-yes t r u e)
 

@@ -14,10 +14,10 @@ mul-result c = search needs
 
 element-copy-out-result : tie.Need-element-copy-out-result
 element-copy-out-result c = let s = c in
-    omega (arith, s .pre .0 .cells, procedures-few (s .pre .0), s .pre .1)
+    omega (arith, s .pre .0 .checked .cells, procedures-few (s .pre .0), s .pre .1)
 
 returns : tie.Need-returns
-returns c = let s = c .before in s .pre .0 .first _ (s .pre .1)
+returns c = let s = c .before in s .pre .0 .checked .first _ (s .pre .1)
 
 pub first-variable-spec : {M : Type 1} → statement M
 first-variable-spec = tie.close (tie.spec add-result mul-result element-copy-out-result returns)

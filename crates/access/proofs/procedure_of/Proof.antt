@@ -14,7 +14,7 @@ mul-result c = search needs
 
 element-copy-out-result : tie.Need-element-copy-out-result
 element-copy-out-result c = let s = c in
-    omega (arith, s .pre .0 .planned .cells, statements-few (s .pre .0 .planned), s .pre .1)
+    omega (arith, s .pre .0 .planned .checked .cells, statements-few (s .pre .0 .planned), s .pre .1)
 
 returns : tie.Need-returns
 returns c = let s = c .before in s .pre .0 .owner _ (s .pre .1)

@@ -11,10 +11,10 @@ mul-result c = search needs
 
 element-copy-out-result : tie.Need-element-copy-out-result
 element-copy-out-result c = let s = c in
-    omega (arith, s .pre .0 .cells, types-few (s .pre .0), s .pre .1)
+    omega (arith, s .pre .0 .checked .cells, types-few (s .pre .0), s .pre .1)
 
 returns : tie.Need-returns
-returns c = let s = c .before in s .pre .0 .size _ (s .pre .1)
+returns c = let s = c .before in s .pre .0 .checked .size _ (s .pre .1)
 
 pub size-of-spec : {M : Type 1} → statement M
 size-of-spec = tie.close (tie.spec mul-result element-copy-out-result returns)
