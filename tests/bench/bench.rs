@@ -1,7 +1,8 @@
-//! Compares the proved check, linked as libdoor.a, with the plain one of plain.rs.
+//! Compares the proved check, linked as libdoor.a, with the plain one of plain.rs, and where it is built with
+//! --cfg beside also with that of another such library, called beside_check (tests/bench/libraries).
 //!
-//! bench vectors DIR...       asks both about every image of the folders, and compares with the answers there
-//! bench time NAME=IMAGE...   times both on each image; prints a table
+//! bench vectors DIR...       asks all about every image of the folders, and compares with the answers there
+//! bench time NAME=IMAGE...   times all on each image; prints a table
 //!
 //! A folder of images has the answers in expect.txt (for each image a line with its name, then a line that begins with
 //! refusal and row), in runs.txt (a line each, whose third part between bars begins with them), or in answers.txt
@@ -12,15 +13,35 @@ use std::process::ExitCode;
 use std::time::Instant;
 
 mod plain;
+mod rounds;
+use rounds::{median, ratio};
 
-extern "C" {
-    fn door_check(image: *const u8, length: usize) -> u32;
+type Check = fn(&[u8]) -> u32;
+
+/// The first is compared with each of the others; the last is the plain one.
+const CHECKS: &[(&str, Check)] = &[
+    ("proved", proved),
+    #[cfg(beside)]
+    ("beside", beside),
+    ("plain", plain::check),
+];
+
+/// A library's check, by its name there.
+macro_rules! linked {
+    ($who:ident, $symbol:ident) => {
+        fn $who(image: &[u8]) -> u32 {
+            extern "C" {
+                fn $symbol(image: *const u8, length: usize) -> u32;
+            }
+            // SAFETY: the check reads `length` bytes from `image` on, and a slice has them.
+            unsafe { $symbol(image.as_ptr(), image.len()) }
+        }
+    };
 }
 
-fn proved(image: &[u8]) -> u32 {
-    // SAFETY: the check reads `length` bytes from `image` on, and a slice has them.
-    unsafe { door_check(image.as_ptr(), image.len()) }
-}
+linked!(proved, door_check);
+#[cfg(beside)]
+linked!(beside, beside_check);
 
 /// doorrun takes no more of its input as the image, and the answers in the folders are doorrun's.
 const LENT: usize = 29714;
@@ -50,7 +71,8 @@ fn main() -> ExitCode {
 }
 
 fn vectors(folders: &[String]) -> Result<bool, Failed> {
-    let (mut images, mut plain_same, mut proved_same) = (0, 0, 0);
+    let mut images = 0;
+    let mut same = vec![0; CHECKS.len()];
     for folder in folders {
         let folder = Path::new(folder);
         let answers = answers(folder)?;
@@ -64,9 +86,8 @@ fn vectors(folders: &[String]) -> Result<bool, Failed> {
             let image = std::fs::read(folder.join(&name))?;
             let image = &image[..image.len().min(LENT)];
             images += 1;
-            for (who, answer, same) in
-                [("plain", plain::check(image), &mut plain_same), ("proved", proved(image), &mut proved_same)]
-            {
+            for ((who, check), same) in CHECKS.iter().zip(&mut same) {
+                let answer = check(image);
                 if answer == expected {
                     *same += 1;
                 } else {
@@ -75,8 +96,10 @@ fn vectors(folders: &[String]) -> Result<bool, Failed> {
             }
         }
     }
-    println!("{images} images: plain {plain_same} the same, proved {proved_same} the same");
-    Ok(images > 0 && plain_same == images && proved_same == images)
+    let counts: Vec<String> =
+        CHECKS.iter().zip(&same).map(|((who, _), count)| format!("{who} {count} the same")).collect();
+    println!("{images} images: {}", counts.join(", "));
+    Ok(images > 0 && same.iter().all(|&count| count == images))
 }
 
 fn text(answer: u32) -> String {
@@ -120,63 +143,69 @@ fn answer(numbers: &str) -> Result<u32, Failed> {
 
 fn time(cases: &[String]) -> Result<bool, Failed> {
     let mut same = true;
-    println!("{:<22} {:>6} {:>8}   {:>21}   {:>21}   {:>6}", "", "", "", "proved", "plain", "");
-    println!(
-        "{:<22} {:>6} {:>8}   {:>10} {:>10}   {:>10} {:>10}   {:>6}",
-        "image", "bytes", "answer", "ns", "images/s", "ns", "images/s", "ratio"
-    );
+    heading();
     for case in cases {
         let (name, path) = case.split_once('=').ok_or("a case is NAME=IMAGE")?;
         let image = std::fs::read(path)?;
-        let answer = plain::check(&image);
-        if proved(&image) != answer {
-            println!("{name}: plain {}, proved {}", text(answer), text(proved(&image)));
+        let answers: Vec<u32> = CHECKS.iter().map(|(_, check)| check(&image)).collect();
+        if answers.iter().any(|answer| *answer != answers[0]) {
+            let told: Vec<String> =
+                CHECKS.iter().zip(&answers).map(|((who, _), answer)| format!("{who} {}", text(*answer))).collect();
+            println!("{name}: {}", told.join(", "));
             same = false;
             continue;
         }
-        let (by_proved, by_plain, ratio) = compare(&image);
-        println!(
-            "{name:<22} {:>6} {:>8}   {by_proved:>10.0} {:>10.0}   {by_plain:>10.0} {:>10.0}   {ratio:>6.2}",
-            image.len(),
-            text(answer),
-            1e9 / by_proved,
-            1e9 / by_plain
-        );
+        print!("{name:<22} {:>6} {:>8}", image.len(), text(answers[0]));
+        show(&compare(&image));
     }
-    println!("(medians of {ROUNDS} rounds, the two taking turns; ratio: the median of proved time / plain time)");
+    println!("(medians of {ROUNDS} rounds, all taking turns; ratios: medians of the rounds' time / time)");
     Ok(same)
 }
 
-/// Nanoseconds for one image, proved and plain, and the ratio of the two.
-fn compare(image: &[u8]) -> (f64, f64, f64) {
-    let once = timed(proved, image, 1).max(timed(plain::check, image, 1)).max(1.0);
-    let times = (ROUND_NANOSECONDS / once).clamp(1.0, 100_000.0) as usize;
-    let (mut by_proved, mut by_plain, mut ratios) = (Vec::new(), Vec::new(), Vec::new());
-    for round in 0..ROUNDS {
-        // either goes first every other round
-        let (first, second) = if round % 2 == 0 {
-            let a = timed(proved, image, times);
-            (a, timed(plain::check, image, times))
-        } else {
-            let b = timed(plain::check, image, times);
-            (timed(proved, image, times), b)
-        };
-        by_proved.push(first);
-        by_plain.push(second);
-        ratios.push(first / second);
+fn heading() {
+    print!("{:<22} {:>6} {:>8}", "", "", "");
+    for (who, _) in CHECKS {
+        print!("   {who:>21}");
     }
-    (median(by_proved), median(by_plain), median(ratios))
+    print!("\n{:<22} {:>6} {:>8}", "image", "bytes", "answer");
+    for _ in CHECKS {
+        print!("   {:>10} {:>10}", "ns", "images/s");
+    }
+    for (who, _) in &CHECKS[1..] {
+        print!("   {:>13}", format!("{}/{who}", CHECKS[0].0));
+    }
+    println!();
 }
 
-fn timed(check: impl Fn(&[u8]) -> u32, image: &[u8], times: usize) -> f64 {
+fn show(times: &[Vec<f64>]) {
+    for times in times {
+        let nanoseconds = median(times.clone());
+        print!("   {nanoseconds:>10.0} {:>10.0}", 1e9 / nanoseconds);
+    }
+    for others in &times[1..] {
+        print!("   {:>13.2}", ratio(&times[0], others));
+    }
+    println!();
+}
+
+/// Nanoseconds for one image in each round, by check.
+fn compare(image: &[u8]) -> Vec<Vec<f64>> {
+    let once = CHECKS.iter().map(|(_, check)| timed(*check, image, 1)).fold(1.0, f64::max);
+    let times = (ROUND_NANOSECONDS / once).clamp(1.0, 100_000.0) as usize;
+    let mut found = vec![Vec::new(); CHECKS.len()];
+    for round in 0..ROUNDS {
+        for turn in 0..CHECKS.len() {
+            let who = rounds::whose(round, turn, CHECKS.len());
+            found[who].push(timed(CHECKS[who].1, image, times));
+        }
+    }
+    found
+}
+
+fn timed(check: Check, image: &[u8], times: usize) -> f64 {
     let start = Instant::now();
     for _ in 0..times {
         black_box(check(black_box(image)));
     }
     start.elapsed().as_nanos() as f64 / times as f64
-}
-
-fn median(mut numbers: Vec<f64>) -> f64 {
-    numbers.sort_by(f64::total_cmp);
-    numbers[numbers.len() / 2]
 }

@@ -1,4 +1,5 @@
-//! Compares the proved run, linked as a static library, with the plain one of plain_run.rs, and both with Lua.
+//! Compares the proved run, linked as a static library, with that of another such library beside it, with the plain one
+//! of plain_run.rs, and with Lua.
 //!
 //! bench_run run-vectors DIR...   runs every image of the folders, and compares nine numbers, store and outputs with
 //!                                the answers there
@@ -8,8 +9,12 @@
 //!     --rounds N                 rounds (by default 9)
 //!     --lua LUA DIR              also times LUA on DIR/NAME.lua, where that does the work of NAME.img; the steps lent
 //!                                are then those that the script stands for
+//! bench_run count IMAGE...       counts the instructions of a step under valgrind; prints a table
+//! bench_run once ENGINE STEPS IMAGE
+//!                                one run, which is what valgrind is given: ENGINE is a column's name
 //!
-//! It links the library where it is built with --cfg proved; without, the plain run stands alone.
+//! It links the library where it is built with --cfg proved, and with --cfg beside also the other one, whose run is
+//! called beside_run (tests/bench/libraries); with neither, the plain run stands alone.
 use std::hint::black_box;
 use std::path::{Path, PathBuf};
 use std::process::{Command, ExitCode};
@@ -18,58 +23,78 @@ use std::process::{Command, ExitCode};
 mod numbers;
 mod plain;
 mod plain_run;
+mod rounds;
 use numbers::Numbers;
+use rounds::{median, ratio};
 
 type Failed = Box<dyn std::error::Error>;
 type Run = fn(&[u8], &[i32], &mut [i64], &mut [i32], u32) -> Numbers;
 
-#[cfg(proved)]
-const ENGINES: &[(&str, Run)] = &[("proved", proved), ("plain", plain_run::run)];
-#[cfg(not(proved))]
-const ENGINES: &[(&str, Run)] = &[("plain", plain_run::run)];
+/// The first is compared with each of the others.
+const ENGINES: &[(&str, Run)] = &[
+    #[cfg(proved)]
+    ("proved", proved),
+    #[cfg(beside)]
+    ("beside", beside),
+    ("plain", plain_run::run),
+];
 
-/// Where the plain run stands among the engines.
+/// Where the run of the other library stands among the engines, and the plain one.
+const BESIDE: Option<usize> = if cfg!(beside) { Some(1) } else { None };
 const PLAIN: usize = ENGINES.len() - 1;
 
+/// A library's run, by its name there.
 #[cfg(proved)]
-extern "C" {
-    fn door_run(
-        image: *const u8,
-        image_len: usize,
-        input: *const i32,
-        input_len: usize,
-        store: *mut i64,
-        store_len: usize,
-        output: *mut i32,
-        output_len: usize,
-        steps: u32,
-    ) -> Numbers;
+macro_rules! linked {
+    ($engine:ident, $symbol:ident) => {
+        fn $engine(image: &[u8], input: &[i32], store: &mut [i64], output: &mut [i32], steps: u32) -> Numbers {
+            extern "C" {
+                fn $symbol(
+                    image: *const u8,
+                    image_len: usize,
+                    input: *const i32,
+                    input_len: usize,
+                    store: *mut i64,
+                    store_len: usize,
+                    output: *mut i32,
+                    output_len: usize,
+                    steps: u32,
+                ) -> Numbers;
+            }
+            // SAFETY: each pointer comes with the length of its slice, and no two slices that are written overlap.
+            unsafe {
+                $symbol(
+                    image.as_ptr(),
+                    image.len(),
+                    input.as_ptr(),
+                    input.len(),
+                    store.as_mut_ptr(),
+                    store.len(),
+                    output.as_mut_ptr(),
+                    output.len(),
+                    steps,
+                )
+            }
+        }
+    };
 }
 
 #[cfg(proved)]
-fn proved(image: &[u8], input: &[i32], store: &mut [i64], output: &mut [i32], steps: u32) -> Numbers {
-    // SAFETY: each pointer comes with the length of its slice, and no two slices that are written overlap.
-    unsafe {
-        door_run(
-            image.as_ptr(),
-            image.len(),
-            input.as_ptr(),
-            input.len(),
-            store.as_mut_ptr(),
-            store.len(),
-            output.as_mut_ptr(),
-            output.len(),
-            steps,
-        )
-    }
-}
+linked!(proved, door_run);
+#[cfg(beside)]
+linked!(beside, beside_run);
+
+const USAGE: &str = "usage: bench_run run-vectors DIR... | bench_run time [OPTION...] IMAGE... | \
+                     bench_run count IMAGE... | bench_run once ENGINE STEPS IMAGE";
 
 fn main() -> ExitCode {
     let words: Vec<String> = std::env::args().skip(1).collect();
     let done = match words.split_first() {
         Some((mode, rest)) if mode == "run-vectors" && !rest.is_empty() => vectors(rest),
         Some((mode, rest)) if mode == "time" && !rest.is_empty() => time(rest),
-        _ => Err("usage: bench_run run-vectors DIR... | bench_run time [OPTION...] IMAGE...".into()),
+        Some((mode, rest)) if mode == "count" && !rest.is_empty() => count(rest),
+        Some((mode, [engine, steps, image])) if mode == "once" => once(engine, steps, image),
+        _ => Err(USAGE.into()),
     };
     match done {
         Ok(true) => ExitCode::SUCCESS,
@@ -174,7 +199,7 @@ fn vectors(folders: &[String]) -> Result<bool, Failed> {
             }
             whole.push((store, output));
             if whole[0] != whole[who] {
-                faults.push("store or outputs differ between the two".to_string());
+                faults.push(format!("store or outputs differ from those of {}", ENGINES[0].0));
             }
             for fault in &faults {
                 told += 1;
@@ -289,11 +314,16 @@ fn options(words: &[String]) -> Result<Options, Failed> {
     Ok(found)
 }
 
-/// Nanoseconds a step in each round, of one image: the engines', and Lua's where there is a script.
-struct Timed {
+/// What a step of one image costs in each round, by engine.
+struct Costs {
     name: String,
-    steps: u32,
     engines: Vec<Vec<f64>>,
+}
+
+/// In nanoseconds; also Lua's where there is a script.
+struct Timed {
+    steps: u32,
+    costs: Costs,
     lua: Option<Vec<f64>>,
 }
 
@@ -306,7 +336,7 @@ fn time(words: &[String]) -> Result<bool, Failed> {
         match timed(path, &options)? {
             Some(row) => {
                 show(&row);
-                rows.push(row);
+                rows.push(row.costs);
             }
             None => same = false,
         }
@@ -315,7 +345,7 @@ fn time(words: &[String]) -> Result<bool, Failed> {
         "(nanoseconds of the processor a step, best and median of {} rounds, all taking turns; ratios: medians)",
         options.rounds
     );
-    growth(&rows);
+    summary(&rows, "nanoseconds, best rounds");
     Ok(same)
 }
 
@@ -324,9 +354,7 @@ fn heading(options: &Options) {
     for (engine, _) in ENGINES {
         print!("   {engine:>7} {:>7}", "median");
     }
-    if ENGINES.len() > 1 {
-        print!("   {:>12}", "proved/plain");
-    }
+    ratio_heading();
     if options.lua.is_some() {
         print!("   {:>7} {:>7}   {:>10}", "Lua", "median", "plain/Lua");
         if ENGINES.len() > 1 {
@@ -337,24 +365,51 @@ fn heading(options: &Options) {
 }
 
 fn show(row: &Timed) {
-    print!("{:<18} {:>10}", row.name, row.steps);
-    for times in &row.engines {
+    let engines = &row.costs.engines;
+    print!("{:<18} {:>10}", row.costs.name, row.steps);
+    for times in engines {
         print!("   {:>7.1} {:>7.1}", best(times), median(times.clone()));
     }
-    if ENGINES.len() > 1 {
-        print!("   {:>12.2}", ratio(&row.engines[0], &row.engines[PLAIN]));
-    }
+    show_ratios(&row.costs);
     if let Some(lua) = &row.lua {
-        print!("   {:>7.1} {:>7.1}   {:>10.2}", best(lua), median(lua.clone()), ratio(&row.engines[PLAIN], lua));
+        print!("   {:>7.1} {:>7.1}   {:>10.2}", best(lua), median(lua.clone()), ratio(&engines[PLAIN], lua));
         if ENGINES.len() > 1 {
-            print!(" {:>10.2}", ratio(&row.engines[0], lua));
+            print!(" {:>10.2}", ratio(&engines[0], lua));
         }
     }
     println!();
 }
 
-/// Of a program and its -large twin: how much longer a step takes in the twin.
-fn growth(rows: &[Timed]) {
+fn ratio_heading() {
+    for (engine, _) in &ENGINES[1..] {
+        print!("   {:>13}", format!("{}/{engine}", ENGINES[0].0));
+    }
+}
+
+fn show_ratios(row: &Costs) {
+    for costs in &row.engines[1..] {
+        print!("   {:>13.2}", ratio(&row.engines[0], costs));
+    }
+}
+
+/// What stands below a table, whose numbers are of this unit.
+fn summary(rows: &[Costs], unit: &str) {
+    if let Some(beside) = BESIDE {
+        compared(rows, beside);
+    }
+    growth(rows, unit);
+}
+
+/// The ratios to one engine: their mean over the programs, and the largest.
+fn compared(rows: &[Costs], with: usize) {
+    let ratios = rows.iter().map(|row| (ratio(&row.engines[0], &row.engines[with]), &row.name));
+    let Some((largest, name)) = ratios.clone().max_by(|a, b| a.0.total_cmp(&b.0)) else { return };
+    let mean = ratios.map(|(ratio, _)| ratio).sum::<f64>() / rows.len() as f64;
+    println!("{}/{}: {mean:.3} in the mean, {largest:.3} at most ({name})", ENGINES[0].0, ENGINES[with].0);
+}
+
+/// Of a program and its -large twin: how much more a step costs in the twin.
+fn growth(rows: &[Costs], unit: &str) {
     for large in rows {
         let Some(name) = large.name.strip_suffix("-large") else { continue };
         let Some(small) = rows.iter().find(|row| row.name == name) else { continue };
@@ -362,13 +417,17 @@ fn growth(rows: &[Timed]) {
         for (who, (engine, _)) in ENGINES.iter().enumerate() {
             print!(" {engine} {:.2}", best(&large.engines[who]) / best(&small.engines[who]));
         }
-        println!(" (time for a step of {} / {name}, best rounds)", large.name);
+        println!(" (a step of {} / {name}, in {unit})", large.name);
     }
+}
+
+fn name_of(image: &Path) -> Result<String, Failed> {
+    Ok(image.file_stem().ok_or("an image without a name")?.to_string_lossy().into_owned())
 }
 
 /// Compares the answers of all, then times them; nothing where the answers differ.
 fn timed(path: &Path, options: &Options) -> Result<Option<Timed>, Failed> {
-    let name = path.file_stem().ok_or("an image without a name")?.to_string_lossy().into_owned();
+    let name = name_of(path)?;
     let image = std::fs::read(path)?;
     let script = options.lua.as_ref().filter(|(_, folder)| folder.join(format!("{name}.lua")).exists());
     let (steps, globals) = match script {
@@ -383,10 +442,11 @@ fn timed(path: &Path, options: &Options) -> Result<Option<Timed>, Failed> {
         let result = run(&image, &[], &mut store, &mut output, steps);
         answers.push((result, store, output));
     }
-    let (result, store, _) = &answers[PLAIN];
-    if answers[0] != answers[PLAIN] {
-        println!("{name}: proved {:?}, plain {:?}", answers[0].0.in_order(), result.in_order());
-        if answers[0].1 != answers[PLAIN].1 || answers[0].2 != answers[PLAIN].2 {
+    let (result, store, output) = &answers[PLAIN];
+    if let Some(who) = (0..PLAIN).find(|&who| answers[who] != answers[PLAIN]) {
+        let other = &answers[who];
+        println!("{name}: {} {:?}, plain {:?}", ENGINES[who].0, other.0.in_order(), result.in_order());
+        if other.1 != *store || other.2 != *output {
             println!("{name}: store or outputs differ");
         }
         return Ok(None);
@@ -399,21 +459,21 @@ fn timed(path: &Path, options: &Options) -> Result<Option<Timed>, Failed> {
         println!("{name}: after {steps} steps Lua has other globals: {globals:?}, not {:?}", &store[..globals.len()]);
         return Ok(None);
     }
-    let mut row = Timed { name, steps, engines: vec![Vec::new(); ENGINES.len()], lua: script.map(|_| Vec::new()) };
+    let costs = Costs { name, engines: vec![Vec::new(); ENGINES.len()] };
+    let mut row = Timed { steps, costs, lua: script.map(|_| Vec::new()) };
     let mut store = vec![0; CELLS];
     let mut places = vec![OUTPUT_FILL; PLACES];
     for round in 0..options.rounds {
         for turn in 0..ENGINES.len() {
-            // either goes first every other round
-            let who = (turn + round) % ENGINES.len();
+            let who = rounds::whose(round, turn, ENGINES.len());
             let start = processor_seconds();
             black_box(ENGINES[who].1(black_box(&image), &[], &mut store, &mut places, steps));
-            row.engines[who].push((processor_seconds() - start) * 1e9 / steps as f64);
+            row.costs.engines[who].push((processor_seconds() - start) * 1e9 / steps as f64);
         }
         if let (Some((lua, folder)), Some(times)) = (script, &mut row.lua) {
-            let (seconds, after) = by_lua(lua, folder, &row.name, "time")?;
+            let (seconds, after) = by_lua(lua, folder, &row.costs.name, "time")?;
             if after != globals {
-                return Err(format!("{}: Lua's globals differ from those that it counted with", row.name).into());
+                return Err(format!("{}: Lua's globals differ from those that it counted with", row.costs.name).into());
             }
             times.push(seconds * 1e9 / steps as f64);
         }
@@ -455,11 +515,64 @@ fn best(numbers: &[f64]) -> f64 {
     numbers.iter().copied().fold(f64::INFINITY, f64::min)
 }
 
-fn median(mut numbers: Vec<f64>) -> f64 {
-    numbers.sort_by(f64::total_cmp);
-    numbers[numbers.len() / 2]
+// ---- the instructions
+
+/// A step's instructions are the difference between runs of so many steps: start and check are in both.
+const COUNTED: [u32; 2] = [20_000, 120_000];
+
+fn count(images: &[String]) -> Result<bool, Failed> {
+    let mut rows = Vec::new();
+    print!("{:<18}", "program");
+    for (engine, _) in ENGINES {
+        print!("   {engine:>7}");
+    }
+    ratio_heading();
+    println!();
+    for image in images {
+        let row = counted(Path::new(image))?;
+        print!("{:<18}", row.name);
+        for counts in &row.engines {
+            print!("   {:>7.1}", best(counts));
+        }
+        show_ratios(&row);
+        println!();
+        rows.push(row);
+    }
+    println!("(instructions a step, of steps {} to {}, counted by valgrind)", COUNTED[0], COUNTED[1]);
+    summary(&rows, "instructions");
+    Ok(true)
 }
 
-fn ratio(a: &[f64], b: &[f64]) -> f64 {
-    median(a.iter().zip(b).map(|(a, b)| a / b).collect())
+fn counted(image: &Path) -> Result<Costs, Failed> {
+    let mut engines = Vec::new();
+    for (engine, _) in ENGINES {
+        let [few, many] = COUNTED.map(|steps| by_valgrind(engine, steps, image));
+        engines.push(vec![(many? - few?) / f64::from(COUNTED[1] - COUNTED[0])]);
+    }
+    Ok(Costs { name: name_of(image)?, engines })
+}
+
+/// Instructions of a process that runs once. Callgrind counts as many as single steps do; cachegrind and lackey count
+/// up to one percent more.
+fn by_valgrind(engine: &str, steps: u32, image: &Path) -> Result<f64, Failed> {
+    let done = Command::new("valgrind")
+        .args(["--tool=callgrind", "--callgrind-out-file=/dev/null"])
+        .arg(std::env::current_exe()?)
+        .args(["once", engine, &steps.to_string()])
+        .arg(image)
+        .output()?;
+    let said = String::from_utf8_lossy(&done.stderr);
+    let counted = said.lines().find_map(|line| line.split_once("refs:")).filter(|_| done.status.success());
+    let (_, number) = counted.ok_or(format!("valgrind: {said}"))?;
+    Ok(number.replace(',', "").trim().parse()?)
+}
+
+fn once(engine: &str, steps: &str, image: &str) -> Result<bool, Failed> {
+    let (_, run) = ENGINES.iter().find(|(name, _)| *name == engine).ok_or(format!("there is no engine {engine}"))?;
+    let steps = steps.parse()?;
+    let result = run(&std::fs::read(image)?, &[], &mut vec![0; CELLS], &mut vec![OUTPUT_FILL; PLACES], steps);
+    if result.refusal != 0 || result.steps != steps {
+        return Err(format!("{image}: it does not take {steps} steps: {:?}", result.in_order()).into());
+    }
+    Ok(true)
 }
