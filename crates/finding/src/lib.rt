@@ -367,14 +367,14 @@ pub fn eval(image: &&[u8], plan: &Plan, store: &&[i64], base: u32, top: u32, r: 
                 }
                 Value::Int(i) => match y {
                     Value::Bool(_) => Answer::Stuck,
-                    Value::Int(j) => fresh(operators::integers(c, i, j)),
+                    Value::Int(j) => operators::integers(c, i, j),
                     Value::Set(u) => operators::membership(c, i, u),
                 },
                 Value::Set(s) => {
                     let Value::Set(t) = y else {
                         return Answer::Stuck;
                     };
-                    fresh(operators::sets(c, s, t))
+                    operators::sets(c, s, t)
                 }
             }
         }

@@ -288,14 +288,14 @@ module _ (t : ℕ) where
   at-operands c = at-right (c .before .before .before) ∙ bind-value (c .before .right .given .1) _
 
   -- a monadic operator, and an argument
-  at-operand : (c : eval-lts.After-fresh10 (eval-claims t) (eval-at t) eval.Post) →
+  at-operand : (c : eval-lts.After-fresh8 (eval-claims t) (eval-at t) eval.Post) →
       let m = c .before .before .before .before in
-      (row m .kind ≡ 8 → ⊥) → worth m ≡ bind (c .fresh10 .result) (λ operand. monadicOf (row m .c) operand)
+      (row m .kind ≡ 8 → ⊥) → worth m ≡ bind (c .fresh8 .result) (λ operand. monadicOf (row m .c) operand)
   unfolding meaningBy choose
   at-operand c n =
       let m = c .before .before .before .before in
       at-row m 6 (⊎-elim (λ e. e) (λ e. absurd (n e)) (c .before .before .before .match .keys7))
-      ∙ rw (eval-lower _ _ _ _ _ _ _ (c .before .before .if8 .left) (c .fresh10 .ensures ∙ c .before .eval4 .ensures))
+      ∙ rw (eval-lower _ _ _ _ _ _ _ (c .before .before .if8 .left) (c .fresh8 .ensures ∙ c .before .eval4 .ensures))
 
   -- a test
   at-tested : (c : eval-lts.After-variable-place3 (eval-claims t) (eval-at t) eval.Post) →
@@ -578,9 +578,6 @@ eval-enum-known-y-2 t c = search needs
 eval-integers-requires : (t : ℕ) → eval-lts.Need-integers-requires (eval-claims t) (eval-at t) eval.Post
 eval-integers-requires t c κs = search needs
 
-eval-fresh-requires-8 : (t : ℕ) → eval-lts.Need-fresh-requires-8 (eval-claims t) (eval-at t) eval.Post
-eval-fresh-requires-8 t c κs = search needs
-
 eval-enum-known-y-3 : (t : ℕ) → eval-lts.Need-enum-known-y-3 (eval-claims t) (eval-at t) eval.Post
 eval-enum-known-y-3 t c = search needs
 
@@ -601,9 +598,6 @@ eval-returns-20 t c =
 eval-sets-requires : (t : ℕ) → eval-lts.Need-sets-requires (eval-claims t) (eval-at t) eval.Post
 eval-sets-requires t c κs = search needs
 
-eval-fresh-requires-9 : (t : ℕ) → eval-lts.Need-fresh-requires-9 (eval-claims t) (eval-at t) eval.Post
-eval-fresh-requires-9 t c κs = search needs
-
 eval-returns-21 : (t : ℕ) → eval-lts.Need-returns-21 (eval-claims t) (eval-at t) eval.Post
 unfolding meaningBy choose bind
 eval-returns-21 t c =
@@ -614,8 +608,8 @@ eval-returns-21 t c =
 eval-eval-requires-4 : (t : ℕ) → eval-lts.Need-eval-requires-4 (eval-claims t) (eval-at t) eval.Post
 eval-eval-requires-4 t c κs = search needs
 
-eval-fresh-requires-10 : (t : ℕ) → eval-lts.Need-fresh-requires-10 (eval-claims t) (eval-at t) eval.Post
-eval-fresh-requires-10 t c κs = search needs
+eval-fresh-requires-8 : (t : ℕ) → eval-lts.Need-fresh-requires-8 (eval-claims t) (eval-at t) eval.Post
+eval-fresh-requires-8 t c κs = search needs
 
 eval-returns-22 : (t : ℕ) → eval-lts.Need-returns-22 (eval-claims t) (eval-at t) eval.Post
 unfolding meaningBy choose
@@ -623,7 +617,7 @@ eval-returns-22 t c =
     sym
     (at-row t (c .before .before .before .before .before) 8 (c .if9 .taken)
     ∙ eval-lower _ _ _ _ _ _ _ (c .before .before .before .if8 .left)
-    (c .before .fresh10 .ensures ∙ c .before .before .eval4 .ensures))
+    (c .before .fresh8 .ensures ∙ c .before .before .eval4 .ensures))
 
 eval-enum-known-operand : (t : ℕ) → eval-lts.Need-enum-known-operand (eval-claims t) (eval-at t) eval.Post
 eval-enum-known-operand t c = search needs
@@ -634,8 +628,8 @@ eval-returns-23 t c = sym (at-operand t (c .before .before) (c .before .if9 .lef
 eval-monadic-requires : (t : ℕ) → eval-lts.Need-monadic-requires (eval-claims t) (eval-at t) eval.Post
 eval-monadic-requires t c κs = search needs
 
-eval-fresh-requires-11 : (t : ℕ) → eval-lts.Need-fresh-requires-11 (eval-claims t) (eval-at t) eval.Post
-eval-fresh-requires-11 t c κs = search needs
+eval-fresh-requires-9 : (t : ℕ) → eval-lts.Need-fresh-requires-9 (eval-claims t) (eval-at t) eval.Post
+eval-fresh-requires-9 t c κs = search needs
 
 eval-variable-place-requires-3 : (t : ℕ) → eval-lts.Need-variable-place-requires-3 (eval-claims t) (eval-at t) eval.Post
 eval-variable-place-requires-3 t c κs = search needs
@@ -691,10 +685,10 @@ eval-returns-31 t c =
 eval-returns-32 : (t : ℕ) → eval-lts.Need-returns-32 (eval-claims t) (eval-at t) eval.Post
 unfolding dyadicOf
 eval-returns-32 t c =
-    let v = c .before .before .before .before .before .before .x2 .given in
-    let w = c .before .before .before .y2 .given in
-    c .fresh8 .ensures ∙ c .before .integers .ensures
-    ∙ sym (at-operands t (c .before .before .before .before .before .before .before .before)
+    let v = c .before .before .before .before .before .x2 .given in
+    let w = c .before .before .y2 .given in
+    c .integers .ensures
+    ∙ sym (at-operands t (c .before .before .before .before .before .before .before)
     ∙ rw (v .1, w .1, plain32 (v .0 .0) (search needs), plain32 (w .0 .0) (search needs)))
 
 eval-returns-33 : (t : ℕ) → eval-lts.Need-returns-33 (eval-claims t) (eval-at t) eval.Post
@@ -708,12 +702,12 @@ eval-returns-33 t c =
 eval-returns-34 : (t : ℕ) → eval-lts.Need-returns-34 (eval-claims t) (eval-at t) eval.Post
 unfolding dyadicOf
 eval-returns-34 t c =
-    c .fresh9 .ensures ∙ c .before .sets .ensures
-    ∙ sym (at-operands t (c .before .before .before .before .before .before .before .before) ∙ rw (c .before .before .before .before .before .before .x3 .given .1, c .before .before .before .y4 .given .1))
+    c .sets .ensures
+    ∙ sym (at-operands t (c .before .before .before .before .before .before .before) ∙ rw (c .before .before .before .before .before .x3 .given .1, c .before .before .y4 .given .1))
 
 eval-returns-35 : (t : ℕ) → eval-lts.Need-returns-35 (eval-claims t) (eval-at t) eval.Post
 eval-returns-35 t c =
-    c .fresh11 .ensures ∙ c .before .monadic .ensures
+    c .fresh9 .ensures ∙ c .before .monadic .ensures
     ∙ sym (at-operand t (c .before .before .before .before .before .before) (c .before .before .before .before .before .if9 .left) ∙ bind-value (c .before .before .before .operand .given .1) _)
 
 eval-returns-36 : (t : ℕ) → eval-lts.Need-returns-36 (eval-claims t) (eval-at t) eval.Post
@@ -1098,22 +1092,20 @@ pub +eval+find-spec : {M : Type 1} → statement M
     (eval-enum-told t)
     (eval-enum-known-y-2 t)
     (eval-integers-requires t)
-    (eval-fresh-requires-8 t)
     (eval-enum-known-y-3 t)
     (eval-membership-requires t)
     (eval-enum-known-x-3 t)
     (eval-enum-known-y-4 t)
     (eval-returns-20 t)
     (eval-sets-requires t)
-    (eval-fresh-requires-9 t)
     (eval-returns-21 t)
     (eval-eval-requires-4 t)
-    (eval-fresh-requires-10 t)
+    (eval-fresh-requires-8 t)
     (eval-returns-22 t)
     (eval-enum-known-operand t)
     (eval-returns-23 t)
     (eval-monadic-requires t)
-    (eval-fresh-requires-11 t)
+    (eval-fresh-requires-9 t)
     (eval-variable-place-requires-3 t)
     (eval-enum-known-tested t)
     (eval-no-value-requires-8 t)
