@@ -38,8 +38,8 @@ claims = (
 
 -- once the store is checked, the new frame fits it
 room : (c : lts.After-first-variable claims reads.Pre reads.Post) →
-    let s = c .before .before .before .before .before .before .args in
-    let g : Program = programOf (s .image .now) in
+    let s = c .before .before .before .before .args in
+    let g : Program = programOf (s .image .now .now) in
     s .s .top + frameSize (g .types) (g .fields) (g .variables) (g .procedures) (s .statement .a)
     ≤ length (s .store .now)
 room c = rw (← c .before .before .before .frame-size .ensures) (c .before .before .if1 .left)
@@ -49,7 +49,7 @@ frame-size-requires c κs = search needs
 
 add-end : tie.Need-add-end
 add-end c =
-    let s = c .before .before .before in
+    let s = c .before in
     let low = frame-low (s .pre .0 .planned) (s .args .statement .a) (s .pre .2) in
     record { fits = omega (arith, c .frame-size .ensures, low, s .pre .1 .top, s .pre .1 .few) }
 
@@ -58,8 +58,8 @@ cast-if1 c = search needs
 
 returns : tie.Need-returns
 returns c = λ output.
-    let s = c .before .before .before .before in
-    shows-beyond (programOf (s .args .image .now)) (s .args .statement) (s .args .s) (s .args .store .now) output
+    let s = c .before .before in
+    shows-beyond (programOf (s .args .image .now .now)) (s .args .statement) (s .args .s) (s .args .store .now) output
     (rw (← c .before .frame-size .ensures) (c .if1 .taken))
 
 procedure-at-requires : tie.Need-procedure-at-requires
@@ -77,7 +77,7 @@ cast-pass-all-2 c = search needs
 pass-all-requires : tie.Need-pass-all-requires
 pass-all-requires c κs =
     let at = c .before in
-    let s = at .before .before .before .before .before .before in
+    let s = at .before .before .before .before in
     let row = at .before .procedure-at in
     let begin = at .first-variable in (
       s .pre .0,
@@ -100,17 +100,17 @@ same-length c = search needs
 returns-2 : tie.Need-returns-2
 returns-2 c = λ output.
     let at = c .before .before .before .before .before in
-    let s = at .before .before .before .before .before .before in
+    let s = at .before .before .before .before in
     let row = at .before .procedure-at .ensures in
-    let ended = call-ended (programOf (s .args .image .now)) (s .args .statement) (s .args .s) (s .args .store .now)
-    output (room at) _ row _ (at .first-variable .ensures) (c .before .match .keys2)
+    let ended = call-ended (programOf (s .args .image .now .now)) (s .args .statement) (s .args .s)
+    (s .args .store .now) output (room at) _ row _ (at .first-variable .ensures) (c .before .match .keys2)
     (c .before .before .before .pass-all .ensures output) in
     rw (c .ended-by .ensures) ended
 
 enter-requires : tie.Need-enter-requires
 enter-requires c κs =
     let at = c .before .before .before .before .before .before in
-    let s = at .before .before .before .before .before .before in
+    let s = at .before .before .before .before in
     let many = c .before .before .before .before .pass-all .kept .1 .1 .0 in
     (s .pre .0, stands-kept (s .pre .1) many, s .pre .2, s .pre .3, rw many (room at))
 
@@ -120,11 +120,11 @@ same-length-2 c = search needs
 returns-3 : tie.Need-returns-3
 returns-3 c = λ output.
     let at = c .before .before .before .before .before .before .before .before in
-    let s = at .before .before .before .before .before .before in
+    let s = at .before .before .before .before in
     let row = at .before .procedure-at .ensures in
     let all = c .before .before .before .before .before .before .pass-all in
     let passes = rw (c .before .before .before .enum-told .given .1) at (all .ensures output) in
-    call-entered (programOf (s .args .image .now)) (s .args .statement) (s .args .s) (s .args .store .now)
+    call-entered (programOf (s .args .image .now .now)) (s .args .statement) (s .args .s) (s .args .store .now)
     output (room at) _ row _ (at .first-variable .ensures) passes (c .before .enter .ensures output)
 
 pub call-spec : {M : Type 1} → statement M

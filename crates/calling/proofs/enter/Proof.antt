@@ -43,9 +43,9 @@ part-write-frame-end c = search needs
 
 write-frame-requires : tie.Need-write-frame-requires
 write-frame-requires c κs =
-    let s = c .before .before .before .before .before .before .before in
+    let s = c .before .before .before .before .before in
     rw (c .before .before .before .frame-size .ensures, c .before .before .locals-place .ensures)
-    (frame-within (programOf (s .args .image .now)) (s .args .q) (s .args .s) (s .args .store .now)
+    (frame-within (programOf (s .args .image .now .now)) (s .args .q) (s .args .s) (s .args .store .now)
     (s .pre .4) (s .pre .1 .few))
 
 cast-t25 : tie.Need-cast-t25
@@ -56,14 +56,14 @@ same-length c = search needs
 
 returns : tie.Need-returns
 returns c = λ output.
-    let s = c .before .before .before .before .before .before .before .before .before in
+    let s = c .before .before .before .before .before .before .before in
     let size = c .before .before .before .before .before .frame-size .ensures in
     let past = c .before .before .before .before .locals-place .ensures in
     let caller = c .before .before .before .procedure-of .ensures in
     let row = c .before .before .before .before .before .before .procedure-at in
     let low : row .result .a ≤ 65536 = search needs in
     let wrote = rw (past, size, caller) at (c .before .write-frame .ensures) in
-    rw size (shows-entered (programOf (s .args .image .now)) (s .args .q) (s .args .s) (s .args .store .now)
+    rw size (shows-entered (programOf (s .args .image .now .now)) (s .args .q) (s .args .s) (s .args .store .now)
     (s .pre .4) (s .pre .1 .few) _ wrote _ (ap (λ (r : Row). r .a) (row .ensures)) low output)
 
 pub enter-spec : {M : Type 1} → statement M

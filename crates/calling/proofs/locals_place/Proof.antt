@@ -13,7 +13,7 @@ frame-size-requires c κs = search needs
 
 returns : tie.Need-returns
 returns c =
-    let s = c .before .before .before .before .before in
+    let s = c .before .before .before in
     let at = c .before .before .procedure-at in
     c .frame-size .ensures ∙ past-end (s .pre .0 .planned) _ (s .pre .1) _ (at .ensures) (c .before .if1 .taken)
 
@@ -25,7 +25,7 @@ cast-place-of c = search needs
 
 add-place-of : tie.Need-add-place-of
 add-place-of c =
-    let s = c .before .before .before .before .before in
+    let s = c .before .before .before in
     let at = c .before .before .procedure-at in
     record {
       fits =
@@ -35,7 +35,7 @@ add-place-of c =
 
 place-of-requires : tie.Need-place-of-requires
 place-of-requires c κs =
-    let s = c .before .before .before .before .before in
+    let s = c .before .before .before in
     let at = c .before .before .procedure-at in (
       s .pre .0 .planned,
       local-there (s .pre .0 .planned) _ (s .pre .1) _ (at .ensures) (c .before .if1 .left) _
@@ -44,7 +44,7 @@ place-of-requires c κs =
 
 returns-2 : tie.Need-returns-2
 returns-2 c =
-    let s = c .before .before .before .before .before .before in
+    let s = c .before .before .before .before in
     let at = c .before .before .before .procedure-at in
     c .place-of .ensures
     ∙ local-place (s .pre .0 .planned) _ (s .pre .1) _ (at .ensures) (c .before .before .if1 .left) _

@@ -14,7 +14,7 @@ place-of-requires c κs = search needs
 pass-object-requires : tie.Need-pass-object-requires
 pass-object-requires c κs =
     let q = c .before .before .before in
-    let first = q .before .before .before in
+    let first = q .before in
     let at = c .before .before .place-of .ensures in
     (first .pre .0, first .pre .1, object-room (first .pre .2) (q .variable-at .ensures) at (c .before .if1 .taken))
 
@@ -27,13 +27,13 @@ returns c =
     let at = c .before .before .before .before .place-of .ensures in
     let kind = c .before .before .before .if1 .taken in
     λ output.
-    as-object _ _ _ (q .before .before .before .args .a) (q .variable-at .ensures) at kind
+    as-object _ _ _ (q .before .args .a) (q .variable-at .ensures) at kind
     (c .before .pass-object .ensures output)
 
 pass-value-requires : tie.Need-pass-value-requires
 pass-value-requires c κs =
     let q = c .before .before .before .before in
-    let first = q .before .before .before in
+    let first = q .before in
     let at = c .before .before .before .place-of .ensures in
     let room = value-room (first .pre .2) (q .variable-at .ensures) at (first .pre .0 .planned) in
     (first .pre .0, first .pre .1, room (c .before .before .if1 .left) (c .before .if2 .taken))
@@ -47,14 +47,14 @@ returns-2 c =
     let at = c .before .before .before .before .before .place-of .ensures in
     let kind = c .before .before .before .before .if1 .left in
     λ output.
-    as-value _ _ _ (q .before .before .before .args .a) (q .variable-at .ensures) at kind
+    as-value _ _ _ (q .before .args .a) (q .variable-at .ensures) at kind
     (c .before .before .before .if2 .taken)
     (c .before .pass-value .ensures output)
 
 pass-cells-requires : tie.Need-pass-cells-requires
 pass-cells-requires c κs =
     let q = c .before .before .before .before in
-    let first = q .before .before .before in
+    let first = q .before in
     let at = c .before .before .before .place-of .ensures in
     let there = type-there (first .pre .2) (q .variable-at .ensures) at (first .pre .0 .planned) in
     let room = cells-room (first .pre .2) (q .variable-at .ensures) at (c .before .before .if1 .left) in
@@ -69,7 +69,7 @@ returns-3 c =
     let at = c .before .before .before .before .before .place-of .ensures in
     let kind = c .before .before .before .before .if1 .left in
     λ output.
-    as-cells _ _ _ (q .before .before .before .args .a) (q .variable-at .ensures) at kind
+    as-cells _ _ _ (q .before .args .a) (q .variable-at .ensures) at kind
     (c .before .before .before .if2 .left)
     (c .before .pass-cells .ensures output)
 

@@ -1,6 +1,7 @@
 -- `calling::pass_all` meets its contract: a loop over the arguments.
 use Prim.Native.Nat.{_-_}
 use borrow.Author.Needs.{needs}
+use denote.Ref.{now}
 use Rattle.semantics.specs.Running.{programOf}
 use Rattle.calling.proofs.Arguments.{Along, along-none, along-next, along-lost, along-end}
 use Rattle.calling.proofs.Arguments.{stands-kept, roomy-kept}
@@ -8,7 +9,7 @@ use Rattle.calling.proofs.pass_all.Statement.{statement}
 use Rattle.calling.proofs.pass_all.Tie as tie
 
 abbrev Inv-loop : tie.InvT-loop
-Inv-loop image plan store₀ s k a n j₀ store j = Along (programOf image) k a n s store₀ store j
+Inv-loop image plan store₀ s k a n j₀ store j = Along (programOf (now image)) k a n s store₀ store j
 
 abbrev μ-loop : tie.MeasureT-loop
 μ-loop image plan store₀ s k a n j₀ store j = n - j
@@ -25,7 +26,7 @@ add-pass-2 c = search needs
 pass-requires : tie.Need-pass-requires Inv-loop μ-loop
 pass-requires c κs =
     let q = c .before .before in
-    let first = q .before .before .before in
+    let first = q .before in
     let few = q .loop .inv .kept in (
       first .pre .0,
       stands-kept (first .pre .1) few,

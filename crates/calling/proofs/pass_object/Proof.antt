@@ -2,6 +2,7 @@
 use mathlib.Core.Path.{sym, _∙_}
 use mathlib.Core.List.{[], _∷_}
 use Prim.Native.Nat.{_<_}
+use native.Mathlib.Omega.{arith}
 use borrow.Author.Needs.{needs}
 use lib.IntN.{pos}
 use Rattle.values.proofs.Numbers.{of-nat64}
@@ -10,8 +11,8 @@ use Rattle.calling.proofs.Arguments.{standing, place-lost, place-writte
 use Rattle.calling.proofs.pass_object.Statement.{statement}
 use Rattle.calling.proofs.pass_object.Tie as tie
 
-find-requires : tie.Need-find-requires
-find-requires c κs = let first = c .before .before .before in standing (first .pre .0) (first .pre .1)
+find-at-requires : tie.Need-find-at-requires
+find-at-requires c κs = let first = c .before in standing (first .pre .0) (first .pre .1)
 
 enum-known-found : tie.Need-enum-known-found
 enum-known-found c = search needs
@@ -24,7 +25,7 @@ same-length c = search needs
 
 returns : tie.Need-returns
 returns c = λ output.
-    rw (c .lost-place .ensures, ← c .before .before .find .ensures)
+    rw (c .lost-place .ensures, ← c .before .before .find-at .ensures)
     (place-lost _ _ _ (c .before .match .keys2))
 
 cast-address : tie.Need-cast-address
@@ -57,12 +58,12 @@ same-length-2 c = search needs
 returns-2 : tie.Need-returns-2
 returns-2 c =
     let q = c .before .before .before .before .before .before in
-    let first = q .before .before .before .before .before .before in
-    let found = sym (q .before .before .find .ensures) ∙ q .found .given .1 in
+    let first = q .before .before .before .before in
+    let found = sym (q .before .before .find-at .ensures) ∙ q .found .given .1 in
     let room = first .pre .1 .top in
     let object = q .found .given .0 .0 in
     let a : object .address < 9223372036854775808 = search needs in
-    let d : object .dynamic < 9223372036854775808 = search needs in
+    let d : object .dynamic < 9223372036854775808 = omega (arith, c .before .before .before .struct-known2 .given) in
     let e = rw (of-nat64 (object .address) a, of-nat64 (object .dynamic) d) at (c .before .put-pair .ensures) in
     λ output.
     place-written _ (first .args .place) (λ o. pos (o .address) ∷ pos (o .dynamic) ∷ []) found
@@ -72,7 +73,7 @@ pub pass-object-spec : {M : Type 1} → statement M
 pass-object-spec =
     tie.close
     (tie.spec
-    find-requires
+    find-at-requires
     enum-known-found
     lost-place-requires
     same-length

@@ -10,8 +10,8 @@ use Rattle.calling.proofs.Arguments.{standing, value-lost, value-writte
 use Rattle.calling.proofs.pass_value.Statement.{statement}
 use Rattle.calling.proofs.pass_value.Tie as tie
 
-eval-requires : tie.Need-eval-requires
-eval-requires c κs = let first = c .before .before .before in standing (first .pre .0) (first .pre .1)
+eval-at-requires : tie.Need-eval-at-requires
+eval-at-requires c κs = let first = c .before in standing (first .pre .0) (first .pre .1)
 
 fresh-requires : tie.Need-fresh-requires
 fresh-requires c κs = search needs
@@ -27,7 +27,7 @@ same-length c = search needs
 
 returns : tie.Need-returns
 returns c = λ output.
-    rw (c .lost-value .ensures, ← (c .before .before .fresh .ensures ∙ c .before .before .before .eval .ensures))
+    rw (c .lost-value .ensures, ← (c .before .before .fresh .ensures ∙ c .before .before .before .eval-at .ensures))
     (value-lost _ _ _ (c .before .match .keys2))
 
 number-of-requires : tie.Need-number-of-requires
@@ -58,8 +58,8 @@ returns-2 : tie.Need-returns-2
 unfolding bare
 returns-2 c =
     let q = c .before .before .before .before .before in
-    let first = q .before .before .before .before .before .before .before in
-    let found = sym (q .before .before .fresh .ensures ∙ q .before .before .before .eval .ensures)
+    let first = q .before .before .before .before .before in
+    let found = sym (q .before .before .fresh .ensures ∙ q .before .before .before .eval-at .ensures)
     ∙ q .answer .given .1 in
     let n = c .before .before .before .number-of in
     let e = rw (plain64 (n .result) (search needs), n .ensures) at (c .before .put .ensures) in
@@ -71,7 +71,7 @@ pub pass-value-spec : {M : Type 1} → statement M
 pass-value-spec =
     tie.close
     (tie.spec
-    eval-requires
+    eval-at-requires
     fresh-requires
     enum-known-answer
     lost-value-requires

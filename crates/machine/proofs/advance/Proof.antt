@@ -2,6 +2,7 @@ use borrow.Author.Needs.{needs}
 use mathlib.Core.Path.{_≡_, _∙_}
 use Prim.Native.Nat.{_-_}
 use native.Mathlib.Omega.{arith}
+use denote.Ref.{now}
 use Rattle.semantics.specs.Running.{programOf}
 use Rattle.calling.specs.Showing.{stateOf}
 use Rattle.machine.proofs.Along.{stands-less, Along, along-start, along-more, along-last, along-out, shows-going}
@@ -13,16 +14,16 @@ use Rattle.machine.proofs.stop_by.Reads as stop-by-reads
 use Rattle.stepping.proofs.step.Reads as step-reads
 
 abbrev Inv-loop : tie.InvT-loop
-Inv-loop image plan input store₀ output₀ n s₀ k₀ store output s k = Along (programOf image) input n (stateOf s₀ store₀ output₀) (stateOf s store output) k
+Inv-loop image plan input store₀ output₀ n s₀ k₀ store output s k = Along (programOf (now image)) input n (stateOf s₀ store₀ output₀) (stateOf s store output) k
 
 abbrev μ-loop : tie.MeasureT-loop
 μ-loop image plan input store₀ output₀ n s₀ k₀ store output s k = n - k
 
 loop-holds : tie.Need-loop-holds Inv-loop μ-loop
-loop-holds c = along-start _ _ _ _ (c .before .before .pre .1)
+loop-holds c = along-start _ _ _ _ (c .pre .1)
 
 step-requires : tie.Need-step-requires Inv-loop μ-loop
-step-requires c κs = (c .before .before .before .before .before .before .pre .0, stands-less (omega (arith, c .before .before .loop-test .taken)) (c .before .before .before .loop .inv .stands))
+step-requires c κs = (c .before .before .before .before .pre .0, stands-less (omega (arith, c .before .before .loop-test .taken)) (c .before .before .before .loop .inv .stands))
 
 add-done : tie.Need-add-done Inv-loop μ-loop
 add-done c = omega (arith, c .before .before .before .before .before .before .loop .inv .few)

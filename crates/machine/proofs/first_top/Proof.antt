@@ -14,11 +14,11 @@ global-room-requires : tie.Need-global-room-requires
 global-room-requires c κs = search needs
 
 frame-size-requires : tie.Need-frame-size-requires
-frame-size-requires c κs = (c .before .before .before .pre .planned, procedures-some (c .before .before .before .pre .planned))
+frame-size-requires c κs = (c .before .pre .planned, procedures-some (c .before .pre .planned))
 
 add-result : tie.Need-add-result
 add-result c =
-    let planned = c .before .before .before .before .pre .planned in
+    let planned = c .before .before .pre .planned in
     let g = globals-low planned in
     let f = frame-low planned 0 (procedures-some planned) in
     rw (c .before .global-room .ensures, c .frame-size .ensures) (record { fits = omega arith })

@@ -43,17 +43,18 @@ returns-2 : tie.Need-returns-2
 returns-2 c = let gives = gives-12 _ _ _ _ _ (sym (c .before .before .before .before .before .open-image .ensures .0) ∙ c .before .before .enum-told .given .1) (c .before .if1 .taken) in
     (c .refused .ensures ∙ gives .result, (gives .left, gives .sent))
 
-slice-aggregate-global-room : tie.Need-slice-aggregate-global-room
-slice-aggregate-global-room c = search needs
-
 global-room-requires : tie.Need-global-room-requires
-global-room-requires c κs = let ready = opened-ready _ _ _ _ (omega arith) (c .before .before .enum-told .given .1) (sym (c .before .before .before .before .before .open-image .ensures .0)) (c .before .before .before .before .before .open-image .ensures .1) in ready .planned
-
-slice-aggregate-first-top : tie.Need-slice-aggregate-first-top
-slice-aggregate-first-top c = search needs
+global-room-requires c κs =
+    let at = c .before .before .before in
+    let opened = at .before .before .before .open-image .ensures in
+    let ready = opened-ready _ _ _ _ (omega arith) (at .enum-told .given .1) (sym (opened .0)) (opened .1) in
+    ready .planned
 
 first-top-requires : tie.Need-first-top-requires
-first-top-requires c κs = opened-ready _ _ _ _ (omega arith) (c .before .before .before .before .enum-told .given .1) (sym (c .before .before .before .before .before .before .before .open-image .ensures .0)) (c .before .before .before .before .before .before .before .open-image .ensures .1)
+first-top-requires c κs =
+    let at = c .before .before .before .before .before .before in
+    let opened = at .before .before .before .open-image .ensures in
+    opened-ready _ _ _ _ (omega arith) (at .enum-told .given .1) (sym (opened .0)) (opened .1)
 
 cast-if2 : tie.Need-cast-if2
 cast-if2 c = search needs
@@ -62,21 +63,28 @@ refused-requires-2 : tie.Need-refused-requires-2
 refused-requires-2 c κs = search needs
 
 returns-3 : tie.Need-returns-3
-returns-3 c = let short = rw (c .before .before .first-top .ensures) at (c .before .if2 .taken) in
-    let gives = gives-13 _ _ _ _ _ (sym (c .before .before .before .before .before .before .before .before .before .before .open-image .ensures .0) ∙ c .before .before .before .before .before .before .before .enum-told .given .1) (c .before .before .before .before .before .before .if1 .left) short in
+returns-3 c =
+    let few = c .before .before .before .before .before .before .before .before in
+    let told = few .before .enum-told .given .1 in
+    let accepted = sym (few .before .before .before .before .open-image .ensures .0) ∙ told in
+    let short = rw (c .before .before .first-top .ensures) at (c .before .if2 .taken) in
+    let gives = gives-13 _ _ _ _ _ accepted (few .if1 .left) short in
     (c .refused2 .ensures ∙ gives .result, (gives .left, gives .sent))
 
 zero-requires : tie.Need-zero-requires
 zero-requires c κs = search needs
 
-slice-aggregate-advance : tie.Need-slice-aggregate-advance
-slice-aggregate-advance c = search needs
-
 advance-requires : tie.Need-advance-requires
-advance-requires c κs = (
-  opened-ready _ _ _ _ (omega arith) (c .before .before .before .before .before .before .before .before .before .before .before .before .enum-told .given .1) (sym (c .before .before .before .before .before .before .before .before .before .before .before .before .before .before .before .open-image .ensures .0)) (c .before .before .before .before .before .before .before .before .before .before .before .before .before .before .before .open-image .ensures .1),
-  fresh-stands _ (now (c .before .before .before .before .before .before .before .before .before .before .before .before .before .before .before .before .before .before .args .store)) _ (c .before .before .before .before .before .before .before .before .before .global-room .ensures) (c .before .before .before .before .before .before .before .first-top .ensures) (c .before .before .before .before .before .before .if2 .left) (c .before .before .before .before .before .before .before .before .before .before .before .if1 .left) (c .before .before .before .before .zero .kept .0) (c .before .before .before .before .before .before .before .before .before .before .before .before .before .before .before .before .before .before .fits .steps .fits),
-)
+advance-requires c κs =
+    let room = c .before .before .before .before .before .before .before in
+    let few = room .before .before .before .before .before .before .before in
+    let opened = few .before .before .before .before .open-image .ensures in
+    let start = few .before .before .before .before .before .before .before in (
+      opened-ready _ _ _ _ (omega arith) (few .before .enum-told .given .1) (sym (opened .0)) (opened .1),
+      fresh-stands _ (now (start .args .store)) _ (room .before .before .before .before .global-room .ensures)
+          (room .before .first-top .ensures) (room .if2 .left) (few .if1 .left)
+          (c .before .before .before .before .before .zero .kept .0) (start .fits .steps .fits),
+    )
 
 numbers-requires : tie.Need-numbers-requires
 numbers-requires c κs = search needs
@@ -89,8 +97,15 @@ same-length-2 c = search needs
 
 returns-4 : tie.Need-returns-4
 returns-4 c =
-    let gives = gives-run _ _ _ _ _ (sym (c .before .before .before .before .before .before .before .before .before .before .before .before .before .before .before .before .before .before .before .open-image .ensures .0) ∙ c .before .before .before .before .before .before .before .before .before .before .before .before .before .before .before .before .enum-told .given .1) (c .before .before .before .before .before .before .before .before .before .before .before .before .before .before .before .if1 .left) (λ i. omega (arith, c .before .before .before .before .before .before .before .before .before .before .before .before .before .before .before .before .before .before .before .before .before .shared-slice-known .given i))
-    (c .before .before .before .before .before .before .before .before .before .before .before .before .before .global-room .ensures) (c .before .before .before .before .before .before .before .before .before .before .before .first-top .ensures) (c .before .before .before .before .before .before .before .before .before .before .if2 .left) (c .before .before .before .before .before .before .before .before .zero .ensures) (c .before .before .before .advance .ensures) in
+    let room = c .before .before .before .before .before .before .before .before .before .before .before in
+    let few = room .before .before .before .before .before .before .before in
+    let told = few .before .enum-told .given .1 in
+    let accepted = sym (few .before .before .before .before .open-image .ensures .0) ∙ told in
+    let bytes = few .before .before .before .before .before .before .shared-slice-known .given in
+    let gives = gives-run _ _ _ _ _ accepted (few .if1 .left) (λ i. omega (arith, bytes i))
+    (room .before .before .before .before .global-room .ensures) (room .before .first-top .ensures) (room .if2 .left)
+    (c .before .before .before .before .before .before .before .before .before .zero .ensures)
+    (c .before .before .before .advance .ensures) in
     (c .numbers .ensures ∙ gives .result, (gives .left, gives .sent))
 
 pub run-spec : {M : Type 1} → statement M
@@ -105,15 +120,12 @@ run-spec =
     returns
     refused-requires
     returns-2
-    slice-aggregate-global-room
     global-room-requires
-    slice-aggregate-first-top
     first-top-requires
     cast-if2
     refused-requires-2
     returns-3
     zero-requires
-    slice-aggregate-advance
     advance-requires
     numbers-requires
     same-length

@@ -20,8 +20,8 @@ cast-a c = search needs
 cast-b : tie.Need-cast-b
 cast-b c = search needs
 
-locate-requires : tie.Need-locate-requires
-locate-requires c κs = search needs
+locate-at-requires : tie.Need-locate-at-requires
+locate-at-requires c κs = search needs
 
 enum-known-found : tie.Need-enum-known-found
 enum-known-found c = search needs
@@ -38,11 +38,11 @@ same-length c = search needs
 returns : tie.Need-returns
 unfolding assigned
 returns c = λ output.
-    shows-lost-place _ (c .before .before .before .locate .ensures) (c .before .before .match .keys2)
+    shows-lost-place _ (c .before .before .before .locate-at .ensures) (c .before .before .match .keys2)
     (c .before .lost-place .ensures) (c .ended-by .ensures)
 
-eval-requires : tie.Need-eval-requires
-eval-requires c κs = search needs
+eval-at-requires : tie.Need-eval-at-requires
+eval-at-requires c κs = search needs
 
 fresh-requires : tie.Need-fresh-requires
 fresh-requires c κs = search needs
@@ -63,10 +63,10 @@ returns-2 : tie.Need-returns-2
 unfolding assigned
 returns-2 c = λ output.
     let before = c .before .before .before .before .before .before in
-    shows-place _ (before .before .before .before .before .locate .ensures) (before .before .before .found .given .1)
+    shows-place _ (before .before .before .before .before .locate-at .ensures) (before .before .before .found .given .1)
     (shows-yes _ (le-leb _ 2 (before .if1 .taken))
-    (shows-lost-value _ (c .before .before .before .fresh .ensures ∙ c .before .before .before .before .eval .ensures)
-    (c .before .before .match2 .keys2)
+    (shows-lost-value _ (c .before .before .before .fresh .ensures
+    ∙ c .before .before .before .before .eval-at .ensures) (c .before .before .match2 .keys2)
     (c .before .lost-value .ensures) (c .ended-by2 .ensures)))
 
 number-of-requires : tie.Need-number-of-requires
@@ -84,14 +84,14 @@ returns-3 c = λ output.
     let number = c .before .before .before in
     let before = number .before .before .before .before .before .before .before in
     let fits : SFits w64 (number .number-of .result) = search needs in
-    shows-place _ (before .before .before .before .before .locate .ensures) (before .before .before .found .given .1)
+    shows-place _ (before .before .before .before .before .locate-at .ensures) (before .before .before .found .given .1)
     (shows-yes _ (le-leb _ 2 (before .if1 .taken))
     (shows-value _ (number .before .before .before .before .fresh .ensures
-    ∙ number .before .before .before .before .before .eval .ensures) (number .before .before .answer .given .1)
+    ∙ number .before .before .before .before .before .eval-at .ensures) (number .before .before .answer .given .1)
     (rw (plain64 _ fits, number .number-of .ensures) at (c .before .write-cell .ensures output))))
 
-find-requires : tie.Need-find-requires
-find-requires c κs = search needs
+find-at-requires : tie.Need-find-at-requires
+find-at-requires c κs = search needs
 
 fresh-place-requires : tie.Need-fresh-place-requires
 fresh-place-requires c κs = search needs
@@ -112,10 +112,10 @@ returns-4 : tie.Need-returns-4
 unfolding assigned
 returns-4 c = λ output.
     let before = c .before .before .before .before .before .before in
-    shows-place _ (before .before .before .before .before .locate .ensures) (before .before .before .found .given .1)
+    shows-place _ (before .before .before .before .before .locate-at .ensures) (before .before .before .found .given .1)
     (shows-no _ (lt-leb _ 2 (before .if1 .left))
     (shows-lost-place _ (c .before .before .before .fresh-place .ensures
-    ∙ c .before .before .before .before .find .ensures)
+    ∙ c .before .before .before .before .find-at .ensures)
     (c .before .before .match3 .keys2)
     (c .before .lost-place2 .ensures) (c .ended-by3 .ensures)))
 
@@ -123,14 +123,14 @@ copy-object-requires : tie.Need-copy-object-requires
 copy-object-requires c κs =
     let second = c .before .before .before .before in
     let first = second .before .before .before .before .before .before .before in
-    let start = first .before .before .before .before .before .before in
+    let start = first .before .before .before .before in
     let stands = standing (start .pre .0) (start .pre .1) in (
       start .pre .0,
       start .pre .1,
       start .pre .2,
-      find-within stands _ _ (sym (first .locate .ensures)
+      find-within stands _ _ (sym (first .locate-at .ensures)
           ∙ second .before .before .before .before .before .found .given .1),
-      find-within stands _ _ (sym (second .fresh-place .ensures ∙ second .before .find .ensures)
+      find-within stands _ _ (sym (second .fresh-place .ensures ∙ second .before .find-at .ensures)
           ∙ c .before .before .origin .given .1),
     )
 
@@ -141,10 +141,10 @@ returns-5 : tie.Need-returns-5
 unfolding assigned
 returns-5 c = λ output.
     let before = c .before .before .before .before .before .before .before .before .before in
-    shows-place _ (before .before .before .before .before .locate .ensures) (before .before .before .found .given .1)
+    shows-place _ (before .before .before .before .before .locate-at .ensures) (before .before .before .found .given .1)
     (shows-no _ (lt-leb _ 2 (before .if1 .left))
     (shows-place _ (c .before .before .before .before .before .before .fresh-place .ensures
-    ∙ c .before .before .before .before .before .before .before .find .ensures)
+    ∙ c .before .before .before .before .before .before .before .find-at .ensures)
     (c .before .before .before .before .origin .given .1) (c .before .copy-object .ensures output)))
 
 pub assign-spec : {M : Type 1} → statement M
@@ -153,13 +153,13 @@ assign-spec =
     (tie.spec
     cast-a
     cast-b
-    locate-requires
+    locate-at-requires
     enum-known-found
     lost-place-requires
     ended-by-requires
     same-length
     returns
-    eval-requires
+    eval-at-requires
     fresh-requires
     enum-known-answer
     lost-value-requires
@@ -170,7 +170,7 @@ assign-spec =
     write-cell-requires
     same-length-3
     returns-3
-    find-requires
+    find-at-requires
     fresh-place-requires
     enum-known-origin
     lost-place-requires-2

@@ -15,11 +15,11 @@ use Rattle.stepping.proofs.copy_object.Statement.{statement}
 use Rattle.stepping.proofs.copy_object.Tie as tie
 
 -- the source's part has the target type's cells
-many : (c : tie.Else2) → let start = c .before .before .before .before .before .before .before in
+many : (c : tie.Else2) → let start = c .before .before .before .before .before in
     length (partAt (now (start .args .store)) (start .args .source .address) (c .before .size-of .result))
     ≡ c .before .size-of .result
 many c =
-    let start = c .before .before .before .before .before .before .before in
+    let start = c .before .before .before .before .before in
     part-length _ _ _ (omega (arith, c .if2 .left, start .pre .1 .top))
 
 add-next : tie.Need-add-next
@@ -37,7 +37,7 @@ size-of-requires c κs = search needs
 
 add-source-end : tie.Need-add-source-end
 add-source-end c =
-    let start = c .before .before .before .before .before .before in
+    let start = c .before .before .before .before in
     let low = size-low (start .pre .0 .planned) _ (start .pre .3 .typed) in
     record { fits = omega (arith, c .size-of .ensures, low, start .pre .4 .low) }
 
@@ -74,7 +74,7 @@ unfolding copied
 returns-4 c = λ output.
     let at = c .before .before .before .before .before .before .before in
     let part = c .before .before .before .before .before in
-    let start = at .before .before .before .before .before in
+    let start = at .before .before .before in
     rw (← part .before .size-of .ensures)
     (shows-no _ (sym (at .before .other-record .ensures) ∙ at .if1 .left)
     (shows-part _ _ _ (part .if2 .left)

@@ -70,7 +70,7 @@ unfolding returned
 returns-4 c = λ output.
     let second = c .before .before .before in
     let first = second .before .before .before .before in
-    let start = first .before .before .before .before .before in
+    let start = first .before .before .before in
     let linked = sym (second .mark-at2 .ensures LINK) ∙ c .before .older .given .1 in
     let below = mark-below bare _ _ LINK (start .args .s .base + 2) linked in
     rw (← first .before .before .procedure-of .ensures)

@@ -13,8 +13,8 @@ use Rattle.stepping.proofs.halt.Tie as tie
 cast-a : tie.Need-cast-a
 cast-a c = search needs
 
-eval-requires : tie.Need-eval-requires
-eval-requires c κs = search needs
+eval-at-requires : tie.Need-eval-at-requires
+eval-at-requires c κs = search needs
 
 enum-known-answer : tie.Need-enum-known-answer
 enum-known-answer c = search needs
@@ -28,7 +28,7 @@ ended-by-requires c κs = search needs
 returns : tie.Need-returns
 unfolding halted
 returns c = λ output.
-    shows-lost-value _ (c .before .before .before .eval .ensures) (c .before .before .match .keys2)
+    shows-lost-value _ (c .before .before .before .eval-at .ensures) (c .before .before .match .keys2)
     (c .before .lost-value .ensures) (c .ended-by .ensures)
 
 enum-known-value : tie.Need-enum-known-value
@@ -37,7 +37,7 @@ enum-known-value c = search needs
 returns-2 : tie.Need-returns-2
 unfolding halted
 returns-2 c = λ output.
-    shows-value _ (c .before .before .before .before .eval .ensures) (c .before .before .answer .given .1)
+    shows-value _ (c .before .before .before .before .eval-at .ensures) (c .before .before .answer .given .1)
     (shows-no-integer _ _ (c .match2 .keys2))
 
 returns-3 : tie.Need-returns-3
@@ -46,7 +46,7 @@ returns-3 c = λ output.
     let before = c .before .before .before .before in
     let fits : SFits w32 (c .before .value .given .0 .0) = search needs in
     rw (plain32 _ fits)
-    (shows-value _ (before .before .before .eval .ensures) (before .answer .given .1)
+    (shows-value _ (before .before .before .eval-at .ensures) (before .answer .given .1)
     (shows-integer _ (c .before .value .given .1) (shows-trap refl refl)))
 
 pub halt-spec : {M : Type 1} → statement M
@@ -54,7 +54,7 @@ halt-spec =
     tie.close
     (tie.spec
     cast-a
-    eval-requires
+    eval-at-requires
     enum-known-answer
     lost-value-requires
     ended-by-requires

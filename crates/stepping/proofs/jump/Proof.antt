@@ -17,8 +17,8 @@ cast-a c = search needs
 cast-b : tie.Need-cast-b
 cast-b c = search needs
 
-eval-requires : tie.Need-eval-requires
-eval-requires c κs = search needs
+eval-at-requires : tie.Need-eval-at-requires
+eval-at-requires c κs = search needs
 
 enum-known-answer : tie.Need-enum-known-answer
 enum-known-answer c = search needs
@@ -32,7 +32,7 @@ ended-by-requires c κs = search needs
 returns : tie.Need-returns
 unfolding jumped
 returns c = λ output.
-    shows-lost-value _ (c .before .before .before .eval .ensures) (c .before .before .match .keys2)
+    shows-lost-value _ (c .before .before .before .eval-at .ensures) (c .before .before .match .keys2)
     (c .before .lost-value .ensures) (c .ended-by .ensures)
 
 enum-known-value : tie.Need-enum-known-value
@@ -41,7 +41,7 @@ enum-known-value c = search needs
 returns-2 : tie.Need-returns-2
 unfolding jumped
 returns-2 c = λ output.
-    shows-value _ (c .before .before .before .before .eval .ensures) (c .before .before .answer .given .1)
+    shows-value _ (c .before .before .before .before .eval-at .ensures) (c .before .before .answer .given .1)
     (shows-no-boolean _ _ (c .match2 .keys2))
 
 at-row-requires : tie.Need-at-row-requires
@@ -51,9 +51,9 @@ returns-3 : tie.Need-returns-3
 unfolding jumped following
 returns-3 c = λ output.
     let before = c .before .before .before .before .before .before in
-    let start = before .before .before .before .before .before .before .before .before in
+    let start = before .before .before .before .before .before .before in
     let low : start .args .s .row + 1 ≤ 65536 = omega (arith, start .pre .2) in
-    shows-value _ (before .before .before .eval .ensures) (before .answer .given .1)
+    shows-value _ (before .before .before .eval-at .ensures) (before .answer .given .1)
     (shows-boolean _ (c .before .before .before .value .given .1)
     (shows-row (choose-yes _ _ _ (c .before .if1 .taken)) (c .at-row .ensures) low (start .pre .1 .base)
     (start .pre .1 .top)))
@@ -66,9 +66,9 @@ unfolding jumped
 returns-4 c = λ output.
     let before = c .before .before .before .before .before .before in
     let known = before .before .before .before in
-    let start = known .before .before .before .before .before in
+    let start = known .before .before .before in
     let low : start .args .statement .b ≤ 65536 = omega (arith, known .struct-known3 .given) in
-    shows-value _ (before .before .before .eval .ensures) (before .answer .given .1)
+    shows-value _ (before .before .before .eval-at .ensures) (before .answer .given .1)
     (shows-boolean _ (c .before .before .before .value .given .1)
     (shows-row (choose-no _ _ _ (c .before .if1 .left)) (c .at-row2 .ensures) low (start .pre .1 .base)
     (start .pre .1 .top)))
@@ -80,7 +80,7 @@ jump-spec =
     add-next
     cast-a
     cast-b
-    eval-requires
+    eval-at-requires
     enum-known-answer
     lost-value-requires
     ended-by-requires

@@ -25,8 +25,8 @@ add-more c = search needs
 cast-a : tie.Need-cast-a
 cast-a c = search needs
 
-find-requires : tie.Need-find-requires
-find-requires c κs = search needs
+find-at-requires : tie.Need-find-at-requires
+find-at-requires c κs = search needs
 
 enum-known-found : tie.Need-enum-known-found
 enum-known-found c = search needs
@@ -43,7 +43,7 @@ same-length c = search needs
 returns : tie.Need-returns
 unfolding received
 returns c = λ output.
-    shows-lost-place _ (c .before .before .before .find .ensures) (c .before .before .match .keys2)
+    shows-lost-place _ (c .before .before .before .find-at .ensures) (c .before .before .match .keys2)
     (c .before .lost-place .ensures) (c .ended-by .ensures)
 
 cast-if1 : tie.Need-cast-if1
@@ -55,7 +55,7 @@ same-length-2 c = search needs
 returns-2 : tie.Need-returns-2
 unfolding received
 returns-2 c = λ output.
-    shows-place _ (c .before .before .before .before .find .ensures) (c .before .before .found .given .1)
+    shows-place _ (c .before .before .before .before .find-at .ensures) (c .before .before .found .given .1)
     (shows-no _ (le-ltb _ _ (c .if1 .taken)) (shows-trap refl refl))
 
 same-length-3 : tie.Need-same-length-3
@@ -65,7 +65,7 @@ returns-3 : tie.Need-returns-3
 unfolding received afterRead
 returns-3 c = λ output.
     let before = c .before .before .before .before .before in
-    shows-place _ (before .find .ensures) (c .before .before .before .found .given .1)
+    shows-place _ (before .find-at .ensures) (c .before .before .before .found .given .1)
     (shows-yes _ (lt-ltb _ _ (c .before .if1 .left))
     (shows-by (ap afterRead (not-written _ _ _ (omega arith))) (shows-stuck refl refl)))
 
@@ -80,7 +80,7 @@ shared-slice-copy-out-number c = search needs
 
 cast-number-2 : tie.Need-cast-number-2
 cast-number-2 c =
-    let start = c .before .before .before .before .before .before .before .before .before .before .before .before in
+    let start = c .before .before .before .before .before .before .before .before .before .before in
     let fits : SFits w32 (getD (now (start .args .input)) (start .args .s .read) (pos 0)) = search needs in
     cast-fits _ fits
 
@@ -94,9 +94,10 @@ returns-4 : tie.Need-returns-4
 unfolding received
 returns-4 c = λ output.
     let before = c .before .before .before .before .before .before .before .before .before in
-    let start = before .before .before .before .before .before .before in
+    let start = before .before .before .before .before in
     let fits : SFits w32 (getD (now (start .args .input)) (start .args .s .read) (pos 0)) = search needs in
-    shows-place _ (before .find .ensures) (c .before .before .before .before .before .before .before .found .given .1)
+    shows-place _ (before .find-at .ensures)
+    (c .before .before .before .before .before .before .before .found .given .1)
     (shows-yes _ (lt-ltb _ _ (c .before .before .before .before .before .if1 .left))
     (shows-read _ _ (start .pre .1) (start .pre .2) (c .before .before .before .before .if2 .left) fits
     (rw (wide _ fits) at (c .before .put .ensures))))
@@ -108,7 +109,7 @@ receive-spec =
     add-next
     add-more
     cast-a
-    find-requires
+    find-at-requires
     enum-known-found
     lost-place-requires
     ended-by-requires

@@ -22,8 +22,8 @@ add-more c = search needs
 cast-a : tie.Need-cast-a
 cast-a c = search needs
 
-eval-requires : tie.Need-eval-requires
-eval-requires c κs = search needs
+eval-at-requires : tie.Need-eval-at-requires
+eval-at-requires c κs = search needs
 
 enum-known-answer : tie.Need-enum-known-answer
 enum-known-answer c = search needs
@@ -37,7 +37,7 @@ ended-by-requires c κs = search needs
 returns : tie.Need-returns
 unfolding sent
 returns c =
-    shows-lost-value _ (c .before .before .before .eval .ensures) (c .before .before .match .keys2)
+    shows-lost-value _ (c .before .before .before .eval-at .ensures) (c .before .before .match .keys2)
     (c .before .lost-value .ensures) (c .ended-by .ensures)
 
 enum-known-value : tie.Need-enum-known-value
@@ -46,7 +46,7 @@ enum-known-value c = search needs
 returns-2 : tie.Need-returns-2
 unfolding sent
 returns-2 c =
-    shows-value _ (c .before .before .before .before .eval .ensures) (c .before .before .answer .given .1)
+    shows-value _ (c .before .before .before .before .eval-at .ensures) (c .before .before .answer .given .1)
     (shows-no-integer _ _ (c .match2 .keys2))
 
 cast-if1 : tie.Need-cast-if1
@@ -56,7 +56,7 @@ returns-3 : tie.Need-returns-3
 unfolding sent
 returns-3 c =
     let before = c .before .before .before .before .before in
-    shows-value _ (before .before .before .eval .ensures) (before .answer .given .1)
+    shows-value _ (before .before .before .eval-at .ensures) (before .answer .given .1)
     (shows-integer _ (c .before .before .value .given .1)
     (shows-no _ (le-ltb _ _ (c .if1 .taken)) (shows-trap refl refl)))
 
@@ -76,10 +76,10 @@ returns-4 : tie.Need-returns-4
 unfolding sent
 returns-4 c =
     let before = c .before .before .before .before .before in
-    let start = before .before .before .before .before .before .before .before in
+    let start = before .before .before .before .before .before in
     let fits : SFits w32 (c .before .before .value .given .0 .0) = search needs in
     rw (plain32 _ fits)
-    (shows-value _ (before .before .before .eval .ensures) (before .answer .given .1)
+    (shows-value _ (before .before .before .eval-at .ensures) (before .answer .given .1)
     (shows-integer _ (c .before .before .value .given .1)
     (shows-yes _ (lt-ltb _ _ (c .if1 .left)) (shows-goes refl (record {
       row = omega (arith, start .pre .2);
@@ -96,7 +96,7 @@ send-spec =
     add-next
     add-more
     cast-a
-    eval-requires
+    eval-at-requires
     enum-known-answer
     lost-value-requires
     ended-by-requires

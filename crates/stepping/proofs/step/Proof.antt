@@ -25,10 +25,10 @@ use Rattle.stepping.proofs.step.Tie as tie
 
 module _ (c : tie.After-statement-at) where
   abbrev start : tie.Start
-  start = c .before .before .before
+  start = c .before
 
   abbrev program : Program
-  program = programOf (now (start .args .image))
+  program = programOf (now (now (start .args .image)))
 
   abbrev here : State ℤ
   here = stateOf (start .args .s) (now (start .args .store)) (now (start .args .output))
@@ -138,7 +138,7 @@ returns-4 : tie.Need-returns-4
 unfolding perform choose
 returns-4 c =
     let at = c .before .before in
-    let target : row at .b ≤ 65536 = omega arith in
+    let target : row at .b ≤ 65536 = omega (arith, at .statement-at .ok) in
     shows-by (does at 3 (c .before .match .keys4))
     (shows-row refl (c .at-row .ensures) target (start at .pre .1 .base) (start at .pre .1 .top))
 
