@@ -1,7 +1,6 @@
 -- `finding::eval` and `finding::find` meet their contracts: they call each other for lower rows alone.
 use mathlib.Core.Path.{_≡_, refl, sym, ap, _∙_}
 use mathlib.Core.Logic.{inl, inr, ⊎-elim}
-use native.Mathlib.Omega.{arith}
 use denote.Ref.{now}
 use borrow.Author.Tests.{ne-eqb}
 use borrow.Author.Needs.{needs}
@@ -9,9 +8,7 @@ use Rattle.prelude.specs.Choice.{choose}
 use Rattle.image.specs.declared.Row.{Row}
 use Rattle.image.specs.Rows.{rowAt}
 use Rattle.values.specs.Values.{bind}
-use Rattle.values.specs.declared.Value.{Value}
 use Rattle.values.specs.declared.Answer.{Answer}
-use Rattle.values.specs.declared.Answer.the-variants as As
 use Rattle.values.proofs.Binding.{bind-value, bind-other}
 use Rattle.values.proofs.Numbers.{plain32}
 use Rattle.operators.specs.Operators.{dyadicOf, monadicOf, appliedTo}
@@ -19,7 +16,6 @@ use Rattle.operators.proofs.Operands.{not-booleans, not-sets}
 use Rattle.relations.specs.Fields.{fieldOf}
 use Rattle.semantics.specs.declared.Place.{Place}
 use Rattle.semantics.specs.declared.Found.{Found}
-use Rattle.semantics.specs.declared.Found.the-variants as Fs
 use Rattle.semantics.specs.Memory.{bare, valueAt}
 use Rattle.semantics.specs.Layout.{Program}
 use Rattle.semantics.specs.Finding.{reach, content, index, fieldPlace, elementPlace, arrayPlace, guardPlace, testOf}
@@ -71,20 +67,84 @@ abbrev μ-find : Measures 5 find-kinds.ps ℕ
 abbrev eval-at : ℕ → In 5 eval-kinds.ps
 eval-at t = and 5 eval-kinds.ps (is 5 eval-kinds.ps μ-eval t) eval.Pre
 
-abbrev eval-below : ℕ → In 5 eval-kinds.ps
-eval-below t = and 5 eval-kinds.ps (falls 5 eval-kinds.ps _<_ μ-eval t) eval.Pre
+abbrev below-eval : ℕ → In 5 eval-kinds.ps
+below-eval t = and 5 eval-kinds.ps (falls 5 eval-kinds.ps _<_ μ-eval t) eval.Pre
 
 abbrev find-at : ℕ → In 5 find-kinds.ps
 find-at t = and 5 find-kinds.ps (is 5 find-kinds.ps μ-find t) find.Pre
 
-abbrev find-below : ℕ → In 5 find-kinds.ps
-find-below t = and 5 find-kinds.ps (falls 5 find-kinds.ps _<_ μ-find t) find.Pre
+abbrev below-find : ℕ → In 5 find-kinds.ps
+below-find t = and 5 find-kinds.ps (falls 5 find-kinds.ps _<_ μ-find t) find.Pre
 
 abbrev eval-claims : ℕ → eval-lts.Claims
-eval-claims t = (node-at-reads.Asked, node-at-reads.Learnt, constant-reads.Asked, constant-reads.Learnt, variable-place-reads.Asked, variable-place-reads.Learnt, no-value-reads.Asked, no-value-reads.Learnt, load-reads.Asked, load-reads.Learnt, fresh-reads.Asked, fresh-reads.Learnt, find-below t, find.Post, fresh-place-reads.Asked, fresh-place-reads.Learnt, field-place-reads.Asked, field-place-reads.Learnt, type-at-reads.Asked, type-at-reads.Learnt, eval-below t, eval.Post, element-place-reads.Asked, element-place-reads.Learnt, guard-place-reads.Asked, guard-place-reads.Learnt, decides-reads.Asked, decides-reads.Learnt, booleans-reads.Asked, booleans-reads.Learnt, integers-reads.Asked, integers-reads.Learnt, membership-reads.Asked, membership-reads.Learnt, sets-reads.Asked, sets-reads.Learnt, monadic-reads.Asked, monadic-reads.Learnt, type-test-reads.Asked, type-test-reads.Learnt)
+eval-claims t = (
+  node-at-reads.Asked,
+  node-at-reads.Learnt,
+  constant-reads.Asked,
+  constant-reads.Learnt,
+  variable-place-reads.Asked,
+  variable-place-reads.Learnt,
+  no-value-reads.Asked,
+  no-value-reads.Learnt,
+  load-reads.Asked,
+  load-reads.Learnt,
+  fresh-reads.Asked,
+  fresh-reads.Learnt,
+  below-find t,
+  find.Post,
+  fresh-place-reads.Asked,
+  fresh-place-reads.Learnt,
+  field-place-reads.Asked,
+  field-place-reads.Learnt,
+  type-at-reads.Asked,
+  type-at-reads.Learnt,
+  below-eval t,
+  eval.Post,
+  element-place-reads.Asked,
+  element-place-reads.Learnt,
+  guard-place-reads.Asked,
+  guard-place-reads.Learnt,
+  decides-reads.Asked,
+  decides-reads.Learnt,
+  booleans-reads.Asked,
+  booleans-reads.Learnt,
+  integers-reads.Asked,
+  integers-reads.Learnt,
+  membership-reads.Asked,
+  membership-reads.Learnt,
+  sets-reads.Asked,
+  sets-reads.Learnt,
+  monadic-reads.Asked,
+  monadic-reads.Learnt,
+  type-test-reads.Asked,
+  type-test-reads.Learnt,
+)
 
 abbrev find-claims : ℕ → find-lts.Claims
-find-claims t = (node-at-reads.Asked, node-at-reads.Learnt, variable-place-reads.Asked, variable-place-reads.Learnt, find-below t, find.Post, fresh-place-reads.Asked, fresh-place-reads.Learnt, field-place-reads.Asked, field-place-reads.Learnt, type-at-reads.Asked, type-at-reads.Learnt, eval-below t, eval.Post, fresh-reads.Asked, fresh-reads.Learnt, no-place-reads.Asked, no-place-reads.Learnt, element-place-reads.Asked, element-place-reads.Learnt, guard-place-reads.Asked, guard-place-reads.Learnt)
+find-claims t = (
+  node-at-reads.Asked,
+  node-at-reads.Learnt,
+  variable-place-reads.Asked,
+  variable-place-reads.Learnt,
+  below-find t,
+  find.Post,
+  fresh-place-reads.Asked,
+  fresh-place-reads.Learnt,
+  field-place-reads.Asked,
+  field-place-reads.Learnt,
+  type-at-reads.Asked,
+  type-at-reads.Learnt,
+  below-eval t,
+  eval.Post,
+  fresh-reads.Asked,
+  fresh-reads.Learnt,
+  no-place-reads.Asked,
+  no-place-reads.Learnt,
+  element-place-reads.Asked,
+  element-place-reads.Learnt,
+  guard-place-reads.Asked,
+  guard-place-reads.Learnt,
+)
 
 -- ---- eval, place by place: what the node is worth, by what is known there
 
@@ -208,36 +268,44 @@ module _ (t : ℕ) where
             ∙ c .before .before .before .find2 .ensures) ∙ c .list .given .1),
       )
 
+  -- the array whose index was evaluated
+  abbrev array-of : eval-lts.After-fresh3 (eval-claims t) (eval-at t) eval.Post
+      → eval-lts.After-list (eval-claims t) (eval-at t) eval.Post
+  array-of c = c .before .before .before .before .before .before .before
+
   at-index : (c : eval-lts.After-fresh3 (eval-claims t) (eval-at t) eval.Post) →
-      let l = c .before .before .before .before .before .before .before in
+      let l = array-of c in
       let m = l .before .before .before .before .before .before in
       worth m ≡ held m (index (c .fresh3 .result) (elementPlace (program m) (l .list .given .0 .0)
       (c .before .before .before .before .before .type-at .result)))
   at-index c =
-      let l = c .before .before .before .before .before .before .before in
+      let l = array-of c in
       let m = l .before .before .before .before .before .before in
       let y = c .before .before .before .before .before .type-at in
       at-array l
       ∙ ap (λ (x : Answer). held m (element m x (l .list .given .0 .0)))
       (eval-lower _ _ _ _ _ _ _ (c .before .before .if4 .left) (c .fresh3 .ensures ∙ c .before .eval .ensures))
       ∙ ap (held m)
-      (array-index (program m) _ (c .fresh3 .result) (ap (λ (x : Row). x .kind) (sym (y .ensures)) ∙ c .before .before .before .if3 .left)
-      ∙ ap (λ (x : Row). index (c .fresh3 .result) (elementPlace (program m) (l .list .given .0 .0) x)) (sym (y .ensures)))
+      (array-index (program m) _ (c .fresh3 .result)
+      (ap (λ (x : Row). x .kind) (sym (y .ensures)) ∙ c .before .before .before .if3 .left)
+      ∙ ap (λ (x : Row). index (c .fresh3 .result) (elementPlace (program m) (l .list .given .0 .0) x))
+      (sym (y .ensures)))
 
   at-element : (c : eval-lts.After-fresh-place4 (eval-claims t) (eval-at t) eval.Post) →
-      let l = c .before .before .before .before .before .before .before .before .before .before .before .before .before .before .before in
+      let l = array-of (c .before .before .before .before .before .before .before .before) in
       let m = l .before .before .before .before .before .before in
       worth m ≡ held m (c .fresh-place4 .result)
   at-element c =
       let f = c .before .before .before .before .before .before .before .before in
-      let m = f .before .before .before .before .before .before .before .before .before .before .before .before .before in
-      let whole = f .before .before .before .before .before .before .before .list .given .0 .0 in
+      let l = array-of f in
+      let m = l .before .before .before .before .before .before in
       let array = f .before .before .before .before .before .type-at .result in
+      let element-at = elementPlace (program m) (l .list .given .0 .0) array in
       let v = c .before .before .before .value .given in
       at-index f
       ∙ ap (held m) (index-value (c .before .before .before .before .before .before .index .given .1) (v .1) _
       ∙ sym (c .fresh-place4 .ensures ∙ c .before .element-place .ensures
-      ∙ ap (elementPlace (program m) whole array) (plain32 (v .0 .0) (search needs))))
+      ∙ ap element-at (plain32 (v .0 .0) (search needs))))
 
   -- a guard: the variable, and then what it is guarded as
   at-guarded : (c : eval-lts.After-variable-place2 (eval-claims t) (eval-at t) eval.Post) →
@@ -376,7 +444,9 @@ eval-returns-4 t c =
     c .no-value3 .ensures ∙ sym (at-part t (c .before .before) ∙ content-other _ (c .before .match4 .keys2) _)
 
 eval-load-requires-2 : (t : ℕ) → eval-lts.Need-load-requires-2 (eval-claims t) (eval-at t) eval.Post
-eval-load-requires-2 t c κs = c .before .before .before .before .before .before .before .before .before .before .before .before .before .pre .1 .stored
+eval-load-requires-2 t c κs =
+    let r = c .before .before .before .before .before .before in
+    r .before .before .before .before .before .before .before .pre .1 .stored
 
 eval-fresh-requires-2 : (t : ℕ) → eval-lts.Need-fresh-requires-2 (eval-claims t) (eval-at t) eval.Post
 eval-fresh-requires-2 t c κs = search needs
@@ -441,14 +511,15 @@ unfolding content
 eval-returns-10 t c =
     let f = c .before .before .before .before in
     sym (at-index t f
-    ∙ ap (held t (f .before .before .before .before .before .before .before .before .before .before .before .before .before))
+    ∙ ap (held t (array-of t f .before .before .before .before .before .before))
     (index-none _ (c .before .before .index .given .1) (c .match7 .keys2) _))
 
 eval-element-place-requires : (t : ℕ) → eval-lts.Need-element-place-requires (eval-claims t) (eval-at t) eval.Post
 eval-element-place-requires t c κs =
-    let y = c .before .before .before .before .before .before .before .before .before .before .before .type-at in
-    let w = at-array-within t (c .before .before .before .before .before .before .before .before .before .before .before .before .before) in
-    (w .0, w .1, y .ensures, c .before .before .before .before .before .before .before .before .before .if3 .left)
+    let f = c .before .before .before .before .before .before in
+    let within = at-array-within t (array-of t f) in
+    let k = f .before .before .before in
+    (within .0, within .1, k .before .before .type-at .ensures, k .if3 .left)
 
 eval-fresh-place-requires-4 : (t : ℕ) → eval-lts.Need-fresh-place-requires-4 (eval-claims t) (eval-at t) eval.Post
 eval-fresh-place-requires-4 t c κs = search needs
@@ -465,8 +536,8 @@ eval-returns-11 t c =
 
 eval-load-requires-3 : (t : ℕ) → eval-lts.Need-load-requires-3 (eval-claims t) (eval-at t) eval.Post
 eval-load-requires-3 t c κs =
-    let l = c .before .before .before .before .before .before .before .before .before .before .before .before .before .before .before .before .before .before in
-    l .before .before .before .before .before .before .before .pre .1 .stored
+    let f = c .before .before .before .before .before .before .before .before .before .before .before in
+    array-of t f .before .before .before .before .before .before .before .pre .1 .stored
 
 eval-fresh-requires-4 : (t : ℕ) → eval-lts.Need-fresh-requires-4 (eval-claims t) (eval-at t) eval.Post
 eval-fresh-requires-4 t c κs = search needs
@@ -623,7 +694,8 @@ eval-enum-known-operand : (t : ℕ) → eval-lts.Need-enum-known-operand (eval-c
 eval-enum-known-operand t c = search needs
 
 eval-returns-23 : (t : ℕ) → eval-lts.Need-returns-23 (eval-claims t) (eval-at t) eval.Post
-eval-returns-23 t c = sym (at-operand t (c .before .before) (c .before .if9 .left) ∙ bind-other _ (c .match17 .keys2) _)
+eval-returns-23 t c =
+    sym (at-operand t (c .before .before) (c .before .if9 .left) ∙ bind-other _ (c .match17 .keys2) _)
 
 eval-monadic-requires : (t : ℕ) → eval-lts.Need-monadic-requires (eval-claims t) (eval-at t) eval.Post
 eval-monadic-requires t c κs = search needs
@@ -653,67 +725,78 @@ eval-returns-25 t c = c .constant .ensures ∙ sym (at-row t (c .before .before)
 
 eval-returns-26 : (t : ℕ) → eval-lts.Need-returns-26 (eval-claims t) (eval-at t) eval.Post
 eval-returns-26 t c =
+    let o = c .before .before .before in
     c .fresh .ensures ∙ c .before .load .ensures
-    ∙ sym (at-variable t (c .before .before .before .before .before) ∙ content-object (c .before .before .before .variable .given .1) _)
+    ∙ sym (at-variable t (o .before .before) ∙ content-object (o .variable .given .1) _)
 
 eval-returns-27 : (t : ℕ) → eval-lts.Need-returns-27 (eval-claims t) (eval-at t) eval.Post
 eval-returns-27 t c =
+    let o = c .before .before .before in
     c .fresh2 .ensures ∙ c .before .load2 .ensures
-    ∙ sym (at-part t (c .before .before .before .before .before) ∙ content-object (c .before .before .before .part .given .1) _)
+    ∙ sym (at-part t (o .before .before) ∙ content-object (o .part .given .1) _)
 
 eval-returns-28 : (t : ℕ) → eval-lts.Need-returns-28 (eval-claims t) (eval-at t) eval.Post
 eval-returns-28 t c =
+    let o = c .before .before .before in
     c .fresh4 .ensures ∙ c .before .load3 .ensures
-    ∙ sym (at-element t (c .before .before .before .before .before) ∙ content-object (c .before .before .before .element .given .1) _)
+    ∙ sym (at-element t (o .before .before) ∙ content-object (o .element .given .1) _)
 
 eval-returns-29 : (t : ℕ) → eval-lts.Need-returns-29 (eval-claims t) (eval-at t) eval.Post
 eval-returns-29 t c =
+    let o = c .before .before .before in
     c .fresh5 .ensures ∙ c .before .load4 .ensures
-    ∙ sym (at-narrowed t (c .before .before .before .before .before) ∙ content-object (c .before .before .before .narrowed .given .1) _)
+    ∙ sym (at-narrowed t (o .before .before) ∙ content-object (o .narrowed .given .1) _)
 
 eval-returns-30 : (t : ℕ) → eval-lts.Need-returns-30 (eval-claims t) (eval-at t) eval.Post
 unfolding dyadicOf
 eval-returns-30 t c =
+    let x = c .before .before .before .before .before in
     c .booleans .ensures
-    ∙ sym (at-operands t (c .before .before .before .before .before .before .before) ∙ rw (c .before .before .before .before .before .x .given .1, c .before .before .y .given .1))
+    ∙ sym (at-operands t (x .before .before) ∙ rw (x .x .given .1, c .before .before .y .given .1))
 
 eval-returns-31 : (t : ℕ) → eval-lts.Need-returns-31 (eval-claims t) (eval-at t) eval.Post
 unfolding dyadicOf
 eval-returns-31 t c =
-    sym (at-operands t (c .before .before .before .before .before) ∙ rw (c .before .before .before .x2 .given .1, c .enum-told .given .1))
+    let x = c .before .before .before in
+    sym (at-operands t (x .before .before) ∙ rw (x .x2 .given .1, c .enum-told .given .1))
 
 eval-returns-32 : (t : ℕ) → eval-lts.Need-returns-32 (eval-claims t) (eval-at t) eval.Post
 unfolding dyadicOf
 eval-returns-32 t c =
-    let v = c .before .before .before .before .before .x2 .given in
+    let x = c .before .before .before .before .before in
+    let v = x .x2 .given in
     let w = c .before .before .y2 .given in
     c .integers .ensures
-    ∙ sym (at-operands t (c .before .before .before .before .before .before .before)
+    ∙ sym (at-operands t (x .before .before)
     ∙ rw (v .1, w .1, plain32 (v .0 .0) (search needs), plain32 (w .0 .0) (search needs)))
 
 eval-returns-33 : (t : ℕ) → eval-lts.Need-returns-33 (eval-claims t) (eval-at t) eval.Post
 unfolding dyadicOf
 eval-returns-33 t c =
-    let v = c .before .before .before .before .before .x2 .given in
+    let x = c .before .before .before .before .before in
+    let v = x .x2 .given in
     c .membership .ensures
-    ∙ sym (at-operands t (c .before .before .before .before .before .before .before)
+    ∙ sym (at-operands t (x .before .before)
     ∙ rw (v .1, c .before .before .y3 .given .1, plain32 (v .0 .0) (search needs)))
 
 eval-returns-34 : (t : ℕ) → eval-lts.Need-returns-34 (eval-claims t) (eval-at t) eval.Post
 unfolding dyadicOf
 eval-returns-34 t c =
+    let x = c .before .before .before .before .before in
     c .sets .ensures
-    ∙ sym (at-operands t (c .before .before .before .before .before .before .before) ∙ rw (c .before .before .before .before .before .x3 .given .1, c .before .before .y4 .given .1))
+    ∙ sym (at-operands t (x .before .before) ∙ rw (x .x3 .given .1, c .before .before .y4 .given .1))
 
 eval-returns-35 : (t : ℕ) → eval-lts.Need-returns-35 (eval-claims t) (eval-at t) eval.Post
 eval-returns-35 t c =
+    let o = c .before .before .before in
+    let f = o .before .before .before in
     c .fresh9 .ensures ∙ c .before .monadic .ensures
-    ∙ sym (at-operand t (c .before .before .before .before .before .before) (c .before .before .before .before .before .if9 .left) ∙ bind-value (c .before .before .before .operand .given .1) _)
+    ∙ sym (at-operand t f (o .before .before .if9 .left) ∙ bind-value (o .operand .given .1) _)
 
 eval-returns-36 : (t : ℕ) → eval-lts.Need-returns-36 (eval-claims t) (eval-at t) eval.Post
 eval-returns-36 t c =
-    c .type-test .ensures
-    ∙ sym (at-tested t (c .before .before .before .before) ∙ content-object (c .before .before .tested .given .1) _)
+    let o = c .before .before in
+    c .type-test .ensures ∙ sym (at-tested t (o .before .before) ∙ content-object (o .tested .given .1) _)
 
 eval-returns-37 : (t : ℕ) → eval-lts.Need-returns-37 (eval-claims t) (eval-at t) eval.Post
 unfolding meaningBy choose
@@ -830,13 +913,18 @@ module _ (t : ℕ) where
             ∙ c .before .before .before .find2 .ensures) ∙ c .list .given .1),
       )
 
+  -- the array whose index was evaluated
+  abbrev array-ofF : find-lts.After-fresh (find-claims t) (find-at t) find.Post
+      → find-lts.After-list (find-claims t) (find-at t) find.Post
+  array-ofF c = c .before .before .before .before .before .before .before
+
   f-index : (c : find-lts.After-fresh (find-claims t) (find-at t) find.Post) →
-      let l = c .before .before .before .before .before .before .before in
+      let l = array-ofF c in
       let m = l .before .before .before .before .before .before in
       found m ≡ index (c .fresh .result) (elementPlace (programF m) (l .list .given .0 .0)
       (c .before .before .before .before .before .type-at .result))
   f-index c =
-      let l = c .before .before .before .before .before .before .before in
+      let l = array-ofF c in
       let m = l .before .before .before .before .before .before in
       let y = c .before .before .before .before .before .type-at in
       f-array l
@@ -946,9 +1034,10 @@ find-returns-8 t c =
 
 find-element-place-requires : (t : ℕ) → find-lts.Need-element-place-requires (find-claims t) (find-at t) find.Post
 find-element-place-requires t c κs =
-    let y = c .before .before .before .before .before .before .before .before .before .before .before .type-at in
-    let w = f-array-within t (c .before .before .before .before .before .before .before .before .before .before .before .before .before) in
-    (w .0, w .1, y .ensures, c .before .before .before .before .before .before .before .before .before .if3 .left)
+    let f = c .before .before .before .before .before .before in
+    let within = f-array-within t (array-ofF t f) in
+    let k = f .before .before .before in
+    (within .0, within .1, k .before .before .type-at .ensures, k .if3 .left)
 
 find-fresh-place-requires-4 : (t : ℕ) → find-lts.Need-fresh-place-requires-4 (find-claims t) (find-at t) find.Post
 find-fresh-place-requires-4 t c κs = search needs
@@ -983,24 +1072,25 @@ find-returns-11 t c =
 
 find-returns-12 : (t : ℕ) → find-lts.Need-returns-12 (find-claims t) (find-at t) find.Post
 find-returns-12 t c =
-    c .fresh-place2 .ensures ∙ c .before .field-place .ensures ∙ namedF t (c .before .before .before .before .before .before .before .before .before) _
-    ∙ sym (f-record t (c .before .before .before))
+    let o = c .before .before .before in
+    c .fresh-place2 .ensures ∙ c .before .field-place .ensures
+    ∙ namedF t (o .before .before .before .before .before .before) _ ∙ sym (f-record t o)
 
 find-returns-13 : (t : ℕ) → find-lts.Need-returns-13 (find-claims t) (find-at t) find.Post
 find-returns-13 t c =
     let f = c .before .before .before .before .before .before .before .before in
-    let m = f .before .before .before .before .before .before .before .before .before .before .before .before .before in
-    let whole = f .before .before .before .before .before .before .before .list .given .0 .0 in
+    let l = array-ofF t f in
+    let m = l .before .before .before .before .before .before in
     let array = f .before .before .before .before .before .type-at .result in
+    let element-at = elementPlace (programF t m) (l .list .given .0 .0) array in
     let v = c .before .before .before .value .given in
-    c .fresh-place4 .ensures ∙ c .before .element-place .ensures
-    ∙ ap (elementPlace (programF t m) whole array) (plain32 (v .0 .0) (search needs))
+    c .fresh-place4 .ensures ∙ c .before .element-place .ensures ∙ ap element-at (plain32 (v .0 .0) (search needs))
     ∙ sym (f-index t f ∙ index-value (c .before .before .before .before .before .before .index .given .1) (v .1) _)
 
 find-returns-14 : (t : ℕ) → find-lts.Need-returns-14 (find-claims t) (find-at t) find.Post
 find-returns-14 t c =
-    c .guard-place .ensures
-    ∙ sym (f-guarded t (c .before .before .before .before) ∙ reach-object (c .before .before .guarded .given .1) _)
+    let o = c .before .before in
+    c .guard-place .ensures ∙ sym (f-guarded t (o .before .before) ∙ reach-object (o .guarded .given .1) _)
 
 find-returns-15 : (t : ℕ) → find-lts.Need-returns-15 (find-claims t) (find-at t) find.Post
 unfolding meaningBy choose
