@@ -69,8 +69,8 @@ pub record Ready (image plan : List ℕ) : Type 0 where
   pub owner : (r : ℕ) → r < rowsOf (programOf image .statements)
       → getD plan (OWNERS + r) 0 ≡ procedureAt (programOf image .procedures) r
 
--- what the check leaves in a lent plan, and behind acceptance the procedure of each statement, what each node designates
--- and what each type extends
+-- what the check leaves in a lent plan, and behind acceptance the procedure of each statement, what each node
+-- designates and what each type extends
 pub data Opened (image old : List ℕ) : CheckAnswer → List ℕ → Type 0 where
   closed : {q row : ℕ} {plan : List ℕ} → Prepared image old (Refused q row) plan → Opened image old (Refused q row) plan
   opened : {between owned designated half plan : List ℕ} → Prepared image old Accepted between

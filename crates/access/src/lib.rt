@@ -120,7 +120,8 @@ pub fn field(image: &&[u8], plan: &Plan, k: u32, r: u16) -> FieldAnswer
 // The size of type row r.
 pub fn size_of(image: &&[u8], plan: &Plan, r: u16) -> u32
     requires { ⌜ Planned (now (now image)) (now plan) × (r < rowsOf (programOf (now (now image)) .types)) ⌝ }
-    ensures { λ x. ⌜ x ≡ sizeOf (programOf (now (now (image .entry))) .types) (programOf (now (now (image .entry))) .fields) r ⌝ }
+    ensures { λ x. ⌜ x ≡ sizeOf (programOf (now (now (image .entry))) .types)
+        (programOf (now (now (image .entry))) .fields) r ⌝ }
 {
     plan[r as usize]
 }
@@ -138,8 +139,9 @@ pub fn place_of(image: &&[u8], plan: &Plan, a: u32) -> u32
 // The size of procedure q's frame.
 pub fn frame_size(image: &&[u8], plan: &Plan, q: u16) -> u32
     requires { ⌜ Planned (now (now image)) (now plan) × (q < rowsOf (programOf (now (now image)) .procedures)) ⌝ }
-    ensures { λ x. ⌜ x ≡ frameSize (programOf (now (now (image .entry))) .types) (programOf (now (now (image .entry))) .fields)
-        (programOf (now (now (image .entry))) .variables) (programOf (now (now (image .entry))) .procedures) q ⌝ }
+    ensures { λ x. ⌜ x ≡ frameSize (programOf (now (now (image .entry))) .types)
+        (programOf (now (now (image .entry))) .fields) (programOf (now (now (image .entry))) .variables)
+        (programOf (now (now (image .entry))) .procedures) q ⌝ }
 {
     plan[FRAMES + q as usize]
 }
@@ -187,8 +189,8 @@ fn fill_owners(p: &[u8], n: usize, plan: &mut [u32])
 
 // Writes what each node row designates.
 fn fill_nodes(image: &[u8], plan: &mut [u32])
-    requires { ⌜ Checked (now image) (now plan) × TypesPlan (programOf (now image) .types) (programOf (now image) .fields)
-        (rowsOf (programOf (now image) .types)) (now plan) ⌝ }
+    requires { ⌜ Checked (now image) (now plan) × TypesPlan (programOf (now image) .types)
+        (programOf (now image) .fields) (rowsOf (programOf (now image) .types)) (now plan) ⌝ }
     ensures { λ x. ⌜ Filled NODES (rowsOf (programOf (now (image .entry)) .nodes))
         (nodeCell (programOf (now (image .entry)))) (now (plan .entry)) (now (plan .exit)) ⌝ }
 {

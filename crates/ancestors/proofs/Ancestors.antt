@@ -8,14 +8,13 @@ use native.Mathlib.Decide.{decLt}
 use native.Mathlib.Nat.{pow-succ', zero-div}
 use native.Mathlib.Numerals.{add-one}
 use borrow.Author.Tests.{lt-ltb, le-ltb, eq-eqb, ne-eqb}
-use lib.Bits.{bitOr, or-lt}
-use lib.Pow.{pow-lt}
+use lib.Bits.{bitOr}
 use lib.Dec.{leb, ltb, eqb}
 use lib.IntN.{pos}
 use Rattle.prelude.specs.Choice.{choose}
 use Rattle.prelude.specs.Rec.{rec, below}
 use Rattle.prelude.proofs.Choice.{choose-no}
-use Rattle.prelude.proofs.Rec.{rec-eq, rec-ind, rec-rel, below-low, below-high}
+use Rattle.prelude.proofs.Rec.{rec-eq, rec-rel, below-low, below-high}
 use Rattle.values.proofs.Numbers.{inside, under, over}
 use Rattle.sets.specs.Sets.{memberOf, elementsOf}
 use Rattle.sets.proofs.Members.{member-union, member-elements}
@@ -74,8 +73,8 @@ module _ (low r : ℕ) where
     own-one k = rw (le-ltb r low h, le-ltb 31 (r - low) k)
 
 -- by where the row stands
-own-has : (P : ℕ → Type 0) (low r : ℕ) → (r < low → P 0) → (31 < r - low → P 0) → (low ≤ r → r - low ≤ 31 → P (2 ^ (r - low)))
-    → P (ownBit low r)
+own-has : (P : ℕ → Type 0) (low r : ℕ) → (r < low → P 0) → (31 < r - low → P 0)
+    → (low ≤ r → r - low ≤ 31 → P (2 ^ (r - low))) → P (ownBit low r)
 own-has P low r under over one = go (decLt r low) (decLt 31 (r - low))
   where
     go : Dec (r < low) → Dec (31 < r - low) → P (ownBit low r)
@@ -90,9 +89,6 @@ own-bit i low r h =
     (λ k. bit-none i ∙ sym (ne-eqb r (low + i) (omega arith)))
     (λ k. bit-none i ∙ sym (ne-eqb r (low + i) (omega arith)))
     (λ l k. bit-single i low r h l)
-
-own-fits : (low r : ℕ) → ownBit low r < 2 ^ 32
-own-fits low r = own-has (λ word. word < 2 ^ 32) low r (λ k. omega arith) (λ k. omega arith) (λ l k. pow-lt {j = 32} (omega arith))
 
 -- ---- the word
 
@@ -131,18 +127,7 @@ module _ (t : List ℕ) (low : ℕ) where
       (λ k l. (below-high 0 r g k l, below-high 0 r word k l)) (baseOf (form t r)))
       ∙ sym (rec-eq 0 step r)
 
-  -- it fits 32 bits
-  pub word-fits : (r : ℕ) → wordOf t low r < 2 ^ 32
-  unfolding wordOf
-  word-fits r =
-      rec-ind 0 step (λ k word. word < 2 ^ 32)
-      (λ r g lower other.
-      or-lt 32 _ _
-      (base-rel (λ x y. x < 2 ^ 32) r g g (omega arith) lower (λ k l. (other k l, other k l)) (baseOf (form t r)))
-      (own-fits low r))
-      r
-
-  -- and says what the row extends
+  -- it says what the row extends
   pub word-bit : (i r : ℕ) → i < 32 → bitOf (wordOf t low r) i ≡ extends t r (low + i)
   unfolding wordOf extendsTo
   word-bit i r h =
@@ -150,6 +135,7 @@ module _ (t : List ℕ) (low : ℕ) where
       (λ r g g′ lower other.
       let base = baseOf (form t r) in
       bit-or i (ofBase 0 g base) (ownBit low r) h
-      ∙ ap₂ _||_ (base-rel (λ word extends. bitOf word i ≡ extends) r g g′ (bit-none i) lower other base) (own-bit i low r h)
+      ∙ ap₂ _||_ (base-rel (λ word extends. bitOf word i ≡ extends) r g g′ (bit-none i) lower other base)
+      (own-bit i low r h)
       ∙ or-choose (ofBase false g′ base) (eqb r (low + i)))
       r

@@ -77,7 +77,8 @@ fn pass_object(
     k: u32,
     place: u32,
 ) -> Passing
-    requires { ⌜ Ready (now (now image)) (now plan) × Stands s (now store) 1 × (s .top + (place + 2) ≤ length (now store)) ⌝ }
+    requires { ⌜ Ready (now (now image)) (now plan) × Stands s (now store) 1
+        × (s .top + (place + 2) ≤ length (now store)) ⌝ }
     ensures { λ x. ⌜ ((output : List ℤ) → Passes (stateOf s (now (store .entry)) output)
         (λ next. onPlace (stateOf s (now (store .entry)) output)
         (findOf bare (programOf (now (now (image .entry)))) (s .base) (s .top) (now (store .entry)) k)
@@ -105,7 +106,8 @@ fn pass_value(
     k: u32,
     place: u32,
 ) -> Passing
-    requires { ⌜ Ready (now (now image)) (now plan) × Stands s (now store) 1 × (s .top + (place + 1) ≤ length (now store)) ⌝ }
+    requires { ⌜ Ready (now (now image)) (now plan) × Stands s (now store) 1
+        × (s .top + (place + 1) ≤ length (now store)) ⌝ }
     ensures { λ x. ⌜ ((output : List ℤ) → Passes (stateOf s (now (store .entry)) output)
         (λ next. onValue (stateOf s (now (store .entry)) output)
         (evalOf bare (programOf (now (now (image .entry)))) (s .base) (s .top) (now (store .entry)) k)
@@ -132,7 +134,8 @@ fn pass_cells(
     place: u32,
     r: u16,
 ) -> Passing
-    requires { ⌜ Ready (now (now image)) (now plan) × Stands s (now store) 1 × (r < rowsOf (programOf (now (now image)) .types))
+    requires { ⌜ Ready (now (now image)) (now plan) × Stands s (now store) 1
+        × (r < rowsOf (programOf (now (now image)) .types))
         × (s .top + (place + sizeOf (programOf (now (now image)) .types) (programOf (now (now image)) .fields) r)
         ≤ length (now store)) ⌝ }
     ensures { λ x. ⌜ ((output : List ℤ) → Passes (stateOf s (now (store .entry)) output)
@@ -160,7 +163,8 @@ fn pass_cells(
 
 // One argument: node row k, to variable row a.
 fn pass(image: &&[u8], plan: &Plan, store: &mut [i64], s: Registers, k: u32, a: u32) -> Passing
-    requires { ⌜ Ready (now (now image)) (now plan) × Stands s (now store) 1 × Roomy (now (now image)) (s .top) a (now store) ⌝ }
+    requires { ⌜ Ready (now (now image)) (now plan) × Stands s (now store) 1
+        × Roomy (now (now image)) (s .top) a (now store) ⌝ }
     ensures { λ x. ⌜ ((output : List ℤ) → Passes (stateOf s (now (store .entry)) output)
         (passedOne bare (programOf (now (now (image .entry)))) k a (stateOf s (now (store .entry)) output))
         x (now (store .exit))) ⌝ }
@@ -223,9 +227,11 @@ fn write_frame(frame: &mut [i64], past: u32, size: u32, caller: u32, back: u32, 
 // Where the locals of procedure q begin in its frame.
 fn locals_place(image: &&[u8], plan: &Plan, q: u16) -> u32
     requires { ⌜ Ready (now (now image)) (now plan) × (q < rowsOf (programOf (now (now image)) .procedures)) ⌝ }
-    ensures { λ x. ⌜ x ≡ 3 + roomFrom (programOf (now (now (image .entry))) .types) (programOf (now (now (image .entry))) .fields)
-        (programOf (now (now (image .entry))) .variables) (firstVariable (programOf (now (now (image .entry))) .variables)
-        (programOf (now (now (image .entry))) .procedures) q) (rowAt (programOf (now (now (image .entry))) .procedures) q .b) ⌝ }
+    ensures { λ x. ⌜ x ≡ 3 + roomFrom (programOf (now (now (image .entry))) .types)
+        (programOf (now (now (image .entry))) .fields) (programOf (now (now (image .entry))) .variables)
+        (firstVariable (programOf (now (now (image .entry))) .variables)
+        (programOf (now (now (image .entry))) .procedures) q)
+        (rowAt (programOf (now (now (image .entry))) .procedures) q .b) ⌝ }
 {
     let procedure = access::procedure_at(image, plan, q);
     let parameters = procedure.b;
@@ -240,12 +246,13 @@ fn locals_place(image: &&[u8], plan: &Plan, q: u16) -> u32
 // The call of procedure q, whose arguments are passed.
 fn enter(image: &&[u8], plan: &Plan, store: &mut [i64], s: Registers, q: u16) -> Step
     requires { ⌜ Ready (now (now image)) (now plan) × Stands s (now store) 1
-        × (q < rowsOf (programOf (now (now image)) .procedures)) × (s .row < rowsOf (programOf (now (now image)) .statements))
+        × (q < rowsOf (programOf (now (now image)) .procedures))
+        × (s .row < rowsOf (programOf (now (now image)) .statements))
         × (s .top + frameSize (programOf (now (now image)) .types) (programOf (now (now image)) .fields)
         (programOf (now (now image)) .variables) (programOf (now (now image)) .procedures) q ≤ length (now store)) ⌝ }
     ensures { λ x. ⌜ ((output : List ℤ) → Shows (stateOf s (now (store .entry)) output)
-        (entered bare (programOf (now (now (image .entry)))) q (rowAt (programOf (now (now (image .entry))) .procedures) q)
-        (stateOf s (now (store .entry)) output)) x (now (store .exit)) output) ⌝ }
+        (entered bare (programOf (now (now (image .entry)))) q
+        (rowAt (programOf (now (now (image .entry))) .procedures) q) (stateOf s (now (store .entry)) output)) x (now (store .exit)) output) ⌝ }
 {
     let row = s.row;
     let base = s.base;

@@ -1,21 +1,20 @@
--- What a field's cell says, and how large a cell is.
+-- What a field's cell says.
 use mathlib.Core.Path.{_≡_, sym, _∙_, ap}
 use mathlib.Core.Logic.{_⊎_, inl, inr}
 use mathlib.Core.List.{List}
 use Prim.Native.Nat.{ℕ, _+_, _*_, _≤_, _<_}
 use native.Mathlib.Omega.{arith}
 use native.Mathlib.Decide.{decLt}
-use borrow.Author.Tests.{lt-ltb, le-ltb, ltb-false}
-use lib.Dec.{ltb, eqb}
+use borrow.Author.Tests.{lt-ltb, le-ltb}
 use Rattle.prelude.specs.Choice.{choose}
 use Rattle.prelude.specs.Rec.{below}
-use Rattle.prelude.proofs.Choice.{choose-yes, choose-no, choose-has}
+use Rattle.prelude.proofs.Choice.{choose-yes, choose-no}
 use Rattle.prelude.proofs.Rec.{rec-eq}
 use Rattle.image.specs.Rows.{rowAt}
 use Rattle.relations.specs.declared.FieldAnswer.{FieldAnswer}
 use Rattle.relations.specs.declared.FieldAnswer.the-variants.{Missing, Field}
 use Rattle.relations.specs.Fields.{fieldOf}
-use Rattle.designators.specs.Designators.{UNKNOWN, offsetIn, typeIn, recordIn, fieldCell, typedCell}
+use Rattle.designators.specs.Designators.{UNKNOWN, offsetIn, typeIn, recordIn, fieldCell}
 use Rattle.designators.specs.Designators.{cellBy, cellOf}
 
 -- ---- the cell of a field
@@ -90,35 +89,3 @@ module _ (t f v n : List ℕ) (r : ℕ) where
       ap (λ k. fieldOf t f k (row .b)) (sym same)
       ∙ found
       ∙ ap (λ c. Field (offsetIn c) (typeIn c)) (sym here)
-
--- ---- how large it is
-
--- in 32 bits
-abbrev Fits : ℕ → Type 0
-Fits cell = cell < 4294967296
-
-field-fits : (d : ℕ) (x : FieldAnswer) → Fits (fieldCell d x)
-unfolding fieldCell
-field-fits d Missing = omega arith
-field-fits d (Field offset r) = go (fieldCell d (Field offset r)) (packed d offset r)
-  where
-    go : (cell : ℕ) → (cell ≡ UNKNOWN) ⊎ Packed d offset r cell → Fits cell
-    go cell (inl none) = omega arith
-    go cell (inr p) = omega (arith, p .cell-is, p .offset-low, p .type-low, p .record-low)
-
-typed-fits : (r : ℕ) → Fits (typedCell r)
-unfolding typedCell
-typed-fits r = choose-has Fits (ltb 254 r) (λ e. omega arith) (λ e. omega (arith, ltb-false 254 r e))
-
-pub cell-fits : (t f v n : List ℕ) (r : ℕ) → cellOf t f v n r < 4294967296
-unfolding cellBy
-cell-fits t f v n r =
-    let row = rowAt n r in
-    rw (cell-eq t f v n r)
-    (choose-has Fits (eqb (row .kind) 1)
-    (λ e. typed-fits _)
-    (λ e. choose-has Fits (eqb (row .kind) 2)
-    (λ e. field-fits _ _)
-    (λ e. choose-has Fits (eqb (row .kind) 3)
-    (λ e. typed-fits _)
-    (λ e. choose-has Fits (eqb (row .kind) 4) (λ e. typed-fits _) (λ e. omega arith)))))
