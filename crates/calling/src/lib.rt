@@ -252,7 +252,8 @@ fn enter(image: &&[u8], plan: &Plan, store: &mut [i64], s: Registers, q: u16) ->
         (programOf (now (now image)) .variables) (programOf (now (now image)) .procedures) q ≤ length (now store)) ⌝ }
     ensures { λ x. ⌜ ((output : List ℤ) → Shows (stateOf s (now (store .entry)) output)
         (entered bare (programOf (now (now (image .entry)))) q
-        (rowAt (programOf (now (now (image .entry))) .procedures) q) (stateOf s (now (store .entry)) output)) x (now (store .exit)) output) ⌝ }
+        (rowAt (programOf (now (now (image .entry))) .procedures) q) (stateOf s (now (store .entry)) output))
+        x (now (store .exit)) output) ⌝ }
 {
     let row = s.row;
     let base = s.base;
