@@ -24,7 +24,7 @@ extern "C" {
  * calls itself. Run: expressions of 2,048 nodes, the deepest that an accepted image can have, in a thread with this
  * stack and four pages more for the thread itself. */
 #define DOOR_CHECK_STACK 20992
-#define DOOR_RUN_STACK 606208
+#define DOOR_RUN_STACK 483328
 
 /* Refusals: the first of document 01's questions that is answered "no", and then the lowest row at fault. Rows count
  * from 0. door_check gives 0 to 11, door_run all of them.

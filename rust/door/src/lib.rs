@@ -68,7 +68,7 @@ pub const CHECK_STACK: usize = 20_992;
 /// });
 /// assert_eq!(thread.expect("a thread").join().expect("an answer"), Ok(1));
 /// ```
-pub const RUN_STACK: usize = 606_208;
+pub const RUN_STACK: usize = 483_328;
 
 /// Why nothing was run: the first of document 01's questions that is answered "no", and the row at fault.
 ///
