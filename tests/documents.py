@@ -7,7 +7,7 @@ README.md:
   in target/ and is not asked for;
 - an indented block behind a line that ends with a file in backticks and a colon stands in that file word for word, up
   to white space; a line `..` parts pieces that follow one another there;
-- of `crate::name` the crate has such a function, struct, enum or constant;
+- of `crate::name` the crate has such a function, struct, enum, constant or type;
 - of `crate/Module`: `name`, `name` the module, in specs/ or proofs/, defines or proves each name;
 - of `crate/must-fail/name` there is such an edit;
 - of a decision's number, as D17, docs/DECISIONS.md has the entry;
@@ -29,7 +29,7 @@ TOP = pathlib.Path(__file__).resolve().parent.parent
 CRATES = TOP / 'crates'
 FILE = re.compile(r'(?:crates|docs|examples|include|rust|tests|tools|vectors|\.ci)/[^\s`]*')
 ANY = re.compile('[A-Z]{2,}(?=[/.]|$)|NNNNN')
-ITEM = r'(?:pub )?(?:extern "C" )?(?:fn|struct|enum|const) '
+ITEM = r'(?:pub )?(?:extern "C" )?(?:fn|struct|enum|const|type) '
 DEFINES = r'(?:unfoldable |abbrev )?(?:pub )?(?:record |data )?'
 DECISIONS = set(re.findall(r'^\*\*(D[0-9]+)\.', (TOP / 'docs/DECISIONS.md').read_text(encoding='utf-8'), re.MULTILINE))
 MODULE = re.compile(r'`([a-z_]+)/([A-Z]\w*)`(?::((?:(?:,| and)?\s+`[^`\s/]+`)+))?')
