@@ -84,7 +84,7 @@ pub fn statement_at(image: &&[u8], plan: &Plan, r: u32) -> Row
 
 // ---- types
 
-// Whether type row r extends row u.
+// Whether type row r extends row u: a bit of row r's. Past the last row there can be, each row extends itself alone.
 pub fn extends(image: &&[u8], plan: &Plan, r: u16, u: u16) -> bool
     requires { ⌜ Planned (now (now image)) (now plan) ⌝ }
     ensures { λ x. ⌜ x ≡ extendsOf (programOf (now (now (image .entry))) .types) r u ⌝ }
@@ -101,7 +101,8 @@ pub fn extends(image: &&[u8], plan: &Plan, r: u16, u: u16) -> bool
     false
 }
 
-// The field that node row k names, of an object of type row r.
+// The field that node row k names, of an object of type row r: by the node's cell if that is of the same record, else up
+// the bases.
 pub fn field(image: &&[u8], plan: &Plan, k: u32, r: u16) -> FieldAnswer
     requires { ⌜ Planned (now (now image)) (now plan) × (rowAt (programOf (now (now image)) .nodes) k .kind ≡ 2)
         × (r < rowsOf (programOf (now (now image)) .types)) ⌝ }
