@@ -187,7 +187,7 @@ fn type_test(image: &&[u8], plan: &Plan, place: Place, b: u16) -> Answer
 // ---- nodes
 
 // The object that node row r designates.
-pub fn find(image: &&[u8], plan: &Plan, store: &&[i64], base: u32, top: u32, r: u32) -> Found
+fn find(image: &&[u8], plan: &Plan, store: &&[i64], base: u32, top: u32, r: u32) -> Found
     requires { ⌜ Standing (now (now image)) (now plan) base top (now (now store)) ⌝ }
     ensures { λ x. ⌜ x ≡ findOf bare (programOf (now (now (image .entry)))) base top (now (now (store .entry))) r ⌝ }
 {
@@ -251,7 +251,7 @@ pub fn find(image: &&[u8], plan: &Plan, store: &&[i64], base: u32, top: u32, r: 
 }
 
 // The value of node row r.
-pub fn eval(image: &&[u8], plan: &Plan, store: &&[i64], base: u32, top: u32, r: u32) -> Answer
+fn eval(image: &&[u8], plan: &Plan, store: &&[i64], base: u32, top: u32, r: u32) -> Answer
     requires { ⌜ Standing (now (now image)) (now plan) base top (now (now store)) ⌝ }
     ensures { λ x. ⌜ x ≡ evalOf bare (programOf (now (now (image .entry)))) base top (now (now (store .entry))) r ⌝ }
 {
@@ -362,6 +362,7 @@ pub fn eval(image: &&[u8], plan: &Plan, store: &&[i64], base: u32, top: u32, r: 
                 }
             }
         }
+        // one call serves both: the answer of each call has a place of its own in the frame
         6 | 8 => {
             if r <= first {
                 return Answer::Stuck;
