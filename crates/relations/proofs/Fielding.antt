@@ -76,21 +76,36 @@ own-at f j zero k h = absurd (omega arith)
 own-at f zero (suc n) k h = let q : k + 0 ≡ k = omega arith in rw q
 own-at f (suc j) (suc n) k h = let q : k + 1 + j ≡ k + suc j = omega arith in rw q at (own-at f j n (k + 1) (omega arith))
 
--- ---- an accepted table and its plan
+-- ---- an accepted table
 
-module _ (t f plan : List ℕ) (kept : TypesKept t f) (p : Plan t f (rowsOf t) plan) where
+module _ (t f : List ℕ) (kept : TypesKept t f) where
+  -- a record's fields: its base's, then its own
+  pub fields-of : (r : ℕ) → r < rowsOf t → rowAt t r .kind ≡ 4
+      → fieldsOf t f r ≡ ofBase [] (fieldsOf t f) (rowAt t r .a) ++ ownTypes f (rowAt t r .b) (rowAt t r .c)
+  unfolding form fieldsBy
+  fields-of r low kind = fields-are t f r (kept .row r low .shape) ∙ rw (form-record (rowAt t r) kind)
+
+  pub no-fields : (r : ℕ) → r < rowsOf t → (rowAt t r .kind ≡ 4 → ⊥) → fieldsOf t f r ≡ []
+  unfolding form
+  no-fields r low other = fields-are t f r (kept .row r low .shape) ∙ other-fields f (fieldsOf t f) (rowAt t r) other
+
   -- a record's size is its fields'
-  size-fields : (r : ℕ) → r < rowsOf t → rowAt t r .kind ≡ 4 → sum (map (sizeOf t f) (fieldsOf t f r)) ≡ sizeOf t f r
+  pub size-fields : (r : ℕ) → r < rowsOf t → rowAt t r .kind ≡ 4
+      → sum (map (sizeOf t f) (fieldsOf t f r)) ≡ sizeOf t f r
   size-fields r low kind =
       sym (length-joined (sizeOf t f) (layoutOf t f) (layout-length t f) (fieldsOf t f r))
       ∙ ap length (sym (record-layout t f kept (suc r) r (omega arith) low kind))
       ∙ layout-length t f r
 
-  base-size : {r a : ℕ} → r < rowsOf t → Based t r a → sum (map (sizeOf t f) (ofBase [] (fieldsOf t f) a)) ≡ ofBase 0 (sizeOf t f) a
+  pub base-size : {r a : ℕ} → r < rowsOf t → Based t r a
+      → sum (map (sizeOf t f) (ofBase [] (fieldsOf t f) a)) ≡ ofBase 0 (sizeOf t f) a
   unfolding ofBase sum
   base-size low no-base = refl
   base-size low (on-base {b = b} l kind) = size-fields b (omega arith) kind
 
+-- ---- an accepted table and its plan
+
+module _ (t f plan : List ℕ) (kept : TypesKept t f) (p : Plan t f (rowsOf t) plan) where
   base-count : (a : ℕ) → ofBase 0 (λ b. length (fieldsOf t f b)) a ≡ length (ofBase [] (fieldsOf t f) a)
   unfolding ofBase
   base-count zero = refl
@@ -110,16 +125,16 @@ module _ (t f plan : List ℕ) (kept : TypesKept t f) (p : Plan t f (rowsOf t) p
             ≡ fieldIn (sizeOf t f) (inner ++ ownTypes f b c) (length inner + j)
         go (yes h) =
             choose-yes _ _ _ (lt-ltb j c h)
-            ∙ (rw (p .offset r a b c j low is h, ← own-at f j c b h, ← base-size low on, ← own-take f j c b (omega arith)))
+            ∙ (rw (
+              p .offset r a b c j low is h,
+              ← own-at f j c b h,
+              ← base-size t f kept low on,
+              ← own-take f j c b (omega arith),
+            ))
             ∙ sym (field-back (sizeOf t f) inner (ownTypes f b c) j (rw (own-length f b c) h))
         go (no h) =
             choose-no _ _ _ (le-ltb j c (omega arith))
             ∙ sym (field-past (sizeOf t f) inner (ownTypes f b c) j (rw (own-length f b c) (omega arith)))
-
-  fields-of : (r : ℕ) → r < rowsOf t → rowAt t r .kind ≡ 4
-      → fieldsOf t f r ≡ ofBase [] (fieldsOf t f) (rowAt t r .a) ++ ownTypes f (rowAt t r .b) (rowAt t r .c)
-  unfolding form fieldsBy
-  fields-of r low kind = fields-are t f r (kept .row r low .shape) ∙ rw (form-record (rowAt t r) kind)
 
   inherited-of : (r : ℕ) → r < rowsOf t → rowAt t r .kind ≡ 4
       → getD plan (INHERITED + r) 0 ≡ length (ofBase [] (fieldsOf t f) (rowAt t r .a))
@@ -140,9 +155,6 @@ module _ (t f plan : List ℕ) (kept : TypesKept t f) (p : Plan t f (rowsOf t) p
   field-by zero n r h low = absurd (omega arith)
   field-by (suc m) n r h low = go (decide (rowAt t r .kind) 4) (λ b l. field-by m n b (omega arith) (omega arith))
     where
-      none : (rowAt t r .kind ≡ 4 → ⊥) → fieldsOf t f r ≡ []
-      none other = fields-are t f r (kept .row r low .shape) ∙ other-fields f (fieldsOf t f) (rowAt t r) other
-
       found : (kind : rowAt t r .kind ≡ 4) → Dec (n < length (ofBase [] (fieldsOf t f) (rowAt t r .a)))
           → ((b : ℕ) → b < r → plannedField t f plan n b ≡ fieldIn (sizeOf t f) (fieldsOf t f b) n)
           → plannedField t f plan n r ≡ fieldIn (sizeOf t f) (ofBase [] (fieldsOf t f) (rowAt t r .a) ++ ownTypes f (rowAt t r .b) (rowAt t r .c)) n
@@ -161,8 +173,13 @@ module _ (t f plan : List ℕ) (kept : TypesKept t f) (p : Plan t f (rowsOf t) p
 
       go : (rowAt t r .kind ≡ 4) ⊎ (rowAt t r .kind ≡ 4 → ⊥) → ((b : ℕ) → b < r → plannedField t f plan n b ≡ fieldIn (sizeOf t f) (fieldsOf t f b) n)
           → plannedField t f plan n r ≡ fieldIn (sizeOf t f) (fieldsOf t f r) n
-      go (inl kind) ih = found kind (decLt n (length (ofBase [] (fieldsOf t f) (rowAt t r .a)))) ih ∙ ap (λ l. fieldIn (sizeOf t f) l n) (sym (fields-of r low kind))
-      go (inr other) ih = planned-other t f plan n r refl other ∙ sym (ap (λ l. fieldIn (sizeOf t f) l n) (none other) ∙ choose-no _ _ _ (le-ltb n 0 (omega arith)))
+      go (inl kind) ih =
+          found kind (decLt n (length (ofBase [] (fieldsOf t f) (rowAt t r .a)))) ih
+          ∙ ap (λ l. fieldIn (sizeOf t f) l n) (sym (fields-of t f kept r low kind))
+      go (inr other) ih =
+          planned-other t f plan n r refl other
+          ∙ sym (ap (λ l. fieldIn (sizeOf t f) l n) (no-fields t f kept r low other)
+          ∙ choose-no _ _ _ (le-ltb n 0 (omega arith)))
 
   -- the function `field` finds just the field that there is, where it begins and its type
   pub field-is : (r n : ℕ) → r < rowsOf t → plannedField t f plan n r ≡ fieldOf t f r n

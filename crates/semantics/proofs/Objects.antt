@@ -42,7 +42,7 @@ use Rattle.semantics.proofs.FieldRows.{field-nth}
 -- ---- the variables of one run of rows
 
 -- the first of some variables comes before the others
-room-first : (size : ℕ → ℕ) (v : List ℕ) (k n : ℕ)
+pub room-first : (size : ℕ → ℕ) (v : List ℕ) (k n : ℕ)
     → roomBy size v k (suc n) ≡ widthBy size v k + roomBy size v (k + 1) n
 unfolding roomBy
 room-first size v k zero = let q : k + 0 ≡ k = omega arith in rw q (omega arith)
@@ -73,7 +73,7 @@ unfolding globalsOf
 global-kind v k h = global-is v k (globals-are v (rowsOf v) 0 k (omega arith) h)
 
 module _ (g : Program) where
-  kinds-width : (k : ℕ) → length (kindsOf g k) ≡ widthOf (g .types) (g .fields) (g .variables) k
+  pub kinds-width : (k : ℕ) → length (kindsOf g k) ≡ widthOf (g .types) (g .fields) (g .variables) k
   unfolding kindsOf widthBy choose
   kinds-width k = go (eqb (rowAt (g .variables) k .kind) 3)
     where

@@ -1,0 +1,4 @@
+pub mod Objects
+pub mod Built
+pub mod Told
+pub mod Resuming

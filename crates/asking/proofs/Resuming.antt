@@ -1,0 +1,124 @@
+-- A run that goes on, in two goes and in one.
+use mathlib.Core.Path.{_≡_, refl, sym, _∙_, ap}
+use mathlib.Core.Bool.{true}
+use mathlib.Core.List.{List, [], _∷_, _++_, map}
+use Prim.Native.Nat.{ℕ, zero, suc, _+_}
+use native.Mathlib.Omega.{arith}
+use lib.IntN.{ℤ}
+use lib.ListN.{length, drop}
+use Rattle.prelude.proofs.Parts.{map-append}
+use Rattle.image.specs.Rows.{Bytes}
+use Rattle.checker.proofs.Accepted.{AcceptedTables}
+use Rattle.semantics.specs.declared.Registers.{Registers}
+use Rattle.semantics.specs.Memory.{Cell, Memory, tagged, bare}
+use Rattle.semantics.specs.Layout.{Program}
+use Rattle.semantics.specs.Stepping.{State, Next, Next.goes, Next.finished, Next.trapped, Next.stuck, stepOf}
+use Rattle.semantics.specs.Running.{Ended, onward, runFrom}
+use Rattle.semantics.specs.Sound.{Sound}
+use Rattle.semantics.proofs.Agreeing.{numbers}
+use Rattle.semantics.proofs.Simulation.{erase, eraseEnded, run-follows}
+use Rattle.semantics.specs.Demand3.{NextOk, NextOk.ok-goes, NextOk.ok-finished, NextOk.ok-trapped}
+use Rattle.semantics.proofs.AnyStep.{step-ok}
+use Rattle.asking.specs.State.{zipped, dressed, kindsBelow, framesOf, soundOf}
+use Rattle.asking.specs.Resuming.{resumed}
+use Rattle.asking.proofs.Built.{yes-sound}
+use Rattle.asking.proofs.Told.{sound-told}
+
+-- ---- steps in two goes, over any memory
+
+run-split : {X : Type 0} (m : Memory X) (g : Program) (input : List ℤ) (n j k : ℕ) (s : State X)
+    → runFrom m g input n k s .outcome ≡ 0
+    → runFrom m g input (n + j) k s
+    ≡ runFrom m g input j (runFrom m g input n k s .steps) (runFrom m g input n k s .state)
+unfolding runFrom onward
+run-split m g input zero j k s e = let q : 0 + j ≡ j = omega arith in rw q
+run-split {X} m g input (suc n) j k s e =
+    let more : suc n + j ≡ suc (n + j) = omega arith in
+    rw more (go (stepOf m g input s) e (λ u h. run-split m g input n j (k + 1) u h))
+  where
+    first : State X → Ended X
+    first u = runFrom m g input n (k + 1) u
+
+    go : (x : Next X) → onward x s (k + 1) first .outcome ≡ 0
+        → ((u : State X) → first u .outcome ≡ 0
+        → runFrom m g input (n + j) (k + 1) u ≡ runFrom m g input j (first u .steps) (first u .state))
+        → onward x s (k + 1) (λ u. runFrom m g input (n + j) (k + 1) u)
+        ≡ runFrom m g input j (onward x s (k + 1) first .steps) (onward x s (k + 1) first .state)
+    go (goes u) h ih = ih u h
+    go finished h ih = absurd (omega arith)
+    go (trapped t z u) h ih = absurd (omega arith)
+    go (stuck u) h ih = absurd (omega arith)
+
+-- ---- numbers are kept
+
+zipped-numbers : (ks : List ℕ) (l : List ℤ) → numbers (zipped ks l) ++ drop (length ks) l ≡ l
+unfolding zipped tagged
+zipped-numbers [] l = refl
+zipped-numbers (k ∷ ks) [] = refl
+zipped-numbers (k ∷ ks) (z ∷ l) = ap (λ (r : List ℤ). z ∷ r) (zipped-numbers ks l)
+
+loose-same : (l : List ℤ) → numbers (map (tagged .loose) l) ≡ l
+unfolding tagged
+loose-same [] = refl
+loose-same (z ∷ l) = ap (λ (r : List ℤ). z ∷ r) (loose-same l)
+
+dressed-numbers : (ks : List ℕ) (l : List ℤ) → numbers (dressed ks l) ≡ l
+unfolding dressed
+dressed-numbers ks l =
+    map-append (tagged .number) (zipped ks l) (map (tagged .loose) (drop (length ks) l))
+    ∙ ap (λ r. numbers (zipped ks l) ++ r) (loose-same (drop (length ks) l)) ∙ zipped-numbers ks l
+
+module _ (g : Program)
+    (ok : AcceptedTables (g .types) (g .fields) (g .variables) (g .procedures) (g .nodes) (g .statements))
+    (bytes : Bytes (g .nodes)) (input : List ℤ) where
+  -- ---- from any sound state
+
+  -- a run is never stuck, and one whose steps are used up leaves a sound state
+  pub record RunOk (e : Ended Cell) : Type 0 where
+    pub not-stuck : e .outcome ≡ 3 → ⊥
+    pub sound : e .outcome ≡ 0 → Sound g (e .state)
+
+  pub run-ok : (n k : ℕ) (s : State Cell) → Sound g s → RunOk (runFrom tagged g input n k s)
+  unfolding runFrom onward
+  run-ok zero k s sound = record { not-stuck = λ e. absurd (omega arith); sound = λ e. sound }
+  run-ok (suc n) k s sound =
+      go (stepOf tagged g input s) (step-ok g ok bytes s sound input) (λ u h. run-ok n (k + 1) u h)
+    where
+      go : (x : Next Cell) → NextOk g s x → ((u : State Cell) → Sound g u → RunOk (runFrom tagged g input n (k + 1) u))
+          → RunOk (onward x s (k + 1) (λ u. runFrom tagged g input n (k + 1) u))
+      go x (ok-goes {s′ = u} next cells output) ih = ih u next
+      go x ok-finished ih = record { not-stuck = λ e. absurd (omega arith); sound = λ e. absurd (omega arith) }
+      go x (ok-trapped same) ih = record { not-stuck = λ e. absurd (omega arith); sound = λ e. absurd (omega arith) }
+
+  resumed-erased : (s : Registers) (store output : List ℤ)
+      → erase (resumed g s store output) ≡ record { at = s; cells = store; output = output }
+  unfolding resumed
+  resumed-erased s store output = rw (dressed-numbers (kindsBelow g (framesOf g s store)) store)
+
+  -- a run that goes on from numbers does on the bare machine what it does on the tagged one
+  pub resumed-bare : (s : Registers) (store output : List ℤ) → soundOf g s store ≡ true → (n k : ℕ)
+      → runFrom bare g input n k (record { at = s; cells = store; output = output })
+      ≡ eraseEnded (runFrom tagged g input n k (resumed g s store output))
+  resumed-bare s store output e n k =
+      ap (λ (u : State ℤ). runFrom bare g input n k u) (sym (resumed-erased s store output))
+      ∙ run-follows g input n k (resumed g s store output)
+      (run-ok n k (resumed g s store output) (yes-sound g ok s store output e) .not-stuck)
+
+  -- "Where a run of n steps ends with outcome 0, continuing for m gives what one run of n + m gives": in numbers, since
+  -- above top the two runs' cells may have other kinds
+  pub continue-adds : (n m k : ℕ) (s : State Cell) → Sound g s → runFrom tagged g input n k s .outcome ≡ 0
+      → eraseEnded (runFrom tagged g input m (runFrom tagged g input n k s .steps)
+      (resumed g (runFrom tagged g input n k s .state .at) (numbers (runFrom tagged g input n k s .state .cells))
+      (runFrom tagged g input n k s .state .output)))
+      ≡ eraseEnded (runFrom tagged g input (n + m) k s)
+  continue-adds n m k s sound used =
+      let e = runFrom tagged g input n k s in
+      let first = run-ok n k s sound in
+      let told = sound-told g ok (e .state) (first .sound used) in
+      let bare-first = run-follows g input n k s (first .not-stuck) in
+      let both = run-follows g input (n + m) k s (run-ok (n + m) k s sound .not-stuck) in
+      let used-too : runFrom bare g input n k (erase s) .outcome ≡ 0 =
+      ap (λ (x : Ended ℤ). x .outcome) bare-first ∙ used in
+      sym (resumed-bare (e .state .at) (numbers (e .state .cells)) (e .state .output) told m (e .steps))
+      ∙ ap (λ (x : Ended ℤ). runFrom bare g input m (x .steps) (x .state)) (sym bare-first)
+      ∙ sym (run-split bare g input n m k (erase s) used-too) ∙ both

@@ -1,0 +1,119 @@
+-- The fields of a record, base by base.
+use mathlib.Core.Path.{_≡_, refl, sym, _∙_, ap}
+use mathlib.Core.Bool.{Bool, true, false}
+use mathlib.Core.List.{List, [], _∷_, _++_, map}
+use Prim.Native.Nat.{ℕ, zero, suc, _-_, _≤_, _<_}
+use native.Mathlib.Omega.{arith}
+use borrow.Author.Tests.{le-leb}
+use lib.Dec.{leb}
+use Rattle.prelude.specs.Choice.{choose}
+use Rattle.prelude.specs.Parts.{sum, Nth, Nth.here, Nth.there}
+use Rattle.prelude.proofs.Choice.{choose-yes, choose-no}
+use Rattle.image.specs.declared.Row.{Row}
+use Rattle.image.specs.Rows.{rowAt, rowsOf}
+use Rattle.shapes.specs.Forms.{ofBase, ownTypes}
+use Rattle.shapes.specs.Sizes.{sizeOf, fieldsOf}
+use Rattle.shapes.proofs.Rows.{less-one, of-base}
+use Rattle.shapes.proofs.Accepted.{Based, Based.no-base, Based.on-base, TypesKept, field-low}
+use Rattle.types.proofs.Accepted.{types-kept}
+use Rattle.relations.proofs.Fielding.{fields-of, base-size}
+use Rattle.objects.specs.Begins.{partsOf, among}
+use Rattle.objects.specs.Looking.{held, Typed, Edges, LowTypes}
+use Rattle.objects.proofs.Following.{either, first-alone, among-append, among-past, among-agree}
+use Rattle.objects.proofs.Beginning.{record-row, fields-low, based-low, parts-low}
+
+map-agree : (g h : ℕ → ℕ) (l : List ℕ) → ((n u : ℕ) → Nth l n u → g u ≡ h u) → map g l ≡ map h l
+map-agree g h [] same = refl
+map-agree g h (u ∷ l) same = rw (same 0 u here, map-agree g h l (λ n v k. same (suc n) v (there k)))
+
+-- a base's row is a row of the table
+pub in-table : {at r n : ℕ} → r < n → at ≤ r → at < n
+in-table a b = omega arith
+
+module _ {t f plan : List ℕ} (typed : Typed t f plan) where
+  pub kept : TypesKept t f
+  kept = types-kept t f (typed .kept)
+
+  -- ---- sizes by the plan
+
+  pub held-size : (u : ℕ) → u < rowsOf t → held plan u ≡ sizeOf t f u
+  held-size u low = typed .planned .size u low
+
+  pub by-plan : (deeper : ℕ → ℕ → Bool) (r o : ℕ) → r < rowsOf t
+      → among deeper (held plan) (partsOf t f r) o ≡ among deeper (sizeOf t f) (partsOf t f r) o
+  by-plan deeper r o low =
+      among-agree deeper deeper (held plan) (sizeOf t f) (partsOf t f r) o
+      (λ n u h. (λ x. refl, held-size u (let l = parts-low t f kept r low h in omega arith)))
+
+  base-held : {r a : ℕ} → r < rowsOf t → Based t r a
+      → sum (map (held plan) (ofBase [] (fieldsOf t f) a)) ≡ ofBase 0 (held plan) a
+  base-held low no-base = unfold ofBase sum in refl
+  base-held {r} low (on-base {b = b} l kind) = unfold ofBase in (
+      ap sum (map-agree (held plan) (sizeOf t f) (fieldsOf t f b)
+      (λ n u h. held-size u (let k = fields-low t f kept b (omega arith) h in omega arith)))
+      ∙ base-size t f kept {r = r} low (on-base l kind) ∙ sym (held-size b (omega arith)))
+
+  -- ---- the record in row `at`
+
+  module _ (at : ℕ) (low : at < rowsOf t) (kind : rowAt t at .kind ≡ 4) {row : Row} (this : row ≡ rowAt t at) where
+    on : Based t at (row .a)
+    on = rw this (record-row t f kept at low kind .1 .on)
+
+    pub own-low : LowTypes f (row .b) (row .c) at
+    own-low =
+        let own = record-row t f kept at low kind .1 .own in
+        rw this (record { each = λ j least most. field-low f at j (own .each j least most) })
+
+    pub base-lower : 0 < row .a → (row .a - 1 < at) × (rowAt t (row .a - 1) .kind ≡ 4)
+    base-lower h = go (row .a) on h
+      where
+        go : (a : ℕ) → Based t at a → 0 < a → (a - 1 < at) × (rowAt t (a - 1) .kind ≡ 4)
+        go zero b h = absurd (omega arith)
+        go (suc k) (on-base l kind) h = (omega arith, rw (less-one k) kind)
+
+    whole : fieldsOf t f at ≡ ofBase [] (fieldsOf t f) (row .a) ++ ownTypes f (row .b) (row .c)
+    whole = rw this (fields-of t f kept at low kind)
+
+    inner-low : {n u : ℕ} → Nth (ofBase [] (fieldsOf t f) (row .a)) n u → u < at
+    inner-low h = based-low t f kept on (λ b m v l x. fields-low t f kept b (omega arith) x) h
+
+    module _ {deeper : ℕ → ℕ → Bool} {starts ends : List Bool} {m : ℕ} (fits : at ≤ m)
+        (edges : Edges deeper (held plan) m starts ends) {before : ℕ} (is : before ≡ ofBase 0 (held plan) (row .a))
+        (o : ℕ) where
+      abbrev inner : Bool
+      inner = among deeper (held plan) (ofBase [] (fieldsOf t f) (row .a)) o
+
+      abbrev own : Bool
+      own = among deeper (held plan) (ownTypes f (row .b) (row .c)) (o - before)
+
+      split : among deeper (held plan) (fieldsOf t f at) o ≡ choose inner true (choose (leb before o) own false)
+      split =
+          let size = base-held low on in
+          ap (λ l. among deeper (held plan) l o) whole
+          ∙ among-append deeper (held plan) (ofBase [] (fieldsOf t f) (row .a)) (ownTypes f (row .b) (row .c)) o
+          ∙ rw (size, is)
+
+      -- behind the base
+      pub climb-own : before < o → own ≡ among deeper (held plan) (fieldsOf t f at) o
+      climb-own h =
+          sym (split
+          ∙ choose-no _ _ _ (among-past deeper (held plan) (ofBase [] (fieldsOf t f) (row .a)) o
+          (λ n u x y l. edges .past u x (let k = inner-low y in omega arith) l) (rw (base-held low on, ← is) h))
+          ∙ choose-yes _ _ _ (le-leb before o (omega arith)))
+
+      -- in the base, or at its end
+      module _ {x : Bool} (seam : x ≡ choose (leb before o) own false) where
+        pub climb-yes : x ≡ true → among deeper (held plan) (fieldsOf t f at) o ≡ true
+        climb-yes e = split ∙ either _ (sym seam ∙ e)
+
+        climb-base : x ≡ false → among deeper (held plan) (fieldsOf t f at) o ≡ inner
+        climb-base e = split ∙ first-alone _ (sym seam ∙ e)
+
+        pub climb-none : x ≡ false → row .a ≡ 0 → among deeper (held plan) (fieldsOf t f at) o ≡ false
+        unfolding ofBase among
+        climb-none e none = climb-base e ∙ rw none
+
+        pub climb-up : x ≡ false → 0 < row .a
+            → among deeper (held plan) (fieldsOf t f at) o ≡ among deeper (held plan) (fieldsOf t f (row .a - 1)) o
+        climb-up e some =
+            climb-base e ∙ ap (λ l. among deeper (held plan) l o) (of-base [] (fieldsOf t f) (row .a) some)

@@ -1,0 +1,313 @@
+-- What looks at parts that follow one another answer.
+use mathlib.Core.Path.{_≡_, refl, sym, _∙_, ap}
+use mathlib.Core.Bool.{Bool, true, false}
+use mathlib.Core.List.{List, [], _∷_}
+use mathlib.Core.Logic.{_⊎_, inl, inr, ⊎-elim}
+use Prim.Native.Nat.{ℕ, zero, suc, _+_, _-_, _*_, _≤_, _<_}
+use native.Mathlib.Nat.{mul-zero, suc-mul, mul-le-mul-right}
+use native.Mathlib.Omega.{arith}
+use borrow.Author.Tests.{eq-eqb, ne-eqb}
+use denote.Enum.Declared.{tagOf}
+use types.Run.{OneOf}
+use lib.ListN.{getD, replicate}
+use Rattle.prelude.proofs.Choice.{choose-yes, choose-no, clash}
+use Rattle.prelude.proofs.Parts.{nth-replicate}
+use Rattle.image.specs.declared.Row.{Row}
+use Rattle.image.specs.Rows.{rowAt}
+use Rattle.shapes.specs.Forms.{ownTypes}
+use Rattle.shapes.proofs.Rows.{own-step, own-end}
+use Rattle.shapes.proofs.Layouts.{decide}
+use Rattle.objects.specs.Begins.{among}
+use Rattle.objects.specs.declared.Look.{Look}
+use Rattle.objects.specs.declared.Look.the-variants as Ls
+use Rattle.objects.specs.Looking.{Edges, atEdge, LowTypes, toldBy, settled, Looks}
+use Rattle.objects.specs.Looking.{Below, Below.yes-below, Below.no-below, Below.inside-below}
+use Rattle.objects.proofs.Look.{the-type as lookType}
+use Rattle.objects.proofs.Following.{among-here, among-stop, among-next, among-past, some-among}
+use Rattle.objects.proofs.Following.{many-size, many-before, nth-many, many-none, many-empty, many-inside}
+
+-- ---- looks
+
+module _ {deeper : ℕ → ℕ → Bool} {m : ℕ} where
+  pub looks-yes : {b : Bool} → b ≡ true → Looks deeper m Ls.Yes b
+  unfolding settled
+  looks-yes e = record { answer = sym e; lower = yes-below }
+
+  pub looks-no : {b : Bool} → b ≡ false → Looks deeper m Ls.No b
+  unfolding settled
+  looks-no e = record { answer = sym e; lower = no-below }
+
+  pub looks-inside : {b : Bool} {u o : ℕ} → u < m → b ≡ deeper u o → Looks deeper m (Ls.Inside u o) b
+  unfolding settled
+  looks-inside low e = record { answer = sym e; lower = inside-below low }
+
+  pub looks-same : {x : Look} {b c : Bool} → b ≡ c → Looks deeper m x b → Looks deeper m x c
+  looks-same e h = record { answer = h .answer ∙ e; lower = h .lower }
+
+  pub looks-told : {x : Look} {b c : Bool} → x ≡ toldBy b → b ≡ c → Looks deeper m x c
+  unfolding toldBy
+  looks-told {b = b} is e = rw is (go b e)
+    where
+      go : (b : Bool) {c : Bool} → b ≡ c → Looks deeper m (toldBy b) c
+      go true e = looks-yes (sym e)
+      go false e = looks-no (sym e)
+
+below-more : {k m : ℕ} {x : Look} → k ≤ m → Below k x → Below m x
+below-more low yes-below = yes-below
+below-more low no-below = no-below
+below-more low (inside-below {u = u} l) = inside-below {u = u} (omega arith)
+
+pub looks-more : {deeper : ℕ → ℕ → Bool} {k m : ℕ} {x : Look} {b c : Bool} → k ≤ m → b ≡ c → Looks deeper k x b
+    → Looks deeper m x c
+looks-more low e h = record { answer = h .answer ∙ e; lower = below-more low (h .lower) }
+
+-- what a look that leads on says
+pub looks-on : {deeper : ℕ → ℕ → Bool} {m : ℕ} {x : Look} {b : Bool} {u o : ℕ} → x ≡ Ls.Inside u o
+    → Looks deeper m x b → (deeper u o ≡ b) × (u < m)
+unfolding settled
+looks-on {m = m} {u = u} {o = o} e h = (rw e at (h .answer), go (rw e at (h .lower)))
+  where
+    go : Below m (Ls.Inside u o) → u < m
+    go (inside-below l) = l
+
+-- one that leads nowhere comes to the same answer whatever lies deeper
+settled-by : (d : ℕ → ℕ → Bool) (x : Look) → OneOf (0 ∷ 1 ∷ []) (tagOf lookType x)
+    → settled (λ u o. false) x ≡ settled d x
+unfolding settled
+settled-by d Ls.Yes h = refl
+settled-by d Ls.No h = refl
+settled-by d (Ls.Inside u o) h = ⊎-elim (λ e. absurd (omega arith)) (λ e. absurd (omega arith)) h
+
+pub looks-end : {deeper : ℕ → ℕ → Bool} {m : ℕ} {x : Look} {b y : Bool} → y ≡ settled (λ u o. false) x
+    → OneOf (0 ∷ 1 ∷ []) (tagOf lookType x) → Looks deeper m x b → y ≡ b
+looks-end {deeper = deeper} {x = x} is nowhere h = is ∙ settled-by deeper x nowhere ∙ h .answer
+
+pub settled-no : (x : Look) → OneOf (1 ∷ 2 ∷ []) (tagOf lookType x) → settled (λ u o. false) x ≡ false
+unfolding settled
+settled-no Ls.Yes h = ⊎-elim (λ e. absurd (omega arith)) (λ e. absurd (omega arith)) h
+settled-no Ls.No h = refl
+settled-no (Ls.Inside u o) h = refl
+
+-- ---- edges
+
+pub edges-less : {deeper : ℕ → ℕ → Bool} {size : ℕ → ℕ} {k m : ℕ} {starts ends : List Bool} → k ≤ m
+    → Edges deeper size m starts ends → Edges deeper size k starts ends
+edges-less low h = record {
+  start = λ u l. h .start u (omega arith);
+  end = λ u l. h .end u (omega arith);
+  past = λ u o l. h .past u o (omega arith);
+}
+
+module _ (starts ends : List Bool) (u size rest : ℕ) where
+  pub edge-start : rest ≡ 0 → atEdge starts ends u size rest ≡ getD starts u false
+  unfolding atEdge
+  edge-start first = choose-yes _ _ _ (eq-eqb rest 0 first)
+
+  pub edge-end : (rest ≡ 0 → ⊥) → rest ≡ size → atEdge starts ends u size rest ≡ getD ends u false
+  unfolding atEdge
+  edge-end some last = choose-no _ _ _ (ne-eqb rest 0 some) ∙ choose-yes _ _ _ (eq-eqb rest size last)
+
+  pub edge-none : (rest ≡ 0 → ⊥) → (rest ≡ size → ⊥) → atEdge starts ends u size rest ≡ false
+  unfolding atEdge
+  edge-none some other = choose-no _ _ _ (ne-eqb rest 0 some) ∙ choose-no _ _ _ (ne-eqb rest size other)
+
+module _ {deeper : ℕ → ℕ → Bool} {size : ℕ → ℕ} {m : ℕ} {starts ends : List Bool}
+    (edges : Edges deeper size m starts ends) {u : ℕ} (low : u < m) (rest : ℕ) where
+  -- at an edge, or behind the end, the tables say what `deeper` does
+  edge-is : ((rest ≡ 0 → ⊥) → size u ≤ rest) → atEdge starts ends u (size u) rest ≡ deeper u rest
+  edge-is outside = go (decide rest 0) (decide rest (size u))
+    where
+      go : (rest ≡ 0) ⊎ (rest ≡ 0 → ⊥) → (rest ≡ size u) ⊎ (rest ≡ size u → ⊥)
+          → atEdge starts ends u (size u) rest ≡ deeper u rest
+      go (inl first) d =
+          edge-start starts ends u (size u) rest first ∙ edges .start u low ∙ ap (λ o. deeper u o) (sym first)
+      go (inr some) (inl last) =
+          edge-end starts ends u (size u) rest some last ∙ edges .end u low ∙ ap (λ o. deeper u o) (sym last)
+      go (inr some) (inr other) =
+          edge-none starts ends u (size u) rest some other
+          ∙ sym (edges .past u rest low (let l = outside some in omega arith))
+
+  -- where they say yes, so does it
+  edge-yes : atEdge starts ends u (size u) rest ≡ true → deeper u rest ≡ true
+  edge-yes e = go (decide rest 0) (decide rest (size u))
+    where
+      go : (rest ≡ 0) ⊎ (rest ≡ 0 → ⊥) → (rest ≡ size u) ⊎ (rest ≡ size u → ⊥) → deeper u rest ≡ true
+      go (inl first) d = sym (edge-is λ some. absurd (some first)) ∙ e
+      go (inr some) (inl last) = sym (edge-is λ x. omega arith) ∙ e
+      go (inr some) (inr other) = clash (sym e ∙ edge-none starts ends u (size u) rest some other)
+
+-- ---- n fields, a row at a time
+
+module _ {deeper : ℕ → ℕ → Bool} {size : ℕ → ℕ} {m : ℕ} {starts ends : List Bool} {f : List ℕ} {k n : ℕ}
+    (edges : Edges deeper size m starts ends) (lows : LowTypes f k n m) {j : ℕ} (rest : ℕ) (least : k ≤ j)
+    (more : j < k + n) {row : Row} (this : row ≡ rowAt f j) where
+  pub turn-low : row .a < m
+  turn-low = rw this (lows .each j least more)
+
+  abbrev here-on : ℕ → Bool
+  here-on o = among deeper size (ownTypes f j (k + n - j)) o
+
+  abbrev later : ℕ → Bool
+  later o = among deeper size (ownTypes f (j + 1) (k + n - (j + 1))) o
+
+  at-row : here-on rest ≡ among deeper size (row .a ∷ ownTypes f (j + 1) (k + n - (j + 1))) rest
+  at-row =
+      ap (λ l. among deeper size l rest)
+      (own-step f j (k + n) more ∙ ap (λ (r : Row). r .a ∷ ownTypes f (j + 1) (k + n - (j + 1))) (sym this))
+
+  turn-here : deeper (row .a) rest ≡ true → here-on rest ≡ true
+  turn-here h = at-row ∙ among-here deeper size _ _ _ h
+
+  module _ {room : ℕ} (is : room ≡ size (row .a)) where
+    pub turn-in : rest < room → here-on rest ≡ deeper (row .a) rest
+    turn-in h = at-row ∙ among-stop deeper size _ _ _ (rw is at h)
+
+    turn-past : deeper (row .a) rest ≡ false → room ≤ rest → here-on rest ≡ later (rest - room)
+    turn-past e h = at-row ∙ among-next deeper size _ _ _ e (rw is at h) ∙ rw is
+
+    module _ {x : Bool} (edge : x ≡ atEdge starts ends (row .a) room rest) where
+      edge-of : atEdge starts ends (row .a) (size (row .a)) rest ≡ x
+      edge-of = sym (edge ∙ ap (λ s. atEdge starts ends (row .a) s rest) is)
+
+      pub turn-yes : x ≡ true → here-on rest ≡ true
+      turn-yes e = turn-here (edge-yes edges turn-low rest (edge-of ∙ e))
+
+      pub turn-no : x ≡ false → rest < room → rest ≡ 0 → here-on rest ≡ false
+      turn-no e h first =
+          turn-in h ∙ sym (edge-is edges turn-low rest λ some. absurd (some first)) ∙ edge-of ∙ e
+
+      pub turn-next : x ≡ false → room ≤ rest → here-on rest ≡ later (rest - room)
+      turn-next e h = turn-past (sym (edge-is edges turn-low rest λ some. rw is at h) ∙ edge-of ∙ e) h
+
+-- the same at the start of the fields
+module _ {deeper : ℕ → ℕ → Bool} {size : ℕ → ℕ} {m : ℕ} {starts ends : List Bool} {f : List ℕ} {k n : ℕ}
+    (edges : Edges deeper size m starts ends) (lows : LowTypes f k n m) {j : ℕ} (least : k ≤ j)
+    (more : j < k + n) {row : Row} (this : row ≡ rowAt f j) {x : Bool} (mark : x ≡ getD starts (row .a) false) where
+  first-deeper : deeper (row .a) 0 ≡ x
+  first-deeper = sym (mark ∙ edges .start (row .a) (turn-low edges lows 0 least more this))
+
+  pub first-yes : x ≡ true → among deeper size (ownTypes f j (k + n - j)) 0 ≡ true
+  first-yes e = turn-here edges lows 0 least more this (first-deeper ∙ e)
+
+  module _ {room : ℕ} (is : room ≡ size (row .a)) (e : x ≡ false) where
+    pub first-no : 0 < room → among deeper size (ownTypes f j (k + n - j)) 0 ≡ false
+    first-no h = turn-in edges lows 0 least more this is h ∙ first-deeper ∙ e
+
+    pub first-next : room ≤ 0 → among deeper size (ownTypes f j (k + n - j)) 0
+        ≡ among deeper size (ownTypes f (j + 1) (k + n - (j + 1))) 0
+    first-next h =
+        let same : 0 - room ≡ 0 = omega arith in
+        turn-past edges lows 0 least more this is (first-deeper ∙ e) h
+        ∙ ap (λ o. among deeper size (ownTypes f (j + 1) (k + n - (j + 1))) o) same
+
+pub scan-end : (deeper : ℕ → ℕ → Bool) (size : ℕ → ℕ) (f : List ℕ) (j e o : ℕ) → e ≤ j
+    → among deeper size (ownTypes f j (e - j)) o ≡ false
+unfolding among
+scan-end deeper size f j e o h = rw (own-end f j e h)
+
+-- ---- elements
+
+module _ {deeper : ℕ → ℕ → Bool} {size : ℕ → ℕ} {m : ℕ} {starts ends : List Bool}
+    (edges : Edges deeper size m starts ends) {e : ℕ} (low : e < m) (n i : ℕ) where
+  abbrev many : ℕ → Bool
+  many o = among deeper size (replicate n e) o
+
+  past : (x : ℕ) → size e < x → deeper e x ≡ false
+  past x h = edges .past e x low h
+
+  between-first : i < n → deeper e 0 ≡ true → many (i * size e) ≡ true
+  between-first h d =
+      let q : i * size e + 0 ≡ i * size e = omega arith in
+      rw (many-before size e i n (omega arith), q) at (some-among deeper size 0 (nth-replicate n i e h) d)
+
+  between-last : 0 < i → i ≤ n → deeper e (size e) ≡ true → many (i * size e) ≡ true
+  between-last some h d = go i some h
+    where
+      go : (i : ℕ) → 0 < i → i ≤ n → many (i * size e) ≡ true
+      go zero some h = absurd (omega arith)
+      go (suc k) some h =
+          let q : k * size e + size e ≡ suc k * size e = omega (arith, suc-mul k (size e)) in
+          rw (many-before size e k n (omega arith), q) at
+          (some-among deeper size (size e) (nth-replicate n k e (omega arith)) d)
+
+  between-none : 0 < size e → (i < n → deeper e 0 ≡ false) → (0 < i → deeper e (size e) ≡ false)
+      → many (i * size e) ≡ false
+  between-none some a b = many-none deeper size e past n i some a b
+
+  -- what the code answers
+  pub between-start : 0 < size e → 1 ≤ n → i ≡ 0 → {x : Bool} → x ≡ getD starts e false → x ≡ many (i * size e)
+  between-start some least first {x} h = go x refl
+    where
+      go : (b : Bool) → x ≡ b → x ≡ many (i * size e)
+      go true q = q ∙ sym (between-first (omega arith) (sym (edges .start e low) ∙ sym h ∙ q))
+      go false q = q ∙ sym (between-none some (λ l. sym (edges .start e low) ∙ sym h ∙ q) (λ l. absurd (omega arith)))
+
+  pub between-end : 0 < size e → 0 < i → i ≡ n → {x : Bool} → x ≡ getD ends e false → x ≡ many (i * size e)
+  between-end some more last {x} h = go x refl
+    where
+      go : (b : Bool) → x ≡ b → x ≡ many (i * size e)
+      go true q = q ∙ sym (between-last more (omega arith) (sym (edges .end e low) ∙ sym h ∙ q))
+      go false q = q ∙ sym (between-none some (λ l. absurd (omega arith)) (λ l. sym (edges .end e low) ∙ sym h ∙ q))
+
+  module _ {y : Bool} (start : y ≡ getD starts e false) where
+    pub between-yes : y ≡ true → i < n → true ≡ many (i * size e)
+    between-yes first h = sym (between-first h (sym (edges .start e low) ∙ sym start ∙ first))
+
+    pub between-both : y ≡ false → 0 < size e → 0 < i → i ≤ n → {x : Bool} → x ≡ getD ends e false
+        → x ≡ many (i * size e)
+    between-both first some more within {x} h = go x refl
+      where
+        go : (b : Bool) → x ≡ b → x ≡ many (i * size e)
+        go true q = q ∙ sym (between-last more within (sym (edges .end e low) ∙ sym h ∙ q))
+        go false q =
+            q ∙ sym (between-none some (λ l. sym (edges .start e low) ∙ sym start ∙ first)
+            (λ l. sym (edges .end e low) ∙ sym h ∙ q))
+
+  pub elements-past : (o : ℕ) → n * size e < o → many o ≡ false
+  elements-past o h =
+      among-past deeper size (replicate n e) o
+      (λ k u x y l. let same = nth-many n e y in rw same (past x (rw same at l)))
+      (rw (many-size size e n) h)
+
+module _ {deeper : ℕ → ℕ → Bool} {size : ℕ → ℕ} {m : ℕ} {starts ends : List Bool}
+    (edges : Edges deeper size m starts ends) {e : ℕ} (low : e < m) (n : ℕ) {room o : ℕ} (is : room ≡ size e) where
+  -- elements without cells
+  pub none-past : room ≡ 0 → 0 < o → among deeper size (replicate n e) o ≡ false
+  none-past none some =
+      let no-cells : size e ≡ 0 = omega arith in
+      let q : n * size e ≡ 0 = rw no-cells (mul-zero n) in
+      elements-past edges low n 0 o (omega arith)
+
+  pub none-first : room ≡ 0 → o ≡ 0 → 1 ≤ n → {x : Bool} → x ≡ getD starts e false
+      → x ≡ among deeper size (replicate n e) o
+  none-first none first least {x} h = go x refl n least
+    where
+      go : (b : Bool) → x ≡ b → (n : ℕ) → 1 ≤ n → x ≡ among deeper size (replicate n e) o
+      go b q zero least = absurd (omega arith)
+      go true q (suc k) least =
+          q ∙ sym (among-here deeper size e (replicate k e) o (rw first (sym (edges .start e low) ∙ sym h ∙ q)))
+      go false q (suc k) least =
+          q ∙ sym (rw first (many-empty deeper size e (λ y l. edges .past e y low l) (suc k) (omega arith)
+          (sym (edges .start e low) ∙ sym h ∙ q)))
+
+  -- i whole elements and some cells
+  module _ (i inside : ℕ) (some : 0 < room) (parted : i * room + inside ≡ o) where
+    as-parted : i * size e + inside ≡ o
+    as-parted = rw (← is) parted
+
+    pub parted-edge : inside ≡ 0 → {x : Bool} → x ≡ among deeper size (replicate n e) (i * size e)
+        → x ≡ among deeper size (replicate n e) o
+    parted-edge none h =
+        let q : i * size e ≡ o = omega (arith, as-parted) in
+        h ∙ ap (λ k. among deeper size (replicate n e) k) q
+
+    pub parted-inside : (inside ≡ 0 → ⊥) → inside < room → i < n
+        → among deeper size (replicate n e) o ≡ deeper e inside
+    parted-inside more less within =
+        ap (λ k. among deeper size (replicate n e) k) (sym as-parted)
+        ∙ many-inside deeper size e (λ y l. edges .past e y low l) n i inside (omega arith) (omega arith) within
+
+    pub parted-past : (inside ≡ 0 → ⊥) → n ≤ i → among deeper size (replicate n e) o ≡ false
+    parted-past more high =
+        let whole = mul-le-mul-right (size e) high in
+        elements-past edges low n i o (omega (arith, as-parted))

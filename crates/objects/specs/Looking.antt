@@ -1,0 +1,66 @@
+-- What the functions that look for an object read and answer.
+use Prim.Native.Nat.{ℕ, _+_, _≤_, _<_}
+use mathlib.Core.Path.{_≡_}
+use mathlib.Core.Bool.{Bool, true, false}
+use mathlib.Core.List.{List}
+use lib.Dec.{eqb}
+use lib.ListN.{getD}
+use Rattle.prelude.specs.Choice.{choose}
+use Rattle.image.specs.declared.Verdict.the-variants.{Kept}
+use Rattle.image.specs.Rows.{rowAt, rowsOf}
+use Rattle.types.specs.Question.{question4}
+use Rattle.types.specs.Plan.{Plan}
+use Rattle.objects.specs.declared.Look.{Look}
+use Rattle.objects.specs.declared.Look.the-variants as Ls
+
+-- ---- what they read
+
+-- a type's size, as the plan holds it
+abbrev pub held : List ℕ → ℕ → ℕ
+held plan r = getD plan r 0
+
+-- accepted types and their plan
+pub record Typed (t f plan : List ℕ) : Type 0 where
+  pub few : rowsOf t ≤ 64
+  pub kept : question4 t f ≡ Kept
+  pub planned : Plan t f (rowsOf t) plan
+
+-- two tables say of the types below row m what `deeper` says at the start and at the end of each; behind the end it
+-- says no
+pub record Edges (deeper : ℕ → ℕ → Bool) (size : ℕ → ℕ) (m : ℕ) (starts ends : List Bool) : Type 0 where
+  pub start : (u : ℕ) → u < m → getD starts u false ≡ deeper u 0
+  pub end : (u : ℕ) → u < m → getD ends u false ≡ deeper u (size u)
+  pub past : (u o : ℕ) → u < m → size u < o → deeper u o ≡ false
+
+-- what the tables say `rest` cells into a part of type u and this size: no where it is no edge
+unfoldable pub atEdge : List Bool → List Bool → ℕ → ℕ → ℕ → Bool
+atEdge starts ends u size rest =
+    choose (eqb rest 0) (getD starts u false) (choose (eqb rest size) (getD ends u false) false)
+
+-- n field rows from row k on have types below row m
+pub record LowTypes (f : List ℕ) (k n m : ℕ) : Type 0 where
+  pub each : (j : ℕ) → k ≤ j → j < k + n → rowAt f j .a < m
+
+-- ---- what they answer
+
+-- a look that leads nowhere
+unfoldable pub toldBy : Bool → Look
+toldBy true = Ls.Yes
+toldBy false = Ls.No
+
+-- the answer that a look comes to, where `deeper` says what begins in the part that it leads to
+unfoldable pub settled : (ℕ → ℕ → Bool) → Look → Bool
+settled deeper Ls.Yes = true
+settled deeper Ls.No = false
+settled deeper (Ls.Inside u o) = deeper u o
+
+-- a look leads to no type but one below row m
+pub data Below (m : ℕ) : Look → Type 0 where
+  yes-below : Below m Ls.Yes
+  no-below : Below m Ls.No
+  inside-below : {u o : ℕ} → u < m → Below m (Ls.Inside u o)
+
+-- a look comes to this answer, by types below row m
+pub record Looks (deeper : ℕ → ℕ → Bool) (m : ℕ) (x : Look) (b : Bool) : Type 0 where
+  pub answer : settled deeper x ≡ b
+  pub lower : Below m x
