@@ -1,5 +1,5 @@
 -- What the code answers is where objects begin.
-use mathlib.Core.Path.{_≡_, sym, _∙_, ap}
+use mathlib.Core.Path.{_≡_, refl, sym, _∙_, ap}
 use mathlib.Core.Bool.{Bool, true, false}
 use mathlib.Core.List.{List}
 use Prim.Native.Nat.{ℕ, _+_, _≤_, _<_}
@@ -7,7 +7,7 @@ use native.Mathlib.Omega.{arith}
 use native.Mathlib.Decide.{decLt}
 use borrow.Author.Tests.{ne-eqb}
 use lib.Dec.{eqb}
-use lib.ListN.{length, getD, set, replicate}
+use lib.ListN.{length, getD, set, length-set, replicate}
 use lib.Seq.{getD-set-same, getD-set-other}
 use Rattle.prelude.specs.Choice.{_also_}
 use Rattle.prelude.proofs.Choice.{choose-yes, choose-no, also-right}
@@ -16,7 +16,7 @@ use Rattle.image.specs.Rows.{rowAt, rowsOf}
 use Rattle.shapes.specs.Sizes.{fieldsOf}
 use Rattle.relations.proofs.Fielding.{no-fields}
 use Rattle.objects.specs.Begins.{partsOf, among, beginsAt}
-use Rattle.objects.specs.Looking.{held, Typed, Edges}
+use Rattle.objects.specs.Looking.{held, Typed, Edges, Beyond}
 use Rattle.objects.proofs.Beginning.{array-row, array-parts, other-parts, begins-eq, begins-past}
 use Rattle.objects.proofs.Climbing.{kept, held-size, by-plan}
 
@@ -89,3 +89,18 @@ module _ {t f plan : List ℕ} (typed : Typed t f plan) where
       last u l (no k) =
           let same : u ≡ r = omega arith in
           rw (same, ← is) (getD-set-same ends r y false b ∙ q)
+
+-- ---- what is not written
+
+pub beyond-none : (table : List Bool) → Beyond 0 table table
+beyond-none table = record { cells = refl; rest = λ i h. refl }
+
+-- row m is written
+pub beyond-next : {m : ℕ} {old table : List Bool} (b : Bool) → Beyond m old table → Beyond (m + 1) old (set table m b)
+beyond-next {m} {old} {table} b same = record {
+  cells = length-set table m b ∙ same .cells;
+  rest = λ i h. getD-set-other table m i b false (omega arith) ∙ same .rest i (omega arith);
+}
+
+pub beyond-more : {m n : ℕ} {old table : List Bool} → m ≤ n → Beyond m old table → Beyond n old table
+beyond-more le same = record { cells = same .cells; rest = λ i h. same .rest i (omega (arith, le)) }

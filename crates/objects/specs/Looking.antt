@@ -4,7 +4,7 @@ use mathlib.Core.Path.{_≡_}
 use mathlib.Core.Bool.{Bool, true, false}
 use mathlib.Core.List.{List}
 use lib.Dec.{eqb}
-use lib.ListN.{getD}
+use lib.ListN.{length, getD}
 use Rattle.prelude.specs.Choice.{choose}
 use Rattle.image.specs.declared.Verdict.the-variants.{Kept}
 use Rattle.image.specs.Rows.{rowAt, rowsOf}
@@ -31,6 +31,11 @@ pub record Edges (deeper : ℕ → ℕ → Bool) (size : ℕ → ℕ) (m : ℕ) 
   pub start : (u : ℕ) → u < m → getD starts u false ≡ deeper u 0
   pub end : (u : ℕ) → u < m → getD ends u false ≡ deeper u (size u)
   pub past : (u o : ℕ) → u < m → size u < o → deeper u o ≡ false
+
+-- a table is as it was from row m on
+pub record Beyond (m : ℕ) (old table : List Bool) : Type 0 where
+  pub cells : length table ≡ length old
+  pub rest : (i : ℕ) → m ≤ i → getD table i false ≡ getD old i false
 
 -- what the tables say `rest` cells into a part of type u and this size: no where it is no edge
 unfoldable pub atEdge : List Bool → List Bool → ℕ → ℕ → ℕ → Bool

@@ -12,7 +12,7 @@ ghost use Rattle.image.specs.Rows.{rowAt, rowsOf};
 ghost use Rattle.shapes.specs.Forms.{ownTypes};
 ghost use Rattle.shapes.specs.Sizes.{fieldsOf};
 ghost use Rattle.objects.specs.Begins.{partsOf, among as amongOf, beginsAt};
-ghost use Rattle.objects.specs.Looking.{held, Typed, Edges, atEdge, LowTypes, toldBy, settled, Looks};
+ghost use Rattle.objects.specs.Looking.{held, Typed, Edges, Beyond, atEdge, LowTypes, toldBy, settled, Looks};
 
 // What a look at the parts of an object settles: one begins there, none does, or the answer is that of a part of this
 // type, so many cells into it.
@@ -310,6 +310,8 @@ pub fn fill(t: &[u8], f: &[u8], plan: &[u32], w: u16, starts: &mut [bool], ends:
         × (rowsOf (now t) ≤ length (now ends)) ⌝ }
     ensures { λ x. ⌜ Edges (beginsAt (now (t .entry)) (now (f .entry)) w) (held (now (plan .entry)))
         (rowsOf (now (t .entry))) (now (starts .exit)) (now (ends .exit)) ⌝ }
+    ensures starts { λ x. ⌜ Beyond (rowsOf (now (t .entry))) (now (starts .entry)) (now (starts .exit)) ⌝ }
+    ensures ends { λ x. ⌜ Beyond (rowsOf (now (t .entry))) (now (ends .entry)) (now (ends .exit)) ⌝ }
 {
     let rows = image::rows_of(t);
     let mut r: usize = 0;

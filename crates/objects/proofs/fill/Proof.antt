@@ -1,12 +1,10 @@
 use borrow.Author.Needs.{needs}
-use lib.ListN.{length, length-set}
-use mathlib.Core.Path.{_≡_, refl}
 use Prim.Native.Nat.{_-_, _≤_}
 use native.Mathlib.Omega.{arith}
 use Rattle.objects.specs.Begins.{beginsAt}
-use Rattle.objects.specs.Looking.{held, Edges}
+use Rattle.objects.specs.Looking.{held, Edges, Beyond}
 use Rattle.objects.proofs.Looks.{edges-less}
-use Rattle.objects.proofs.Deciding.{edges-none, edges-more}
+use Rattle.objects.proofs.Deciding.{edges-none, edges-more, beyond-none, beyond-next, beyond-more}
 use Rattle.objects.proofs.fill.Statement.{statement}
 use Rattle.objects.proofs.fill.Tie as tie
 use Rattle.objects.proofs.fill.Reads as reads
@@ -16,8 +14,8 @@ use Rattle.objects.proofs.begun.Reads as begun-reads
 use Rattle.sizes.proofs.cell.Reads as cell-reads
 
 abbrev Inv-loop : tie.InvT-loop
-Inv-loop t f plan w starts₀ ends₀ rows r₀ starts ends r = (r ≤ rows) × (length starts ≡ length starts₀)
-    × (length ends ≡ length ends₀) × Edges (beginsAt t f w) (held plan) r starts ends
+Inv-loop t f plan w starts₀ ends₀ rows r₀ starts ends r = (r ≤ rows) × Beyond r starts₀ starts × Beyond r ends₀ ends
+    × Edges (beginsAt t f w) (held plan) r starts ends
 
 abbrev μ-loop : tie.MeasureT-loop
 μ-loop t f plan w starts₀ ends₀ rows r₀ starts ends r = rows - r
@@ -27,7 +25,7 @@ rows-of-requires c κs = search needs
 
 loop-holds : tie.Need-loop-holds Inv-loop μ-loop
 loop-holds c = let s = c .before .before .before .before .before .before in
-    (omega arith, refl, refl, edges-none (s .pre .0) (s .args .w) _ _)
+    (omega arith, beyond-none _, beyond-none _, edges-none (s .pre .0) (s .args .w) _ _)
 
 cast-row : tie.Need-cast-row Inv-loop μ-loop
 cast-row c = let s = c .before .before .before .before .before .before .before .before in
@@ -65,8 +63,8 @@ loop-again c = let n = c .before .before .before .before .before .before .before
     let rows = n .before .rows-of .ensures in
     let s = n .before .before .before .before .before .before .before in (
       omega arith,
-      simp length-set (l .inv .1),
-      simp length-set (l .inv .2),
+      beyond-next _ (l .inv .1),
+      beyond-next _ (l .inv .2),
       edges-more (s .pre .0) (s .args .w) (omega arith) (omega (arith, rows, s .pre .1))
           (omega (arith, rows, s .pre .2))
           (l .inv .3) (c .before .before .before .before .before .before .cell .ensures)
@@ -74,14 +72,17 @@ loop-again c = let n = c .before .before .before .before .before .before .before
     )
 
 same-length : tie.Need-same-length Inv-loop μ-loop
-same-length c = c .before .loop .inv .1
+same-length c = c .before .loop .inv .1 .cells
 
 same-length-2 : tie.Need-same-length-2 Inv-loop μ-loop
-same-length-2 c = c .before .loop .inv .2
+same-length-2 c = c .before .loop .inv .2 .cells
 
 returns : tie.Need-returns Inv-loop μ-loop
 returns c = let l = c .before .loop in
-    edges-less (omega (arith, c .before .before .rows-of .ensures)) (l .inv .3)
+    let rows = c .before .before .rows-of .ensures in (
+      edges-less (omega (arith, rows)) (l .inv .3),
+      (beyond-more (omega (arith, rows)) (l .inv .1), beyond-more (omega (arith, rows)) (l .inv .2)),
+    )
 
 pub fill-spec : {M : Type 1} → statement M
 fill-spec =
