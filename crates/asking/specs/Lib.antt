@@ -1,3 +1,4 @@
 pub mod Asking
 pub mod State
+pub mod Passes
 pub mod Resuming
