@@ -25,7 +25,7 @@ ghost use Rattle.relations.specs.Extends.{extends as extendsOf};
 ghost use Rattle.relations.specs.Fields.{fieldOf};
 ghost use Rattle.frames.specs.Procedures.{firstVariable};
 ghost use Rattle.statements.specs.Statements.{procedureAt};
-ghost use Rattle.places.specs.Places.{frameSize};
+ghost use Rattle.places.specs.Places.{widthOf, frameSize};
 ghost use Rattle.checker.specs.Check.{checkOf};
 ghost use Rattle.semantics.specs.Layout.{placeOf};
 ghost use Rattle.semantics.specs.Running.{programOf, globalRoom};
@@ -37,7 +37,7 @@ pub type Plan = [u32; RUN_PLAN];
 // ---- tables and rows
 
 // Table k of the six, in their order.
-fn table<'a>(image: &'a [u8], plan: &[u32], k: usize) -> &'a [u8]
+pub fn table<'a>(image: &'a [u8], plan: &[u32], k: usize) -> &'a [u8]
     requires { ⌜ Checked (now image) (now plan) × (k < 6) ⌝ }
     ensures { λ x. ⌜ now x ≡ tableOf (programOf (now (image .entry))) k ⌝ }
 {
@@ -135,6 +135,21 @@ pub fn place_of(image: &&[u8], plan: &Plan, a: u32) -> u32
     ensures { λ x. ⌜ x ≡ placeOf (programOf (now (now (image .entry)))) a ⌝ }
 {
     plan[PLACES + a as usize]
+}
+
+// How many cells variable row a has.
+pub fn width_of(image: &&[u8], plan: &Plan, a: u32) -> u32
+    requires { ⌜ Planned (now (now image)) (now plan) × (a < rowsOf (programOf (now (now image)) .variables)) ⌝ }
+    ensures { λ x. ⌜ x ≡ widthOf (programOf (now (now (image .entry))) .types)
+        (programOf (now (now (image .entry))) .fields) (programOf (now (now (image .entry))) .variables) a ⌝ }
+{
+    let row = variable_at(image, plan, a);
+    let kind = row.kind;
+    let r = row.a;
+    if kind == 3 {
+        return 2;
+    }
+    size_of(image, plan, r)
 }
 
 // The size of procedure q's frame.
