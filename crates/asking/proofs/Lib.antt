@@ -1,4 +1,5 @@
 pub mod Objects
 pub mod Built
 pub mod Told
+pub mod Passing
 pub mod Resuming
