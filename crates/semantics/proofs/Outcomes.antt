@@ -287,27 +287,27 @@ result-outcome image bytes input store output steps = go (eqb (refusal image sto
 
 -- "trap is 0 unless trapped, HALT number 0 unless trap 10; .. output places from written on keep their numbers": a run
 -- from s
-pub record Kept {X : Type 0} (s : State X) (e : Ended X) : Type 0 where
+pub record Kept {X : Type 0} (input : List ℤ) (s : State X) (e : Ended X) : Type 0 where
   pub no-trap : (e .outcome ≡ 2 → ⊥) → e .trap ≡ 0
   pub named-trap : e .outcome ≡ 2 → (1 ≤ e .trap) × (e .trap ≤ 10)
   pub halt : (e .trap ≡ 10 → ⊥) → e .halt ≡ pos 0
-  pub output : Keeps s (e .state)
+  pub output : Keeps input s (e .state)
 
 module _ {X : Type 0} (m : Memory X) (g : Program) (input : List ℤ) where
-  onward-kept : {s : State X} (x : Next X) (k : ℕ) (next : State X → Ended X) → Reports s x
-      → ((u : State X) → Kept u (next u)) → Kept s (onward x s k next)
+  onward-kept : {s : State X} (x : Next X) (k : ℕ) (next : State X → Ended X) → Reports input s x
+      → ((u : State X) → Kept input u (next u)) → Kept input s (onward x s k next)
   unfolding onward
   onward-kept (goes u) k next (reports-goes kept) more = record {
     no-trap = more u .no-trap;
     named-trap = more u .named-trap;
     halt = more u .halt;
-    output = keeps-on kept (more u .output);
+    output = keeps-on input kept (more u .output);
   }
   onward-kept {s} finished k next h more = record {
     no-trap = λ h. refl;
     named-trap = λ h. absurd (omega arith);
     halt = λ h. refl;
-    output = keeps-all s;
+    output = keeps-all input s;
   }
   onward-kept (trapped t z u) k next (reports-trapped kept numbered) more = record {
     no-trap = λ h. absurd (h refl);
@@ -322,19 +322,19 @@ module _ {X : Type 0} (m : Memory X) (g : Program) (input : List ℤ) where
     output = kept;
   }
 
-  pub run-kept : (n k : ℕ) (s : State X) → Kept s (runFrom m g input n k s)
+  pub run-kept : (n k : ℕ) (s : State X) → Kept input s (runFrom m g input n k s)
   unfolding runFrom
   run-kept zero k s = record {
     no-trap = λ h. refl;
     named-trap = λ h. absurd (omega arith);
     halt = λ h. refl;
-    output = keeps-all s;
+    output = keeps-all input s;
   }
   run-kept (suc n) k s =
-      onward-kept (stepOf m g input s) (k + 1) _ (step-reports m g s input) (λ u. run-kept n (k + 1) u)
+      onward-kept (stepOf m g input s) (k + 1) _ (step-reports input m g s) (λ u. run-kept n (k + 1) u)
 
 module _ (image : List ℕ) (input store output : List ℤ) (steps : ℕ) where
-  ran-kept : Kept (fresh tagged (programOf image) store output) (ranOf image input store output steps)
+  ran-kept : Kept input (fresh tagged (programOf image) store output) (ranOf image input store output steps)
   unfolding ranOf
   ran-kept = run-kept tagged (programOf image) input steps 0 (fresh tagged (programOf image) store output)
 
