@@ -3,3 +3,5 @@ pub mod Built
 pub mod Told
 pub mod Passing
 pub mod Resuming
+pub mod Continuing
+pub mod Giving

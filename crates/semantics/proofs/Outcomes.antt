@@ -6,12 +6,12 @@ use mathlib.Core.List.{List}
 use mathlib.Core.Logic.{⊎-elim}
 use Prim.Native.Nat.{ℕ, zero, suc, _+_, _≤_, _<_}
 use native.Mathlib.Omega.{arith}
-use borrow.Author.Tests.{leb-true, eqb-true, eq-eqb}
+use borrow.Author.Tests.{leb-true, le-leb, eqb-true, eq-eqb}
 use lib.Dec.{leb, eqb}
 use lib.IntN.{ℤ, pos}
 use lib.ListN.{length, getD}
 use Rattle.prelude.specs.Choice.{choose}
-use Rattle.prelude.proofs.Choice.{choose-cases, choose-has, clash}
+use Rattle.prelude.proofs.Choice.{choose-yes, choose-cases, choose-has, clash}
 use Rattle.image.specs.Rows.{Bytes}
 use Rattle.values.specs.declared.Trap.{Trap}
 use Rattle.values.specs.Values.{trapNumber}
@@ -123,6 +123,17 @@ last-stays g input (suc n) k s last =
     go (trapped t z u) h later = refl
     go (stuck u) h later = refl
 
+-- a run that used up its steps took them all
+pub steps-used : (g : Program) (input : List ℤ) (n k : ℕ) (s : State Cell)
+    → runFrom tagged g input n k s .outcome ≡ 0 → runFrom tagged g input n k s .steps ≡ k + n
+steps-used g input n k s = go (reported g input n k s)
+  where
+    go : {e : Ended Cell} → Reported g input n k s e → e .outcome ≡ 0 → e .steps ≡ k + n
+    go (used-up c r) used = c
+    go (finishes d low c r x) used = absurd (omega arith)
+    go (traps d low c r x) used = absurd (omega arith)
+    go (sticks d low c r x) used = absurd (omega arith)
+
 -- a run takes no more steps than it is lent
 pub steps-lent : (image : List ℕ) (input store output : List ℤ) (steps : ℕ)
     → ranOf image input store output steps .steps ≤ steps
@@ -162,13 +173,21 @@ refusal-none image store e =
     (λ a. clash (sym (eq-eqb _ 0 (a .1)) ∙ a .0))
     (choose-cases (eqb (refusalOf (checkOf image)) 0) e)
 
+-- and back
+pub none-refusal : (image : List ℕ) (store : List ℤ) → checkOf image ≡ Accepted → length store ≤ 65536
+    → firstTop (programOf image) ≤ length store → refusal image store ≡ 0
+unfolding refusal refusalOf
+none-refusal image store accepted most least =
+    let none : refusalOf (checkOf image) ≡ 0 = rw accepted in
+    choose-yes _ _ _ (eq-eqb _ 0 none) ∙ choose-yes _ _ _ (le-leb _ 65536 most) ∙ choose-yes _ _ _ (le-leb _ _ least)
+
 -- ---- what follows from demand 3
 
 module _ (g : Program)
     (ok : AcceptedTables (g .types) (g .fields) (g .variables) (g .procedures) (g .nodes) (g .statements))
     (bytes : Bytes (g .nodes)) (input : List ℤ) where
   -- a run leaves as many cells as there were
-  run-room : (n k : ℕ) (s : State Cell) → Sound g s
+  pub run-room : (n k : ℕ) (s : State Cell) → Sound g s
       → length (runFrom tagged g input n k s .state .cells) ≡ length (s .cells)
   unfolding runFrom onward
   run-room zero k s sound = refl
