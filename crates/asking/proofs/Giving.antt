@@ -4,11 +4,11 @@ use mathlib.Core.Bool.{true, false}
 use mathlib.Core.List.{List, _∷_}
 use Prim.Native.Nat.{ℕ, _+_, _≤_, _<_}
 use native.Mathlib.Omega.{arith}
-use borrow.Author.Tests.{eq-eqb, ne-eqb}
+use borrow.Author.Tests.{eqb-true, eq-eqb, ne-eqb}
 use lib.Dec.{eqb}
 use lib.IntN.{ℤ}
 use lib.ListN.{length, length-append}
-use Rattle.prelude.proofs.Choice.{choose-yes, choose-no, also-true}
+use Rattle.prelude.proofs.Choice.{choose-yes, choose-no, choose-has, also-true}
 use Rattle.image.specs.Rows.{Bytes, rowsOf}
 use Rattle.statements.proofs.Bodies.{end-within}
 use Rattle.checker.specs.declared.CheckAnswer.the-variants.{Accepted}
@@ -22,14 +22,14 @@ use Rattle.semantics.specs.Running.{programOf, Ended, runFrom, refusal, numbers
 use Rattle.semantics.specs.Sound.{Sound, frameWants, wants}
 use Rattle.semantics.proofs.Simulation.{eraseEnded}
 use Rattle.semantics.proofs.Demand3.{program-accepted, program-bytes}
-use Rattle.semantics.proofs.Outcomes.{refusal-none}
+use Rattle.semantics.proofs.Outcomes.{refusal-none, run-outcome}
 use Rattle.asking.specs.State.{soundOf}
 use Rattle.asking.specs.Resuming.{resumed}
 use Rattle.asking.specs.Continuing.{question14, continueRefusal, continuedOf, continueResult, continuedStore}
 use Rattle.asking.specs.Continuing.{continuedOutput}
 use Rattle.asking.proofs.Built.{yes-sound}
 use Rattle.asking.proofs.Resuming.{run-ok, resumed-cells, resumed-bare}
-use Rattle.asking.proofs.Continuing.{none-continue}
+use Rattle.asking.proofs.Continuing.{continue-none, none-continue}
 
 -- a continuation's numbers, every cell of the store and every output place
 pub record Continues (image : List ℕ) (input store output : List ℤ) (from : RunResult) (steps : ℕ) (r : RunResult)
@@ -145,3 +145,17 @@ module _ (image : List ℕ) (input store output : List ℤ) (from : RunResult) (
           left = ap (λ (x : Ended ℤ). x .state .cells) same ∙ sym (choose-yes _ _ _ yes);
           sent = ap (λ (x : Ended ℤ). x .state .output) same ∙ sym (choose-yes _ _ _ yes);
         }
+
+-- "outcome (0 steps used up, 1 finished, 2 trapped)": whatever the image, the store and the earlier result
+pub continue-outcome : (image : List ℕ) → Bytes image → (input store output : List ℤ) (from : RunResult) (steps : ℕ)
+    → continueResult image input store output from steps .outcome ≤ 2
+unfolding continueResult continuedOf numbersOf refusedWith
+continue-outcome image bytes input store output from steps =
+    choose-has (λ (r : RunResult). r .outcome ≤ 2) _ (λ e. go (eqb-true _ _ e)) (λ e. omega arith)
+  where
+    go : continueRefusal image input store output from steps ≡ 0
+        → continuedOf image input store output from steps .outcome ≤ 2
+    go e =
+        let (none, passes) = continue-none image input store output from steps e in
+        run-outcome (programOf image) input steps (from .steps) _
+        (continued-unstuck image input store output from steps bytes none passes)

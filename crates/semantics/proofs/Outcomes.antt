@@ -134,6 +134,17 @@ steps-used g input n k s = go (reported g input n k s)
     go (traps d low c r x) used = absurd (omega arith)
     go (sticks d low c r x) used = absurd (omega arith)
 
+-- a run that is not stuck has an outcome of the paper's
+pub run-outcome : (g : Program) (input : List ℤ) (n k : ℕ) (s : State Cell)
+    → (runFrom tagged g input n k s .outcome ≡ 3 → ⊥) → runFrom tagged g input n k s .outcome ≤ 2
+run-outcome g input n k s = go (reported g input n k s)
+  where
+    go : {e : Ended Cell} → Reported g input n k s e → (e .outcome ≡ 3 → ⊥) → e .outcome ≤ 2
+    go (used-up c r) free = omega arith
+    go (finishes d low c r x) free = omega arith
+    go (traps d low c r x) free = omega arith
+    go (sticks d low c r x) free = absurd (free refl)
+
 -- a run takes no more steps than it is lent
 pub steps-lent : (image : List ℕ) (input store output : List ℤ) (steps : ℕ)
     → ranOf image input store output steps .steps ≤ steps
@@ -279,14 +290,8 @@ module _ (image : List ℕ) (bytes : Bytes image) (accepted : checkOf image ≡ 
       ∙ fresh-length (programOf image) ok store least
 
   pub ran-outcome : ranOf image input store output steps .outcome ≤ 2
-  ran-outcome = go ran never-stuck
-    where
-      go : {e : Ended Cell} → Reported (programOf image) input steps 0 first e → (e .outcome ≡ 3 → ⊥)
-          → e .outcome ≤ 2
-      go (used-up c r) free = omega arith
-      go (finishes d low c r x) free = omega arith
-      go (traps d low c r x) free = omega arith
-      go (sticks d low c r x) free = absurd (free refl)
+  unfolding ranOf
+  ran-outcome = run-outcome (programOf image) input steps 0 first never-stuck
 
 -- "outcome (0 steps used up, 1 finished, 2 trapped)": whatever the image and the store
 pub result-outcome : (image : List ℕ) → Bytes image → (input store output : List ℤ) (steps : ℕ)
