@@ -43,7 +43,7 @@ use Rattle.asking.proofs.Objects.{procedures-of, room-is, yes-object}
 
 -- ---- numbers
 
-number-is : (z : ℤ) (n : ℕ) → isNumber z n ≡ true → z ≡ pos n
+pub number-is : (z : ℤ) (n : ℕ) → isNumber z n ≡ true → z ≡ pos n
 unfolding isNumber
 number-is (pos m) n e = ap pos (eqb-true m n e)
 number-is (negsuc m) n e = clash (sym e)

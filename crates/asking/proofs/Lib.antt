@@ -1,5 +1,8 @@
 pub mod Objects
 pub mod Built
 pub mod Told
+pub mod Passing
 pub mod Resuming
 pub mod Variables
+pub mod Continuing
+pub mod Giving

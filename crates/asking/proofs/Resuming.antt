@@ -5,7 +5,7 @@ use mathlib.Core.List.{List, [], _∷_, _++_, map}
 use Prim.Native.Nat.{ℕ, zero, suc, _+_}
 use native.Mathlib.Omega.{arith}
 use lib.IntN.{ℤ}
-use lib.ListN.{length, drop}
+use lib.ListN.{length, drop, length-map}
 use Rattle.prelude.proofs.Parts.{map-append}
 use Rattle.image.specs.Rows.{Bytes}
 use Rattle.checker.proofs.Accepted.{AcceptedTables}
@@ -68,6 +68,28 @@ dressed-numbers ks l =
     map-append (tagged .number) (zipped ks l) (map (tagged .loose) (drop (length ks) l))
     ∙ ap (λ r. numbers (zipped ks l) ++ r) (loose-same (drop (length ks) l)) ∙ zipped-numbers ks l
 
+-- ---- what numbers stand for
+
+module _ (g : Program) (s : Registers) (store output : List ℤ) where
+  resumed-erased : erase (resumed g s store output) ≡ record { at = s; cells = store; output = output }
+  unfolding resumed
+  resumed-erased = rw (dressed-numbers (kindsBelow g (framesOf g s store)) store)
+
+  -- as many cells as there are numbers
+  pub resumed-cells : length (resumed g s store output .cells) ≡ length store
+  unfolding resumed
+  resumed-cells =
+      let kinds = kindsBelow g (framesOf g s store) in
+      sym (length-map (dressed kinds store) (tagged .number)) ∙ ap length (dressed-numbers kinds store)
+
+  -- where they stand for a sound state, the test passes
+  pub resumed-told : AcceptedTables (g .types) (g .fields) (g .variables) (g .procedures) (g .nodes) (g .statements)
+      → Sound g (resumed g s store output) → soundOf g s store ≡ true
+  unfolding resumed
+  resumed-told ok sound =
+      ap (soundOf g s) (sym (dressed-numbers (kindsBelow g (framesOf g s store)) store))
+      ∙ sound-told g ok (resumed g s store output) sound
+
 module _ (g : Program)
     (ok : AcceptedTables (g .types) (g .fields) (g .variables) (g .procedures) (g .nodes) (g .statements))
     (bytes : Bytes (g .nodes)) (input : List ℤ) where
@@ -90,17 +112,12 @@ module _ (g : Program)
       go x ok-finished ih = record { not-stuck = λ e. absurd (omega arith); sound = λ e. absurd (omega arith) }
       go x (ok-trapped same) ih = record { not-stuck = λ e. absurd (omega arith); sound = λ e. absurd (omega arith) }
 
-  resumed-erased : (s : Registers) (store output : List ℤ)
-      → erase (resumed g s store output) ≡ record { at = s; cells = store; output = output }
-  unfolding resumed
-  resumed-erased s store output = rw (dressed-numbers (kindsBelow g (framesOf g s store)) store)
-
   -- a run that goes on from numbers does on the bare machine what it does on the tagged one
   pub resumed-bare : (s : Registers) (store output : List ℤ) → soundOf g s store ≡ true → (n k : ℕ)
       → runFrom bare g input n k (record { at = s; cells = store; output = output })
       ≡ eraseEnded (runFrom tagged g input n k (resumed g s store output))
   resumed-bare s store output e n k =
-      ap (λ (u : State ℤ). runFrom bare g input n k u) (sym (resumed-erased s store output))
+      ap (λ (u : State ℤ). runFrom bare g input n k u) (sym (resumed-erased g s store output))
       ∙ run-follows g input n k (resumed g s store output)
       (run-ok n k (resumed g s store output) (yes-sound g ok s store output e) .not-stuck)
 

@@ -39,7 +39,7 @@ use Rattle.asking.proofs.Objects.{procedures-of, room-is, object-yes}
 abbrev raw : List Cell → List ℤ
 raw cells = map (λ (c : Cell). c .number) cells
 
-number-same : (z : ℤ) (n : ℕ) → z ≡ pos n → isNumber z n ≡ true
+pub number-same : (z : ℤ) (n : ℕ) → z ≡ pos n → isNumber z n ≡ true
 unfolding isNumber
 number-same z n e = rw e (eq-eqb n n refl)
 

@@ -2,3 +2,4 @@ pub mod Asking
 pub mod State
 pub mod Passes
 pub mod Resuming
+pub mod Continuing

@@ -1,7 +1,7 @@
 -- Demand 3: after every number of steps from the fresh state the tagged machine's state is sound, and until it
 -- finishes or traps its next step goes on, finishes, or ends in a named trap. It is never stuck.
 --
--- The claim is `sound-after`. The definitions that it cites:
+-- The claim is `sound-after`, which is `demand3-from` at the fresh state. The definitions that it cites:
 --   checkOf, Accepted           checker/specs/Check: questions 1 to 11
 --   Bytes                       image/specs/Rows: the image's numbers are bytes
 --   programOf, firstTop, fresh  specs/Running: the image's tables, G + F0, the fresh state
@@ -85,12 +85,18 @@ module _ (g : Program)
       step-sound s sound (stepOf tagged g input s) refl (step-ok g ok bytes s sound input) (after tagged g input n)
       (λ u h. machine-sound n u h)
 
+-- from every sound state
+pub demand3-from : (image : List ℕ) → Bytes image → checkOf image ≡ Accepted → (input : List ℤ) (s : State Cell)
+    → Sound (programOf image) s → (n : ℕ)
+    → SoundAfter (programOf image) input (after tagged (programOf image) input n s)
+demand3-from image bytes accepted input s sound n =
+    machine-sound (programOf image) (program-accepted image accepted) (program-bytes image bytes) input n s sound
+
 -- "Demand 3 is a single claim, about every number of steps from the fresh state"
 pub sound-after : (image : List ℕ) → Bytes image → checkOf image ≡ Accepted
     → (input store output : List ℤ) → length store ≤ 65536 → firstTop (programOf image) ≤ length store
     → (n : ℕ) → SoundAfter (programOf image) input
     (after tagged (programOf image) input n (fresh tagged (programOf image) store output))
 sound-after image bytes accepted input store output most least n =
-    let ok = program-accepted image accepted in
-    machine-sound (programOf image) ok (program-bytes image bytes) input n _
-    (fresh-sound (programOf image) ok store output most least)
+    demand3-from image bytes accepted input (fresh tagged (programOf image) store output)
+    (fresh-sound (programOf image) (program-accepted image accepted) store output most least) n

@@ -6,12 +6,12 @@ use mathlib.Core.List.{List}
 use mathlib.Core.Logic.{⊎-elim}
 use Prim.Native.Nat.{ℕ, zero, suc, _+_, _≤_, _<_}
 use native.Mathlib.Omega.{arith}
-use borrow.Author.Tests.{leb-true, eqb-true, eq-eqb}
+use borrow.Author.Tests.{leb-true, le-leb, eqb-true, eq-eqb}
 use lib.Dec.{leb, eqb}
 use lib.IntN.{ℤ, pos}
 use lib.ListN.{length, getD}
 use Rattle.prelude.specs.Choice.{choose}
-use Rattle.prelude.proofs.Choice.{choose-cases, choose-has, clash}
+use Rattle.prelude.proofs.Choice.{choose-yes, choose-cases, choose-has, clash}
 use Rattle.image.specs.Rows.{Bytes}
 use Rattle.values.specs.declared.Trap.{Trap}
 use Rattle.values.specs.Values.{trapNumber}
@@ -123,6 +123,28 @@ last-stays g input (suc n) k s last =
     go (trapped t z u) h later = refl
     go (stuck u) h later = refl
 
+-- a run that used up its steps took them all
+pub steps-used : (g : Program) (input : List ℤ) (n k : ℕ) (s : State Cell)
+    → runFrom tagged g input n k s .outcome ≡ 0 → runFrom tagged g input n k s .steps ≡ k + n
+steps-used g input n k s = go (reported g input n k s)
+  where
+    go : {e : Ended Cell} → Reported g input n k s e → e .outcome ≡ 0 → e .steps ≡ k + n
+    go (used-up c r) used = c
+    go (finishes d low c r x) used = absurd (omega arith)
+    go (traps d low c r x) used = absurd (omega arith)
+    go (sticks d low c r x) used = absurd (omega arith)
+
+-- a run that is not stuck has an outcome of the paper's
+pub run-outcome : (g : Program) (input : List ℤ) (n k : ℕ) (s : State Cell)
+    → (runFrom tagged g input n k s .outcome ≡ 3 → ⊥) → runFrom tagged g input n k s .outcome ≤ 2
+run-outcome g input n k s = go (reported g input n k s)
+  where
+    go : {e : Ended Cell} → Reported g input n k s e → (e .outcome ≡ 3 → ⊥) → e .outcome ≤ 2
+    go (used-up c r) free = omega arith
+    go (finishes d low c r x) free = omega arith
+    go (traps d low c r x) free = omega arith
+    go (sticks d low c r x) free = absurd (free refl)
+
 -- a run takes no more steps than it is lent
 pub steps-lent : (image : List ℕ) (input store output : List ℤ) (steps : ℕ)
     → ranOf image input store output steps .steps ≤ steps
@@ -162,13 +184,21 @@ refusal-none image store e =
     (λ a. clash (sym (eq-eqb _ 0 (a .1)) ∙ a .0))
     (choose-cases (eqb (refusalOf (checkOf image)) 0) e)
 
+-- and back
+pub none-refusal : (image : List ℕ) (store : List ℤ) → checkOf image ≡ Accepted → length store ≤ 65536
+    → firstTop (programOf image) ≤ length store → refusal image store ≡ 0
+unfolding refusal refusalOf
+none-refusal image store accepted most least =
+    let none : refusalOf (checkOf image) ≡ 0 = rw accepted in
+    choose-yes _ _ _ (eq-eqb _ 0 none) ∙ choose-yes _ _ _ (le-leb _ 65536 most) ∙ choose-yes _ _ _ (le-leb _ _ least)
+
 -- ---- what follows from demand 3
 
 module _ (g : Program)
     (ok : AcceptedTables (g .types) (g .fields) (g .variables) (g .procedures) (g .nodes) (g .statements))
     (bytes : Bytes (g .nodes)) (input : List ℤ) where
   -- a run leaves as many cells as there were
-  run-room : (n k : ℕ) (s : State Cell) → Sound g s
+  pub run-room : (n k : ℕ) (s : State Cell) → Sound g s
       → length (runFrom tagged g input n k s .state .cells) ≡ length (s .cells)
   unfolding runFrom onward
   run-room zero k s sound = refl
@@ -260,14 +290,8 @@ module _ (image : List ℕ) (bytes : Bytes image) (accepted : checkOf image ≡ 
       ∙ fresh-length (programOf image) ok store least
 
   pub ran-outcome : ranOf image input store output steps .outcome ≤ 2
-  ran-outcome = go ran never-stuck
-    where
-      go : {e : Ended Cell} → Reported (programOf image) input steps 0 first e → (e .outcome ≡ 3 → ⊥)
-          → e .outcome ≤ 2
-      go (used-up c r) free = omega arith
-      go (finishes d low c r x) free = omega arith
-      go (traps d low c r x) free = omega arith
-      go (sticks d low c r x) free = absurd (free refl)
+  unfolding ranOf
+  ran-outcome = run-outcome (programOf image) input steps 0 first never-stuck
 
 -- "outcome (0 steps used up, 1 finished, 2 trapped)": whatever the image and the store
 pub result-outcome : (image : List ℕ) → Bytes image → (input store output : List ℤ) (steps : ℕ)
@@ -287,27 +311,27 @@ result-outcome image bytes input store output steps = go (eqb (refusal image sto
 
 -- "trap is 0 unless trapped, HALT number 0 unless trap 10; .. output places from written on keep their numbers": a run
 -- from s
-pub record Kept {X : Type 0} (s : State X) (e : Ended X) : Type 0 where
+pub record Kept {X : Type 0} (input : List ℤ) (s : State X) (e : Ended X) : Type 0 where
   pub no-trap : (e .outcome ≡ 2 → ⊥) → e .trap ≡ 0
   pub named-trap : e .outcome ≡ 2 → (1 ≤ e .trap) × (e .trap ≤ 10)
   pub halt : (e .trap ≡ 10 → ⊥) → e .halt ≡ pos 0
-  pub output : Keeps s (e .state)
+  pub output : Keeps input s (e .state)
 
 module _ {X : Type 0} (m : Memory X) (g : Program) (input : List ℤ) where
-  onward-kept : {s : State X} (x : Next X) (k : ℕ) (next : State X → Ended X) → Reports s x
-      → ((u : State X) → Kept u (next u)) → Kept s (onward x s k next)
+  onward-kept : {s : State X} (x : Next X) (k : ℕ) (next : State X → Ended X) → Reports input s x
+      → ((u : State X) → Kept input u (next u)) → Kept input s (onward x s k next)
   unfolding onward
   onward-kept (goes u) k next (reports-goes kept) more = record {
     no-trap = more u .no-trap;
     named-trap = more u .named-trap;
     halt = more u .halt;
-    output = keeps-on kept (more u .output);
+    output = keeps-on input kept (more u .output);
   }
   onward-kept {s} finished k next h more = record {
     no-trap = λ h. refl;
     named-trap = λ h. absurd (omega arith);
     halt = λ h. refl;
-    output = keeps-all s;
+    output = keeps-all input s;
   }
   onward-kept (trapped t z u) k next (reports-trapped kept numbered) more = record {
     no-trap = λ h. absurd (h refl);
@@ -322,19 +346,19 @@ module _ {X : Type 0} (m : Memory X) (g : Program) (input : List ℤ) where
     output = kept;
   }
 
-  pub run-kept : (n k : ℕ) (s : State X) → Kept s (runFrom m g input n k s)
+  pub run-kept : (n k : ℕ) (s : State X) → Kept input s (runFrom m g input n k s)
   unfolding runFrom
   run-kept zero k s = record {
     no-trap = λ h. refl;
     named-trap = λ h. absurd (omega arith);
     halt = λ h. refl;
-    output = keeps-all s;
+    output = keeps-all input s;
   }
   run-kept (suc n) k s =
-      onward-kept (stepOf m g input s) (k + 1) _ (step-reports m g s input) (λ u. run-kept n (k + 1) u)
+      onward-kept (stepOf m g input s) (k + 1) _ (step-reports input m g s) (λ u. run-kept n (k + 1) u)
 
 module _ (image : List ℕ) (input store output : List ℤ) (steps : ℕ) where
-  ran-kept : Kept (fresh tagged (programOf image) store output) (ranOf image input store output steps)
+  ran-kept : Kept input (fresh tagged (programOf image) store output) (ranOf image input store output steps)
   unfolding ranOf
   ran-kept = run-kept tagged (programOf image) input steps 0 (fresh tagged (programOf image) store output)
 
@@ -365,13 +389,13 @@ module _ (image : List ℕ) (input store output : List ℤ) (steps : ℕ) where
   result-halt = result-has (λ r. (r .trap ≡ 10 → ⊥) → r .halt ≡ pos 0) (ran-kept .halt) (λ q row h. refl)
 
   -- "output places from written on keep their numbers"; there are as many as were lent
-  pub output-kept : (i : ℕ) → resultOf image input store output steps .written ≤ i
+  pub output-kept : (i : ℕ) → resultOf image input store output steps .at .written ≤ i
       → getD (outputAfter image input store output steps) i (pos 0) ≡ getD output i (pos 0)
   unfolding resultOf outputAfter numbersOf fresh choose
   output-kept i = go (eqb (refusal image store) 0)
     where
       go : (b : Bool) → choose b (numbersOf (ranOf image input store output steps))
-          (refusedWith (refusal image store) (rowOf (checkOf image))) .written ≤ i
+          (refusedWith (refusal image store) (rowOf (checkOf image))) .at .written ≤ i
           → getD (choose b (ranOf image input store output steps .state .output) output) i (pos 0)
           ≡ getD output i (pos 0)
       go true h = ran-kept .output .place i h

@@ -1,9 +1,10 @@
--- What a step does to the output places, and the number that a trap has, from any state of any memory.
+-- What a step does to the counts and the output places, and the number that a trap has, from any state of any memory.
 use mathlib.Core.Path.{_≡_, refl, _∙_}
 use mathlib.Core.Bool.{Bool}
 use mathlib.Core.List.{List}
-use Prim.Native.Nat.{ℕ, zero, suc, _+_, _≤_}
+use Prim.Native.Nat.{ℕ, zero, suc, _+_, _≤_, _<_}
 use native.Mathlib.Omega.{arith}
+use borrow.Author.Tests.{ltb-true}
 use lib.IntN.{ℤ, pos}
 use lib.ListN.{length, getD, length-set}
 use lib.Seq.{getD-set-other}
@@ -29,11 +30,14 @@ use Rattle.semantics.specs.Stepping.{onPlace, onValue, onInteger, onBool
 use Rattle.semantics.specs.Stepping.{written, onPart, afterRead, copied, assigned, argumentCells, passed, entered}
 use Rattle.semantics.specs.Stepping.{called, jumped, returned, received, sent, halted, perform, stepOf}
 
--- "output places from written on keep their numbers": from a state to a later one
-pub record Keeps {X : Type 0} (s u : State X) : Type 0 where
+-- "output places from written on keep their numbers", and a count within its lent list stays within it: from a state to
+-- a later one
+pub record Keeps {X : Type 0} (input : List ℤ) (s u : State X) : Type 0 where
   pub count : s .at .written ≤ u .at .written
   pub places : length (u .output) ≡ length (s .output)
   pub place : (i : ℕ) → u .at .written ≤ i → getD (u .output) i (pos 0) ≡ getD (s .output) i (pos 0)
+  pub inputs : s .at .read ≤ length input → u .at .read ≤ length input
+  pub outputs : s .at .written ≤ length (s .output) → u .at .written ≤ length (s .output)
 
 -- "HALT number 0 unless trap 10"
 pub record Numbered (t : Trap) (z : ℤ) : Type 0 where
@@ -42,26 +46,29 @@ pub record Numbered (t : Trap) (z : ℤ) : Type 0 where
 pub no-number : (t : Trap) → Numbered t (pos 0)
 no-number t = record { halt = λ h. refl }
 
-module _ {X : Type 0} where
+module _ {X : Type 0} (input : List ℤ) where
   -- what a step comes to, of the output and HALT's number
   pub data Reports (s : State X) : Next X → Type 0 where
-    reports-goes : {u : State X} → Keeps s u → Reports s (goes u)
+    reports-goes : {u : State X} → Keeps input s u → Reports s (goes u)
     reports-finished : Reports s finished
-    reports-trapped : {t : Trap} {z : ℤ} {u : State X} → Keeps s u → Numbered t z → Reports s (trapped t z u)
-    reports-stuck : {u : State X} → Keeps s u → Reports s (stuck u)
+    reports-trapped : {t : Trap} {z : ℤ} {u : State X} → Keeps input s u → Numbered t z → Reports s (trapped t z u)
+    reports-stuck : {u : State X} → Keeps input s u → Reports s (stuck u)
 
-  -- the same count and output, whatever else is
-  pub keeps-same : {s u : State X} → u .at .written ≡ s .at .written → u .output ≡ s .output → Keeps s u
-  keeps-same count same = record {
+  -- the same counts and output, whatever else is
+  pub keeps-same : {s u : State X} → u .at .read ≡ s .at .read → u .at .written ≡ s .at .written
+      → u .output ≡ s .output → Keeps input s u
+  keeps-same read count same = record {
     count = omega arith;
     places = rw same;
     place = λ i h. rw same;
+    inputs = λ h. omega arith;
+    outputs = λ h. omega arith;
   }
 
-  pub keeps-all : (s : State X) → Keeps s s
-  keeps-all s = keeps-same refl refl
+  pub keeps-all : (s : State X) → Keeps input s s
+  keeps-all s = keeps-same refl refl refl
 
-  pub keeps-on : {s u v : State X} → Keeps s u → Keeps u v → Keeps s v
+  pub keeps-on : {s u v : State X} → Keeps input s u → Keeps input u v → Keeps input s v
   keeps-on {s} {u} {v} one two =
       let low = one .count in
       let high = two .count in
@@ -69,11 +76,13 @@ module _ {X : Type 0} where
         count = omega arith;
         places = two .places ∙ one .places;
         place = λ i h. two .place i h ∙ one .place i (omega arith);
+        inputs = λ h. two .inputs (one .inputs h);
+        outputs = λ h. rw (one .places) at (two .outputs (rw (one .places) (one .outputs h)));
       }
 
   -- ---- by the ways that a step goes on, after cells above top were written
 
-  module _ {s s′ : State X} (kept : Keeps s s′) where
+  module _ {s s′ : State X} (kept : Keeps input s s′) where
     place-reports : (found : Found) (k : Place → Next X) → ((place : Place) → Reports s (k place))
         → Reports s (onPlace s′ found k)
     unfolding onPlace
@@ -110,26 +119,19 @@ module _ {X : Type 0} where
     unfolding onPart
     part-reports a n k f = choose-has (Reports s) _ (λ e. f _) (λ e. reports-stuck kept)
 
-  read-reports : {s : State X} (x : Next X) → Reports s x → Reports s (afterRead x)
-  unfolding afterRead
-  read-reports (goes u) (reports-goes kept) = reports-goes (keeps-on kept (keeps-same refl refl))
-  read-reports finished h = h
-  read-reports (trapped t z u) h = h
-  read-reports (stuck u) h = h
-
   -- ---- the statements
 
   module _ (s : State X) where
-    went : (row : ℕ) → Keeps s (goTo s row)
+    went : (row : ℕ) → Keeps input s (goTo s row)
     unfolding goTo
-    went row = keeps-same refl refl
+    went row = keeps-same refl refl refl
 
     written-reports : (a : ℕ) (new : List X) → Reports s (written s a new)
     unfolding written following goTo withCells
     written-reports a new =
-        choose-has (Reports s) _ (λ e. reports-goes (keeps-same refl refl)) (λ e. reports-stuck (keeps-all s))
+        choose-has (Reports s) _ (λ e. reports-goes (keeps-same refl refl refl)) (λ e. reports-stuck (keeps-all s))
 
-  argument-reports : (m : Memory X) (g : Program) {s s′ : State X} → Keeps s s′ → (k : ℕ) (parameter : Row)
+  argument-reports : (m : Memory X) (g : Program) {s s′ : State X} → Keeps input s s′ → (k : ℕ) (parameter : Row)
       (next : List X → Next X) → ((new : List X) → Reports s (next new))
       → Reports s (argumentCells m g s′ k parameter next)
   unfolding argumentCells
@@ -138,17 +140,17 @@ module _ {X : Type 0} where
       (λ e. choose-has (Reports s) _ (λ e. value-reports kept _ _ (λ v. f _))
       (λ e. place-reports kept _ _ (λ place. part-reports kept _ _ _ f)))
 
-  passed-reports : (m : Memory X) (g : Program) {s : State X} (k a n : ℕ) (s′ : State X) → Keeps s s′
-      → (next : State X → Next X) → ((u : State X) → Keeps s u → Reports s (next u))
+  passed-reports : (m : Memory X) (g : Program) {s : State X} (k a n : ℕ) (s′ : State X) → Keeps input s s′
+      → (next : State X → Next X) → ((u : State X) → Keeps input s u → Reports s (next u))
       → Reports s (passed m g k a n s′ next)
   unfolding passed withCells
   passed-reports m g k a zero s′ kept next f = f s′ kept
   passed-reports m g k a (suc n) s′ kept next f =
       argument-reports m g kept k (rowAt (g .variables) a) _ (λ new.
-      passed-reports m g (k + 1) (a + 1) n _ (keeps-on kept (keeps-same refl refl)) next f)
+      passed-reports m g (k + 1) (a + 1) n _ (keeps-on kept (keeps-same refl refl refl)) next f)
 
   module _ (m : Memory X) (g : Program) (s : State X) where
-    abbrev here : Keeps s s
+    abbrev here : Keeps input s s
     here = keeps-all s
 
     copied-reports : (target source : Place) → Reports s (copied m g s target source)
@@ -164,9 +166,9 @@ module _ {X : Type 0} where
         (λ e. value-reports here _ _ (λ v. written-reports s (target .address) _))
         (λ e. place-reports here _ _ (λ source. copied-reports target source)))
 
-    entered-reports : (q : ℕ) (procedure : Row) (u : State X) → Keeps s u → Reports s (entered m g q procedure u)
+    entered-reports : (q : ℕ) (procedure : Row) (u : State X) → Keeps input s u → Reports s (entered m g q procedure u)
     unfolding entered
-    entered-reports q procedure u kept = reports-goes (keeps-on kept (keeps-same refl refl))
+    entered-reports q procedure u kept = reports-goes (keeps-on kept (keeps-same refl refl refl))
 
     called-reports : (row : Row) → Reports s (called m g row s)
     unfolding called
@@ -178,21 +180,34 @@ module _ {X : Type 0} where
     unfolding jumped following
     jumped-reports row =
         value-reports here _ _ (λ v. boolean-reports here v _ (λ holds.
-        reports-goes (choose-has (Keeps s) holds (λ e. went s _) (λ e. went s _))))
+        reports-goes (choose-has (Keeps input s) holds (λ e. went s _) (λ e. went s _))))
 
     returned-reports : Reports s (returned m g s)
     unfolding returned
     returned-reports =
         choose-has (Reports s) _ (λ e. reports-finished)
         (λ e. mark-reports here _ _ (λ row. mark-reports here _ _ (λ base.
-        reports-goes (keeps-same refl refl))))
+        reports-goes (keeps-same refl refl refl))))
 
-    received-reports : (input : List ℤ) (row : Row) → Reports s (received m g input row s)
+    -- one more input, where there is one
+    read-reports : (a : ℕ) (new : List X) → s .at .read < length input → Reports s (afterRead (written s a new))
+    unfolding written following goTo withCells afterRead
+    read-reports a new more =
+        choose-has (λ x. Reports s (afterRead x)) _
+        (λ e. reports-goes (record {
+          count = omega arith;
+          places = refl;
+          place = λ i h. refl;
+          inputs = λ h. omega arith;
+          outputs = λ h. h;
+        }))
+        (λ e. reports-stuck here)
+
+    received-reports : (row : Row) → Reports s (received m g input row s)
     unfolding received
-    received-reports input row =
+    received-reports row =
         place-reports here _ _ (λ target. choose-has (Reports s) _
-        (λ e. read-reports _ (written-reports s (target .address) _))
-        (λ e. reports-trapped here (no-number _)))
+        (λ e. read-reports (target .address) _ (ltb-true _ _ e)) (λ e. reports-trapped here (no-number _)))
 
     sent-reports : (row : Row) → Reports s (sent m g row s)
     unfolding sent
@@ -200,8 +215,10 @@ module _ {X : Type 0} where
         value-reports here _ _ (λ v. integer-reports here v _ (λ z. choose-has (Reports s) _
         (λ e. reports-goes (record {
           count = omega arith;
-          places = length-set (s .output) _ z;
-          place = λ i h. getD-set-other (s .output) _ i z (pos 0) (omega arith);
+          places = length-set (s .output) (s .at .written) z;
+          place = λ i h. getD-set-other (s .output) (s .at .written) i z (pos 0) (omega arith);
+          inputs = λ h. h;
+          outputs = λ h. omega (arith, ltb-true (s .at .written) (length (s .output)) e);
         }))
         (λ e. reports-trapped here (no-number _))))
 
@@ -211,18 +228,18 @@ module _ {X : Type 0} where
         value-reports here _ _ (λ v. integer-reports here v _ (λ z.
         reports-trapped here (record { halt = λ other. absurd (other halt-number) })))
 
-    perform-reports : (input : List ℤ) (kind : ℕ) (row : Row) → Reports s (perform m g input kind row s)
+    perform-reports : (kind : ℕ) (row : Row) → Reports s (perform m g input kind row s)
     unfolding perform
-    perform-reports input kind row =
+    perform-reports kind row =
         choose-has (Reports s) _ (λ e. assigned-reports row)
         (λ e. choose-has (Reports s) _ (λ e. called-reports row)
         (λ e. choose-has (Reports s) _ (λ e. jumped-reports row)
         (λ e. choose-has (Reports s) _ (λ e. reports-goes (went s (row .b)))
         (λ e. choose-has (Reports s) _ (λ e. returned-reports)
-        (λ e. choose-has (Reports s) _ (λ e. received-reports input row)
+        (λ e. choose-has (Reports s) _ (λ e. received-reports row)
         (λ e. choose-has (Reports s) _ (λ e. sent-reports row)
         (λ e. choose-has (Reports s) _ (λ e. halted-reports row) (λ e. reports-stuck here))))))))
 
-    pub step-reports : (input : List ℤ) → Reports s (stepOf m g input s)
+    pub step-reports : Reports s (stepOf m g input s)
     unfolding stepOf
-    step-reports input = perform-reports input _ _
+    step-reports = perform-reports _ _

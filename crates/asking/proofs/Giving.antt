@@ -1,0 +1,161 @@
+-- What the code of a continuation has to show: the bare machine's run, or a refusal.
+use mathlib.Core.Path.{_≡_, refl, sym, _∙_, ap}
+use mathlib.Core.Bool.{true, false}
+use mathlib.Core.List.{List, _∷_}
+use Prim.Native.Nat.{ℕ, _+_, _≤_, _<_}
+use native.Mathlib.Omega.{arith}
+use borrow.Author.Tests.{eqb-true, eq-eqb, ne-eqb}
+use lib.Dec.{eqb}
+use lib.IntN.{ℤ}
+use lib.ListN.{length, length-append}
+use Rattle.prelude.proofs.Choice.{choose-yes, choose-no, choose-has, also-true}
+use Rattle.image.specs.Rows.{Bytes, rowsOf}
+use Rattle.statements.proofs.Bodies.{end-within}
+use Rattle.checker.specs.declared.CheckAnswer.the-variants.{Accepted}
+use Rattle.checker.specs.Check.{checkOf, rowOf}
+use Rattle.semantics.specs.declared.Registers.{Registers}
+use Rattle.semantics.specs.declared.RunResult.{RunResult}
+use Rattle.semantics.specs.Memory.{bare}
+use Rattle.semantics.specs.Layout.{Program}
+use Rattle.semantics.specs.Stepping.{State}
+use Rattle.semantics.specs.Running.{programOf, Ended, runFrom, refusal, numbersOf, refusedWith}
+use Rattle.semantics.specs.Sound.{Sound, frameWants, wants}
+use Rattle.semantics.proofs.Simulation.{eraseEnded}
+use Rattle.semantics.proofs.Demand3.{program-accepted, program-bytes}
+use Rattle.semantics.proofs.Outcomes.{refusal-none, run-outcome}
+use Rattle.asking.specs.State.{soundOf}
+use Rattle.asking.specs.Resuming.{resumed}
+use Rattle.asking.specs.Continuing.{question14, continueRefusal, continuedOf, continueResult, continuedStore}
+use Rattle.asking.specs.Continuing.{continuedOutput}
+use Rattle.asking.proofs.Built.{yes-sound}
+use Rattle.asking.proofs.Resuming.{run-ok, resumed-cells, resumed-bare}
+use Rattle.asking.proofs.Continuing.{continue-none, none-continue}
+
+-- a continuation's numbers, every cell of the store and every output place
+pub record Continues (image : List ℕ) (input store output : List ℤ) (from : RunResult) (steps : ℕ) (r : RunResult)
+    (cells places : List ℤ) : Type 0 where
+  pub result : r ≡ continueResult image input store output from steps
+  pub left : cells ≡ continuedStore image input store output from steps
+  pub sent : places ≡ continuedOutput image input store output from steps
+
+-- the numbers that a sound state has room for
+pub record Ranged (s : Registers) (store : List ℤ) : Type 0 where
+  pub row : s .row ≤ 65536
+  pub base : s .base ≤ 65536
+  pub top : s .top ≤ length store
+  pub few : length store ≤ 65536
+
+module _ (image : List ℕ) (input store output : List ℤ) (from : RunResult) (steps : ℕ) where
+  -- ---- refusals
+
+  -- one with a number
+  refused : (q row : ℕ) → continueRefusal image input store output from steps ≡ q → (q ≡ 0 → ⊥)
+      → rowOf (checkOf image) ≡ row
+      → Continues image input store output from steps (refusedWith q row) store output
+  unfolding continueResult continuedStore continuedOutput
+  refused q row e some r =
+      let refuses : eqb (continueRefusal image input store output from steps) 0 ≡ false =
+      ne-eqb _ 0 (λ z. some (sym e ∙ z)) in
+      record {
+        result = sym (choose-no _ _ _ refuses ∙ rw (e, r));
+        left = sym (choose-no _ _ _ refuses);
+        sent = sym (choose-no _ _ _ refuses);
+      }
+
+  -- by a question of the run's
+  pub continues-refused : (q row : ℕ) → refusal image store ≡ q → (q ≡ 0 → ⊥) → rowOf (checkOf image) ≡ row
+      → Continues image input store output from steps (refusedWith q row) store output
+  unfolding continueRefusal
+  continues-refused q row e some r =
+      refused q row (choose-no _ _ _ (ne-eqb _ 0 (λ z. some (sym e ∙ z))) ∙ e) some r
+
+  -- by question 14, "row 0"
+  pub continues-14 : refusal image store ≡ 0 → question14 (programOf image) input store output from steps ≡ false
+      → Continues image input store output from steps (refusedWith 14 0) store output
+  unfolding continueRefusal rowOf
+  continues-14 none fails =
+      refused 14 0 (choose-yes _ _ _ (eq-eqb _ 0 none) ∙ choose-no _ _ _ fails) (λ z. absurd (omega arith))
+      (rw (refusal-none image store none .0))
+
+  -- ---- a continuation
+
+  module _ (bytes : Bytes image) (none : refusal image store ≡ 0)
+      (passes : question14 (programOf image) input store output from steps ≡ true) where
+    abbrev g : Program
+    g = programOf image
+
+    abbrev accepted : checkOf image ≡ Accepted
+    accepted = refusal-none image store none .0
+
+    passes-sound : soundOf g (from .at) store ≡ true
+    unfolding question14
+    passes-sound = let (zeros, others) = also-true _ _ passes in also-true _ _ others .0
+
+    state-sound : Sound g (resumed g (from .at) store output)
+    state-sound = yes-sound g (program-accepted image accepted) (from .at) store output passes-sound
+
+    -- from its state steps can be taken
+    pub continued-ranged : Ranged (from .at) store
+    unfolding resumed wants
+    continued-ranged =
+        let ok = program-accepted image accepted in
+        let sound = state-sound in
+        let here = sound .inside in
+        let cells = resumed-cells g (from .at) store output in
+        let within = end-within (g .variables) (g .procedures) (g .statements) (ok .procedures)
+        (sound .newest .procedure) (here .procedure) in
+        let few = ok .counts .statements in
+        let most = sound .lent in
+        let long = sound .stored in
+        let parts = length-append (wants g (sound .others)) (frameWants g (sound .newest)) in
+        record {
+          row = omega (arith, here .end);
+          base = omega (arith, sound .begins, sound .ends);
+          top = omega arith;
+          few = omega arith;
+        }
+
+    -- it is never stuck
+    pub continued-unstuck : continuedOf image input store output from steps .outcome ≡ 3 → ⊥
+    unfolding continuedOf
+    continued-unstuck =
+        run-ok g (program-accepted image accepted) (program-bytes image bytes) input steps (from .steps)
+        (resumed g (from .at) store output) state-sound .not-stuck
+
+    -- the bare machine, on the numbers alone, does the same
+    pub continued-bare : runFrom bare g input steps (from .steps)
+        (record { at = from .at; cells = store; output = output })
+        ≡ eraseEnded (continuedOf image input store output from steps)
+    unfolding continuedOf
+    continued-bare =
+        resumed-bare g (program-accepted image accepted) (program-bytes image bytes) input (from .at) store output
+        passes-sound steps (from .steps)
+
+    -- so what it gives is what is asked for
+    pub continues-run : {e : Ended ℤ}
+        → e ≡ runFrom bare g input steps (from .steps) (record { at = from .at; cells = store; output = output })
+        → Continues image input store output from steps (numbersOf e) (e .state .cells) (e .state .output)
+    unfolding continueResult continuedStore continuedOutput numbersOf
+    continues-run {e} is =
+        let yes : eqb (continueRefusal image input store output from steps) 0 ≡ true =
+        eq-eqb _ 0 (none-continue image input store output from steps none passes) in
+        let same = is ∙ continued-bare in
+        record {
+          result = ap (λ (x : Ended ℤ). numbersOf x) same ∙ sym (choose-yes _ _ _ yes);
+          left = ap (λ (x : Ended ℤ). x .state .cells) same ∙ sym (choose-yes _ _ _ yes);
+          sent = ap (λ (x : Ended ℤ). x .state .output) same ∙ sym (choose-yes _ _ _ yes);
+        }
+
+-- "outcome (0 steps used up, 1 finished, 2 trapped)": whatever the image, the store and the earlier result
+pub continue-outcome : (image : List ℕ) → Bytes image → (input store output : List ℤ) (from : RunResult) (steps : ℕ)
+    → continueResult image input store output from steps .outcome ≤ 2
+unfolding continueResult continuedOf numbersOf refusedWith
+continue-outcome image bytes input store output from steps =
+    choose-has (λ (r : RunResult). r .outcome ≤ 2) _ (λ e. go (eqb-true _ _ e)) (λ e. omega arith)
+  where
+    go : continueRefusal image input store output from steps ≡ 0
+        → continuedOf image input store output from steps .outcome ≤ 2
+    go e =
+        let (none, passes) = continue-none image input store output from steps e in
+        run-outcome (programOf image) input steps (from .steps) _
+        (continued-unstuck image input store output from steps bytes none passes)
