@@ -23,7 +23,7 @@ ghost use Rattle.sizes.specs.Cells.{OWNERS, NODES, RUN_PLAN};
 ghost use Rattle.types.specs.Plan.{Plan as TypesPlan};
 ghost use Rattle.relations.specs.Extends.{extends as extendsOf};
 ghost use Rattle.relations.specs.Fields.{fieldOf};
-ghost use Rattle.frames.specs.Procedures.{firstVariable};
+ghost use Rattle.frames.specs.Procedures.{firstVariable, claimedBy};
 ghost use Rattle.statements.specs.Statements.{procedureAt};
 ghost use Rattle.places.specs.Places.{widthOf, frameSize};
 ghost use Rattle.checker.specs.Check.{checkOf};
@@ -169,6 +169,17 @@ pub fn first_variable(image: &&[u8], plan: &Plan, q: u16) -> u32
         (programOf (now (now (image .entry))) .procedures) q ⌝ }
 {
     plan[FIRSTS + q as usize]
+}
+
+// How many variables procedure q has.
+pub fn claimed_by(image: &&[u8], plan: &Plan, q: u16) -> u32
+    requires { ⌜ Planned (now (now image)) (now plan) ⌝ }
+    ensures { λ x. ⌜ x ≡ claimedBy (rowAt (programOf (now (now (image .entry))) .procedures) q) ⌝ }
+{
+    let row = procedure_at(image, plan, q);
+    let parameters = row.b as u32;
+    let locals = row.c as u32;
+    parameters + locals
 }
 
 // How many cells the globals have.
