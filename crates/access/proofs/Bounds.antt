@@ -134,7 +134,7 @@ module _ {image plan : List ℕ} (p : Planned image plan) where
       omega (arith, kept, globals-within (g .variables))
 
   -- every procedure's variables exist
-  claims : Claims (g .variables) (g .procedures)
+  pub claims : Claims (g .variables) (g .procedures)
   claims = claims-kept (g .variables) (g .procedures) (g .statements) (ok .questions .procedures)
 
   -- a frame's cells
