@@ -1,0 +1,42 @@
+use mathlib.Core.Path.{_≡_, sym, _∙_, refl}
+use native.Mathlib.Omega.{arith}
+use Prim.Native.Nat.{_+_, _≤_}
+use Rattle.places.specs.Places.{frameSize}
+use Rattle.access.proofs.Bounds.{claims}
+use borrow.Author.Needs.{needs}
+use Rattle.resuming.proofs.frame_holds.Statement.{statement}
+use Rattle.resuming.proofs.frame_holds.Tie as tie
+use Rattle.resuming.proofs.frame_holds.Reads as reads
+use Rattle.resuming.proofs.frame_holds.Lts as lts
+use Rattle.access.proofs.claimed_by.Reads as claimed-by-reads
+use Rattle.access.proofs.first_variable.Reads as first-variable-reads
+use Rattle.resuming.proofs.variables_hold.Reads as variables-hold-reads
+
+first-variable-requires : tie.Need-first-variable-requires
+first-variable-requires c κs = search needs
+
+claimed-by-requires : tie.Need-claimed-by-requires
+claimed-by-requires c κs = search needs
+
+add-variables-hold : tie.Need-add-variables-hold
+add-variables-hold c = search needs
+
+variables-hold-requires : tie.Need-variables-hold-requires
+unfolding frameSize
+variables-hold-requires c κs =
+    let start = c .before .before .before in
+    rw (c .before .first-variable .ensures, c .claimed-by .ensures)
+    (start .pre .0, claims (start .pre .0 .planned) _ (start .pre .1), omega (arith, start .pre .2))
+
+returns : tie.Need-returns
+returns c = c .variables-hold .ensures ∙ rw (c .before .before .first-variable .ensures, c .before .claimed-by .ensures) refl
+
+pub frame-holds-spec : {M : Type 1} → statement M
+frame-holds-spec =
+    tie.close
+    (tie.spec
+    first-variable-requires
+    claimed-by-requires
+    add-variables-hold
+    variables-hold-requires
+    returns)
