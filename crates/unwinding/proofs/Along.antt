@@ -40,13 +40,13 @@ module _ (g : Program) (store : List ℤ) where
   kept qs b e = endsAt g qs b e also linked g qs store
 
   kept-walked : {qs : List ℕ} {b e : ℕ} → kept qs b e ≡ true → Walked g qs store b e
-  kept-walked yes = let (a, b) = also-true _ _ yes in record { ends = a; links = b }
+  kept-walked said = let (a, b) = also-true _ _ said in record { ends = a; links = b }
 
   walked-kept : {qs : List ℕ} {b e : ℕ} → Walked g qs store b e → kept qs b e ≡ true
   walked-kept w = also-yes (w .ends) (w .links)
 
   -- the older frames of one of procedure q at b, of which there are at most n
-  unfoldable tailOf : ℕ → ℕ → ℕ → List ℕ
+  unfoldable pub tailOf : ℕ → ℕ → ℕ → List ℕ
   tailOf n q b =
       choose (eqb q 0) [] (chain g store n (naturalOf (getD store b (pos 0))) (naturalOf (getD store (b + 2) (pos 0))))
 
@@ -72,31 +72,32 @@ module _ (g : Program) (store : List ℤ) where
   unfolding sizeKept
   walked-size w = also-yes (lt-ltb _ _ (walked-procedure g w)) (eq-eqb _ _ (walked-end g w))
 
-  size-both : (q b e : ℕ) → sizeKept g q b e ≡ true → (q < rowsOf (g .procedures)) × (e ≡ b + frame g q)
+  pub size-both : (q b e : ℕ) → sizeKept g q b e ≡ true → (q < rowsOf (g .procedures)) × (e ≡ b + frame g q)
   unfolding sizeKept
-  size-both q b e yes = let (x, y) = also-true _ _ yes in (ltb-true _ _ x, eqb-true _ _ y)
+  size-both q b e said = let (x, y) = also-true _ _ said in (ltb-true _ _ x, eqb-true _ _ y)
 
   pub size-links : (q b e : ℕ) → sizeKept g q b e ≡ true → b + 3 ≤ e
-  size-links q b e yes = omega (arith, size-both q b e yes .1, frame-links g q)
+  size-links q b e said = omega (arith, size-both q b e said .1, frame-links g q)
 
   -- ---- procedure 0's frame
+
+  link-none : (top a : ℕ) → a < top → getD store a (pos 0) ≡ pos 0 → eqb (linkAt top store a) 0 ≡ true
+  link-none top a low is = eq-eqb _ 0 (link-is top store a 0 low is (omega arith))
 
   first-oldest : (top b e : ℕ) → e ≤ top → Walked g (0 ∷ []) store b e → oldestKept g top store b ≡ true
   unfolding oldestKept
   first-oldest top b e within w =
       let o = walked-oldest g w in
       let own = walked-links g w in
-      let zero = λ (a : ℕ) (low : a < top) (is : getD store a (pos 0) ≡ pos 0).
-      eq-eqb (linkAt top store a) 0 (link-is top store a 0 low is (omega arith)) in
       also-yes (eq-eqb b _ (o .base))
-      (also-yes (zero b (omega arith) (o .is-caller))
-      (also-yes (zero (b + 1) (omega arith) (o .is-back)) (zero (b + 2) (omega arith) (o .is-base))))
+      (also-yes (link-none top b (omega arith) (o .is-caller))
+      (also-yes (link-none top (b + 1) (omega arith) (o .is-back)) (link-none top (b + 2) (omega arith) (o .is-base))))
 
   oldest-first : (top b e : ℕ) → e ≤ top → top ≤ length store → sizeKept g 0 b e ≡ true
       → oldestKept g top store b ≡ true → Walked g (0 ∷ []) store b e
   unfolding oldestKept
-  oldest-first top b e within long sized yes =
-      let (base, e₁) = also-true _ _ yes in
+  oldest-first top b e within long sized said =
+      let (base, e₁) = also-true _ _ said in
       let (x, e₂) = also-true _ _ e₁ in
       let (y, z) = also-true _ _ e₂ in
       let (low, size) = size-both 0 b e sized in
@@ -113,11 +114,7 @@ module _ (g : Program) (store : List ℤ) where
 
 -- ---- the loop
 
-module _ {image plan : List ℕ} (p : Planned image plan) (store : List ℤ) (all : List ℕ) (base top : ℕ)
-    (long : top ≤ length store) (most : length store ≤ 65536) where
-  abbrev g : Program
-  g = programOf image
-
+module _ (g : Program) (store : List ℤ) (all : List ℕ) (base top : ℕ) where
   -- what is asked of all
   abbrev asked : Bool
   asked = kept g store all base top
@@ -140,7 +137,21 @@ module _ {image plan : List ℕ} (p : Planned image plan) (store : List ℤ) (al
     pub left : asked ≡ true → (j : ℕ) → j < low
         → newestBelow g all (j * BLOCK + BLOCK) ≡ newestBelow g (tailOf g store fuel q b) (j * BLOCK + BLOCK)
 
-  pub along-start : (q : ℕ) → all ≡ chain g store (suc base) q base → (blocks : List ℕ) → Along blocks q base top BLOCKS
+module _ {image plan : List ℕ} (p : Planned image plan) (store : List ℤ) (all : List ℕ) (base top : ℕ)
+    (long : top ≤ length store) (most : length store ≤ 65536) where
+  abbrev g : Program
+  g = programOf image
+
+  abbrev wanted : Bool
+  wanted = asked g store all base top
+
+  abbrev Stands : List ℕ → ℕ → ℕ → ℕ → ℕ → Type 0
+  Stands = Along g store all base top
+
+  abbrev Done : List ℕ → ℕ → ℕ → ℕ → ℕ → Type 0
+  Done = Past g store all base top
+
+  pub along-start : (q : ℕ) → all ≡ chain g store (suc base) q base → (blocks : List ℕ) → Stands blocks q base top BLOCKS
   along-start q is blocks =
       let frames = is ∙ chain-is g store base q base in
       record {
@@ -150,17 +161,17 @@ module _ {image plan : List ℕ} (p : Planned image plan) (store : List ℤ) (al
         same = ap (λ (l : List ℕ). kept g store l base top) frames;
         few = omega arith;
         above = omega arith;
-        done = λ yes j h k. absurd (omega arith);
-        left = λ yes j h. ap (λ (l : List ℕ). newestBelow g l (j * BLOCK + BLOCK)) frames;
+        done = λ said j h k. absurd (omega arith);
+        left = λ said j h. ap (λ (l : List ℕ). newestBelow g l (j * BLOCK + BLOCK)) frames;
       }
 
-  module _ {blocks : List ℕ} {q b e high : ℕ} (h : Along blocks q b e high) where
-    walked : asked ≡ true → Walked g (q ∷ tailOf g store (h .fuel) q b) store b e
-    walked yes = kept-walked g store (sym (h .same) ∙ yes)
+  module _ {blocks : List ℕ} {q b e high : ℕ} (h : Stands blocks q b e high) where
+    walked : wanted ≡ true → Walked g (q ∷ tailOf g store (h .fuel) q b) store b e
+    walked said = kept-walked g store (sym (h .same) ∙ said)
 
     -- the frame does not end where it should
-    pub along-unsized : sizeKept g q b e ≡ false → false ≡ asked
-    along-unsized no = sym (not-yes _ (λ yes. clash (sym (walked-size g store (walked yes)) ∙ no)))
+    pub along-unsized : sizeKept g q b e ≡ false → false ≡ wanted
+    along-unsized short = sym (not-yes _ (λ said. clash (sym (walked-size g store (walked said)) ∙ short)))
 
     -- the block that it begins in
     pub along-block : sizeKept g q b e ≡ true → b / BLOCK ≤ high
@@ -171,47 +182,47 @@ module _ {image plan : List ℕ} (p : Planned image plan) (store : List ℤ) (al
         omega arith
 
     pub along-filled : sizeKept g q b e ≡ true → {new : List ℕ}
-        → Filled (b / BLOCK) (high - b / BLOCK) (λ j. q * 65536 + b) blocks new → Past new q b (b / BLOCK) (h .fuel)
+        → Filled (b / BLOCK) (high - b / BLOCK) (λ j. q * 65536 + b) blocks new → Done new q b (b / BLOCK) (h .fuel)
     along-filled sized {new} filled = record {
-      done = λ yes j up few. go yes j up few (decLt j high);
-      left = λ yes j low.
-          let base = walked-base g (walked yes) in
+      done = λ said j up few. go said j up few (decLt j high);
+      left = λ said j low.
+          let base = walked-base g (walked said) in
           let under = mul-div-le b 64 in
-          h .left yes j (omega (arith, along-block sized)) ∙ below-older g q (tailOf g store (h .fuel) q b) _ (omega arith);
+          h .left said j (omega (arith, along-block sized)) ∙ below-older g q (tailOf g store (h .fuel) q b) _ (omega arith);
     }
       where
-        go : asked ≡ true → (j : ℕ) → b / BLOCK ≤ j → j < BLOCKS → Dec (j < high)
+        go : wanted ≡ true → (j : ℕ) → b / BLOCK ≤ j → j < BLOCKS → Dec (j < high)
             → getD new j 0 ≡ newestBelow g all (j * BLOCK + BLOCK)
-        go yes j up few (yes low) =
+        go said j up few (yes low) =
             let at : b / BLOCK + (j - b / BLOCK) ≡ j = omega arith in
-            let base = walked-base g (walked yes) in
+            let base = walked-base g (walked said) in
             let end = lt-div-mul-add {a = b} {b = 64} (omega arith) in
             rw at at (filled .cell (j - b / BLOCK) (omega arith))
-            ∙ sym (h .left yes j low ∙ below-here g q (tailOf g store (h .fuel) q b) _ (omega arith) ∙ rw (← base))
-        go yes j up few (no far) = filled .above j (omega (arith, along-block sized)) ∙ h .done yes j (omega arith) few
+            ∙ sym (h .left said j low ∙ below-here g q (tailOf g store (h .fuel) q b) _ (omega arith) ∙ rw (← base))
+        go said j up few (no far) = filled .above j (omega (arith, along-block sized)) ∙ h .done said j (omega arith) few
 
     -- ---- procedure 0's
 
-    pub along-first : q ≡ 0 → sizeKept g q b e ≡ true → oldestKept g top store b ≡ asked
+    pub along-first : q ≡ 0 → sizeKept g q b e ≡ true → oldestKept g top store b ≡ wanted
     along-first first sized =
         let none = tail-first g store (h .fuel) b in
-        let same : asked ≡ kept g store (0 ∷ []) b e = rw (first, none) at (h .same) in
+        let same : wanted ≡ kept g store (0 ∷ []) b e = rw (first, none) at (h .same) in
         same-truth _ _
-        (λ yes. same ∙ walked-kept g store
-        (oldest-first g store top b e (h .within) long (rw first at sized) yes))
-        (λ yes. first-oldest g store top b e (h .within) (kept-walked g store (sym same ∙ yes)))
+        (λ said. same ∙ walked-kept g store
+        (oldest-first g store top b e (h .within) long (rw first at sized) said))
+        (λ said. first-oldest g store top b e (h .within) (kept-walked g store (sym same ∙ said)))
 
-    pub past-first : q ≡ 0 → {half new : List ℕ} → Past half q b (b / BLOCK) (h .fuel)
-        → Filled 0 (b / BLOCK - 0) (λ j. 0) half new → asked ≡ true → Blocks g all new
+    pub past-first : q ≡ 0 → {half new : List ℕ} → Done half q b (b / BLOCK) (h .fuel)
+        → Filled 0 (b / BLOCK - 0) (λ j. 0) half new → wanted ≡ true → Blocks g all new
     unfolding newestBelow
-    past-first first {half} {new} past filled yes = record { each = λ j few. go j few (decLt j (b / BLOCK)) }
+    past-first first {half} {new} past filled said = record { each = λ j few. go j few (decLt j (b / BLOCK)) }
       where
         go : (j : ℕ) → j < BLOCKS → Dec (j < b / BLOCK) → getD new j 0 ≡ newestBelow g all (j * BLOCK + BLOCK)
         go j few (yes low) =
             let none = tail-first g store (h .fuel) b in
-            let rest = rw (first, none) at (past .left yes j low) in
+            let rest = rw (first, none) at (past .left said j low) in
             filled-at filled j (omega arith) ∙ sym rest
-        go j few (no far) = filled .above j (omega arith) ∙ past .done yes j (omega arith) few
+        go j few (no far) = filled .above j (omega arith) ∙ past .done said j (omega arith) few
 
     -- ---- any other's
 
@@ -231,11 +242,11 @@ module _ {image plan : List ℕ} (p : Planned image plan) (store : List ℤ) (al
           let older = walked-links g (walked-older g w) in
           rw (there, row) (n .called, omega arith)
 
-      pub along-uncalled : callKept g q (x .procedure) back ≡ false → false ≡ asked
-      along-uncalled no = sym (not-yes _ (λ yes. clash (sym (called-links _ (walked yes) .0) ∙ no)))
+      pub along-uncalled : callKept g q (x .procedure) back ≡ false → false ≡ wanted
+      along-uncalled none = sym (not-yes _ (λ said. clash (sym (called-links _ (walked said) .0) ∙ none)))
 
-      pub along-unfallen : b ≤ x .base → false ≡ asked
-      along-unfallen up = sym (not-yes _ (λ yes. let low = called-links _ (walked yes) .1 in absurd (omega arith)))
+      pub along-unfallen : b ≤ x .base → false ≡ wanted
+      along-unfallen up = sym (not-yes _ (λ said. let low = called-links _ (walked said) .1 in absurd (omega arith)))
 
       newer-is : sizeKept g q b e ≡ true → callKept g q (x .procedure) back ≡ true → x .base < b
           → Newer g q (x .procedure) back (x .base) store b e
@@ -260,15 +271,15 @@ module _ {image plan : List ℕ} (p : Planned image plan) (store : List ℤ) (al
       next-same n qs own =
           let up = h .within in
           same-truth _ _
-          (λ yes.
-          let w = kept-walked g store yes in
+          (λ said.
+          let w = kept-walked g store said in
           let is : pos (x .base) ≡ pos (roomOf g qs) = sym (n .is-base) ∙ walked-newer g w .is-base in
           let base : x .base ≡ roomOf g qs = sym (natural _) ∙ ap naturalOf is ∙ natural _ in
           rw base (walked-kept g store (walked-older g w)))
-          (λ yes. walked-kept g store (newer-walked g (omega arith) n (kept-walked g store yes)))
+          (λ said. walked-kept g store (newer-walked g (omega arith) n (kept-walked g store said)))
 
       pub along-on : sizeKept g q b e ≡ true → callKept g q (x .procedure) back ≡ true → x .base < b → {new : List ℕ}
-          → Past new q b (b / BLOCK) (h .fuel) → Along new (x .procedure) (x .base) b (b / BLOCK)
+          → Done new q b (b / BLOCK) (h .fuel) → Stands new (x .procedure) (x .base) b (b / BLOCK)
       along-on sized called falls past =
           let n = newer-is sized called falls in
           let own = size-links g store q b e sized in
@@ -284,5 +295,5 @@ module _ {image plan : List ℕ} (p : Planned image plan) (store : List ℤ) (al
             few = omega (arith, along-block sized, h .few);
             above = omega arith;
             done = past .done;
-            left = λ yes j low. past .left yes j low ∙ ap (λ (l : List ℕ). newestBelow g l (j * BLOCK + BLOCK)) tail;
+            left = λ said j low. past .left said j low ∙ ap (λ (l : List ℕ). newestBelow g l (j * BLOCK + BLOCK)) tail;
           }

@@ -20,7 +20,7 @@ abbrev μ-loop : tie.MeasureT-loop
 
 -- src/lib.rt:178:5
 loop-holds : tie.Need-loop-holds Inv-loop μ-loop
-loop-holds c = 
+loop-holds c =
     let none : c .args .from - c .args .from ≡ 0 = omega arith in
     (omega arith, c .pre .0, rw none (filled-none _ _ _))
 
@@ -43,7 +43,7 @@ loop-less c = let test = c .loop-test .taken in omega arith
 
 -- src/lib.rt:178:5
 loop-again : tie.Need-loop-again Inv-loop μ-loop
-loop-again c = 
+loop-again c =
     let l = c .before .loop in
     let s = c .before .before in
     let (least, most, filled) = l .inv in
@@ -59,7 +59,7 @@ same-length c = c .before .loop .inv .2 .cells
 
 -- src/lib.rt:173:1
 returns : tie.Need-returns Inv-loop μ-loop
-returns c = 
+returns c =
     let l = c .before .loop in
     let all : l .i ≡ c .before .before .args .to = omega (arith, l .inv .1, c .loop-test .left) in
     rw all at (l .inv .2)

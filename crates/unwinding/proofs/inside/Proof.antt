@@ -25,7 +25,7 @@ procedure-of-requires c κs = (
 
 -- src/lib.rt:90:1
 returns-2 : tie.Need-returns-2
-returns-2 c = 
+returns-2 c =
     let s = c .before .before .before in
     let there = statement-there (s .pre .planned) _ (c .before .before .statement-at .ensures) (c .before .if1 .left) in
     inside-owner (s .pre .planned) _ _ _ there (c .procedure-of .ensures)
