@@ -2,3 +2,5 @@ pub mod Links
 pub mod Walking
 pub mod Going
 mod Seeking
+mod Bodies
+mod Along

@@ -28,7 +28,7 @@ is-number : (z : ℤ) (n : ℕ) → z ≡ pos n → isNumber z n ≡ true
 unfolding isNumber
 is-number z n e = rw e (eq-eqb n n refl)
 
-natural : (m : ℕ) → naturalOf (pos m) ≡ m
+pub natural : (m : ℕ) → naturalOf (pos m) ≡ m
 unfolding naturalOf
 natural m = refl
 
@@ -37,7 +37,7 @@ cell-is : (store l : List ℤ) (b i : ℕ) → drop b store ≡ l → getD store
 cell-is store l b i e = sym (getD-drop b store i (pos 0)) ∙ ap (λ (r : List ℤ). getD r i (pos 0)) e
 
 module _ (g : Program) where
-  abbrev frame : ℕ → ℕ
+  abbrev pub frame : ℕ → ℕ
   frame = frameSize (g .types) (g .fields) (g .variables) (g .procedures)
 
   -- ---- where frames begin and end
