@@ -2,7 +2,7 @@
 
 use std::fmt;
 
-/// The nine numbers of a run, in document 01's order: `struct door_result` of `include/door.h`.
+/// The nine numbers of a run, and where its newest frame begins and ends: `struct door_result` of `include/door.h`.
 #[repr(C)]
 #[derive(Clone, Copy, Debug, Default, PartialEq, Eq)]
 pub struct Numbers {
@@ -16,23 +16,27 @@ pub struct Numbers {
     pub trap: u32,
     /// HALT's number with trap 10, else 0.
     pub halt: i32,
-    /// The statement row: of the last step where it finished or trapped, else of the next.
-    pub row: u32,
     /// Steps taken.
     pub steps: u32,
+    /// The statement row: of the last step where it finished or trapped, else of the next.
+    pub row: u32,
+    /// The cell where the newest frame begins; 0 in a refusal.
+    pub base: u32,
+    /// The cell where it ends, the first that is not its own; 0 in a refusal.
+    pub top: u32,
     /// Inputs read.
-    pub read: u32,
+    pub read: u64,
     /// Outputs written.
-    pub written: u32,
+    pub written: u64,
 }
 
 impl Numbers {
-    /// All nine, in that order.
-    pub fn in_order(&self) -> [i64; 9] {
-        let Numbers { refusal, fault, outcome, trap, halt, row, steps, read, written } = *self;
-        let [refusal, fault, outcome, trap] = [refusal, fault, outcome, trap].map(i64::from);
-        let [row, steps, read, written] = [row, steps, read, written].map(i64::from);
-        [refusal, fault, outcome, trap, halt.into(), row, steps, read, written]
+    /// The nine, in document 01's order.
+    pub fn in_order(&self) -> [i128; 9] {
+        let Numbers { refusal, fault, outcome, trap, halt, steps, row, read, written, .. } = *self;
+        let [refusal, fault, outcome, trap] = [refusal, fault, outcome, trap].map(i128::from);
+        let [row, steps] = [row, steps].map(i128::from);
+        [refusal, fault, outcome, trap, halt.into(), row, steps, read.into(), written.into()]
     }
 }
 
