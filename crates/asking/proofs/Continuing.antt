@@ -47,6 +47,22 @@ module _ (g : Program)
     (ok : AcceptedTables (g .types) (g .fields) (g .variables) (g .procedures) (g .nodes) (g .statements))
     (input : List ℤ) where
   module _ (store output : List ℤ) (r : RunResult) (n : ℕ) where
+    -- by its nine parts, in any order
+    yes-passes : Continuable g input store output r n → question14 g input store output r n ≡ true
+    unfolding question14 unfinished withinLent _also_
+    yes-passes c =
+        simp (
+          eq-eqb (r .refusal) 0 (c .refusal),
+          eq-eqb (r .fault) 0 (c .fault),
+          eq-eqb (r .outcome) 0 (c .outcome),
+          eq-eqb (r .trap) 0 (c .trap),
+          number-same (r .halt) 0 (c .halt),
+          resumed-told g (r .at) store output ok (c .sound),
+          le-leb (r .at .read) (length input) (c .read),
+          le-leb (r .at .written) (length output) (c .written),
+          le-leb (r .steps + n) 4294967295 (c .steps),
+        )
+
     passes-yes : question14 g input store output r n ≡ true → Continuable g input store output r n
     unfolding question14 unfinished withinLent
     passes-yes e =
@@ -69,16 +85,6 @@ module _ (g : Program)
           written = leb-true _ _ written;
           steps = leb-true _ _ steps;
         }
-
-    yes-passes : Continuable g input store output r n → question14 g input store output r n ≡ true
-    unfolding question14 unfinished withinLent
-    yes-passes c =
-        also-yes
-        (also-yes (eq-eqb _ _ (c .refusal))
-        (also-yes (eq-eqb _ _ (c .fault))
-        (also-yes (eq-eqb _ _ (c .outcome)) (also-yes (eq-eqb _ _ (c .trap)) (number-same _ 0 (c .halt))))))
-        (also-yes (resumed-told g (r .at) store output ok (c .sound))
-        (also-yes (le-leb _ _ (c .read)) (also-yes (le-leb _ _ (c .written)) (le-leb _ _ (c .steps)))))
 
   -- a run that used up its steps, from a sound state with its counts within their lists, passes
   ended-passes : Bytes (g .nodes) → (n k m : ℕ) (s : State Cell) → Sound g s → s .at .read ≤ length input
