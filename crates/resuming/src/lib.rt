@@ -1,5 +1,8 @@
 // Question 14: whether a run can go on from an earlier result and the store that it left.
 use access::Plan;
+use semantics::Registers;
+use semantics::RunResult;
+use unwinding::BLOCKS;
 ghost use mathlib.Core.Path.{_≡_};
 ghost use Prim.Native.Nat.{ℕ, suc, _+_, _≤_, _<_};
 ghost use lib.ListN.{length, drop};
@@ -7,10 +10,14 @@ ghost use Rattle.image.specs.Rows.{rowAt, rowsOf};
 ghost use Rattle.frames.specs.Procedures.{firstVariable, claimedBy};
 ghost use Rattle.places.specs.Places.{widthOf, roomFrom, frameSize};
 ghost use Rattle.semantics.specs.Running.{programOf};
-ghost use Rattle.asking.specs.State.{chain};
-ghost use Rattle.asking.specs.Passes.{Walked, variablesPass, framesPass, valueTest};
-ghost use Rattle.access.specs.Ready.{Planned};
-ghost use Rattle.resuming.specs.Reading.{ReadableImage};
+ghost use Rattle.asking.specs.State.{chain, soundOf};
+ghost use Rattle.asking.specs.Passes.{Walked, variablesPass, framesPass, valueTest, valuesPass};
+ghost use Rattle.asking.specs.Continuing.{unfinished, withinLent, question14};
+ghost use Rattle.access.specs.Ready.{Planned, Ready};
+ghost use Rattle.resuming.specs.Reading.{ReadableImage, framesSound};
+
+// How many types an image has at most.
+const TYPES: usize = 64;
 
 // How many links a frame begins with.
 const LINKS: u32 = 3;
@@ -114,4 +121,122 @@ fn frames_hold(
         p = older.procedure;
         b = older.base;
     }
+}
+
+// The globals' values and every frame's.
+fn values_hold(image: &&[u8], plan: &Plan, store: &[i64], q: u16, base: u32, top: u32) -> bool
+    requires { ⌜ Ready (now (now image)) (now plan) × (top ≤ length (now store)) × (length (now store) ≤ 65536)
+        × Walked (programOf (now (now image))) (chain (programOf (now (now image))) (now store) (suc base) q base)
+        (now store) base top ⌝ }
+    ensures { λ x. ⌜ x ≡ valuesPass (programOf (now (now (image .entry))))
+        (chain (programOf (now (now (image .entry)))) (now (store .entry)) (suc base) q base) (now (store .entry)) ⌝ }
+{
+    let mut even = [0u8; TYPES];
+    contents::fill_even(
+        access::table(*image, plan, 0),
+        access::table(*image, plan, 1),
+        &mut even,
+    );
+    let globals = access::first_variable(image, plan, 0);
+    if !variables_hold(image, plan, &even, store, 0, globals, 0) {
+        return false;
+    }
+    frames_hold(image, plan, &even, store, q, base, top)
+}
+
+// ---- the state
+
+// Whether the links lead from the frame of procedure q, from base to top, to all others, and these hold what they
+// should.
+fn frames_sound(image: &&[u8], plan: &Plan, store: &[i64], q: u16, base: u32, top: u32) -> bool
+    requires { ⌜ Ready (now (now image)) (now plan) × (top ≤ length (now store)) × (length (now store) ≤ 65536) ⌝ }
+    ensures { λ x. ⌜ x ≡ framesSound (programOf (now (now (image .entry))))
+        (chain (programOf (now (now (image .entry)))) (now (store .entry)) (suc base) q base) (now (store .entry))
+        base top ⌝ }
+{
+    let mut blocks = [0u32; BLOCKS];
+    if !unwinding::walk(image, plan, store, q, base, top, &mut blocks) {
+        return false;
+    }
+    if !values_hold(image, plan, store, q, base, top) {
+        return false;
+    }
+    referents::references(image, plan, store, q, base, top, &blocks)
+}
+
+// Whether the state is sound.
+fn sound(image: &&[u8], plan: &Plan, store: &[i64], s: Registers) -> bool
+    requires { ⌜ Ready (now (now image)) (now plan) × (length (now store) ≤ 65536) ⌝ }
+    ensures { λ x. ⌜ x ≡ soundOf (programOf (now (now (image .entry)))) s (now (store .entry)) ⌝ }
+{
+    let row = s.row;
+    let base = s.base;
+    let top = s.top;
+    if store.len() < top as usize {
+        return false;
+    }
+    let statements = image::rows_of(access::table(*image, plan, 5));
+    if statements <= row as usize {
+        return false;
+    }
+    let q = access::procedure_of(image, plan, row) as u16;
+    frames_sound(image, plan, store, q, base, top)
+}
+
+// ---- question 14
+
+// Whether a result is that of a run which was not refused, and used up its steps.
+fn is_unfinished(r: RunResult) -> bool
+    ensures { λ x. ⌜ x ≡ unfinished r ⌝ }
+{
+    if r.refusal != 0 {
+        return false;
+    }
+    if r.fault != 0 {
+        return false;
+    }
+    if r.outcome != 0 {
+        return false;
+    }
+    if r.trap != 0 {
+        return false;
+    }
+    r.halt == 0
+}
+
+// Whether its counts lie within the lists, and its steps leave room for these.
+fn is_within(input: &[i32], output: &[i32], r: RunResult, steps: u32) -> bool
+    ensures { λ x. ⌜ x ≡ withinLent (now (input .entry)) (now (output .entry)) r steps ⌝ }
+{
+    let at = r.at;
+    if (input.len() as u64) < at.read {
+        return false;
+    }
+    if (output.len() as u64) < at.written {
+        return false;
+    }
+    steps <= 4294967295 - r.steps
+}
+
+// Whether a run can go on from an earlier result and this store, for so many steps.
+pub fn continuable(
+    image: &&[u8],
+    plan: &Plan,
+    input: &[i32],
+    store: &[i64],
+    output: &[i32],
+    from: RunResult,
+    steps: u32,
+) -> bool
+    requires { ⌜ Ready (now (now image)) (now plan) × (length (now store) ≤ 65536) ⌝ }
+    ensures { λ x. ⌜ x ≡ question14 (programOf (now (now (image .entry)))) (now (input .entry)) (now (store .entry))
+        (now (output .entry)) from steps ⌝ }
+{
+    if !is_unfinished(from) {
+        return false;
+    }
+    if !is_within(input, output, from, steps) {
+        return false;
+    }
+    sound(image, plan, store, from.at)
 }

@@ -52,13 +52,13 @@ module _ {image plan : List ℕ} (p : Planned image plan) where
       let (b, c) = also-true _ _ e₁ in
       record { procedure = ltb-true _ _ a; start = leb-true _ _ b; end = ltb-true _ _ c }
 
-  body-inside : (q r : ℕ) → InBody (g .procedures) (g .statements) q r → insideKept g q r ≡ true
+  pub body-inside : (q r : ℕ) → InBody (g .procedures) (g .statements) q r → insideKept g q r ≡ true
   unfolding insideKept
   body-inside q r b =
       also-yes (lt-ltb _ _ (b .procedure)) (also-yes (le-leb _ _ (b .start)) (lt-ltb _ _ (b .end)))
 
   -- a row in a body and its procedure are there
-  inside-there : (q r : ℕ) → insideKept g q r ≡ true → (q < rowsOf (g .procedures)) × (r < rowsOf (g .statements))
+  pub inside-there : (q r : ℕ) → insideKept g q r ≡ true → (q < rowsOf (g .procedures)) × (r < rowsOf (g .statements))
   inside-there q r e =
       let b = inside-body q r e in
       let end = end-within (g .variables) (g .procedures) (g .statements) (ok .procedures) q (b .procedure) in

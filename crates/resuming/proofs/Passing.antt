@@ -1,0 +1,143 @@
+-- Question 14 part by part, as the code asks it.
+use mathlib.Core.Path.{_≡_, refl, sym, _∙_, ap}
+use mathlib.Core.Bool.{Bool, true, false}
+use mathlib.Core.List.{List, [], _∷_}
+use Prim.Native.Nat.{ℕ, suc, _+_, _≤_, _<_}
+use native.Mathlib.Omega.{arith}
+use borrow.Author.Tests.{lt-leb, le-leb}
+use lib.Dec.{leb}
+use lib.IntN.{ℤ}
+use lib.ListN.{length}
+use Rattle.prelude.specs.Choice.{_also_}
+use Rattle.prelude.specs.Cells.{Filled}
+use Rattle.prelude.proofs.Cells.{filled-at}
+use Rattle.prelude.proofs.Choice.{also-left, also-right, also-pass, also-true, also-yes}
+use Rattle.image.specs.Rows.{rowsOf}
+use Rattle.image.specs.declared.Verdict.the-variants.{Kept}
+use Rattle.frames.specs.Variables.{globalsOf}
+use Rattle.frames.specs.Procedures.{firstFrom, firstVariable}
+use Rattle.places.specs.Places.{roomFrom, globalCells}
+use Rattle.statements.specs.Statements.{procedureAt}
+use Rattle.types.specs.Question.{question4}
+use Rattle.objects.specs.Looking.{Typed}
+use Rattle.semantics.specs.declared.Registers.{Registers}
+use Rattle.semantics.specs.declared.RunResult.{RunResult}
+use Rattle.semantics.specs.Layout.{Program}
+use Rattle.semantics.specs.Running.{programOf}
+use Rattle.semantics.proofs.Demand3.{program-accepted}
+use Rattle.asking.specs.Asking.{roomOf}
+use Rattle.asking.specs.State.{chain, framesOf, insideKept, soundOf, endsAt}
+use Rattle.asking.specs.Passes.{Walked, linked, valuesPass, referencesPass}
+use Rattle.asking.specs.Continuing.{unfinished, withinLent, question14}
+use Rattle.asking.proofs.Passing.{sound-passes}
+use Rattle.access.specs.Ready.{Planned, Ready}
+use Rattle.access.proofs.Bounds.{types-few, procedures-few}
+use Rattle.contents.specs.Kinds.{evenOf}
+use Rattle.contents.specs.Reading.{Even, Readable}
+use Rattle.unwinding.proofs.Walking.{room-least, walked-base, walked-links}
+use Rattle.unwinding.proofs.Links.{not-yes}
+use Rattle.unwinding.proofs.Bodies.{inside-there, body-inside}
+use Rattle.unwinding.specs.Going.{Going}
+use Rattle.unwinding.proofs.Going.{going-start}
+use Rattle.resuming.specs.Reading.{ReadableImage, framesSound}
+
+-- ---- what is read
+
+pub types-kept : {image plan : List ℕ} → Planned image plan
+    → question4 (programOf image .types) (programOf image .fields) ≡ Kept
+types-kept {image} p = program-accepted image (p .checked .accepted) .questions .types
+
+-- a plan holds the sizes of accepted types
+typed-by : {image plan : List ℕ} → Planned image plan → Typed (programOf image .types) (programOf image .fields) plan
+typed-by {image} p =
+    let few = types-few p in
+    record {
+      few = few;
+      kept = types-kept p;
+      room = omega (arith, p .checked .cells);
+      size = p .checked .size;
+    }
+
+pub readable-by : {image plan old even : List ℕ} {store : List ℤ} → Planned image plan
+    → Filled 0 (rowsOf (programOf image .types)) (evenOf (programOf image .types) (programOf image .fields)) old even
+    → length store ≤ 65536 → ReadableImage image plan even store
+readable-by {image} p filled most = record {
+  planned = p;
+  readable = record { typed = typed-by p; evens = record { each = filled-at filled }; most = most };
+}
+
+-- the globals are the variables before procedure 0's
+pub globals-first : (g : Program) → firstVariable (g .variables) (g .procedures) 0 ≡ globalsOf (g .variables)
+unfolding firstVariable firstFrom
+globals-first g = refl
+
+-- they lie below top
+pub globals-room : (g : Program) (store : List ℤ) (q base top : ℕ)
+    → Walked g (chain g store (suc base) q base) store base top
+    → roomFrom (g .types) (g .fields) (g .variables) 0 (globalsOf (g .variables)) ≤ top
+unfolding roomOf globalCells
+globals-room g store q base top walked =
+    let at : Going g store (λ qs. ⊤) q base top =
+    going-start g base q base top (also-yes (walked .ends) (walked .links)) tt in
+    omega (arith, room-least g (at .older), walked-base g (at .walked), walked-links g (at .walked))
+
+-- ---- a sound state
+
+module _ (image : List ℕ) {plan : List ℕ} (ready : Ready image plan) (s : Registers) (store : List ℤ)
+    (few : length store ≤ 65536) where
+  abbrev g : Program
+  g = programOf image
+
+  asked : soundOf g s store
+      ≡ (leb (s .top) (length store)
+      also insideKept g (procedureAt (g .procedures) (s .row)) (s .row)
+      also framesSound g (framesOf g s store) store (s .base) (s .top))
+  unfolding framesSound
+  asked = sound-passes g (program-accepted image (ready .planned .checked .accepted)) s store ∙ also-pass _ (le-leb _ _ few)
+
+  pub sound-top : length store < s .top → soundOf g s store ≡ false
+  sound-top past = asked ∙ also-left _ (lt-leb _ _ past)
+
+  -- a row behind the last lies in no body
+  pub sound-row : rowsOf (g .statements) ≤ s .row → soundOf g s store ≡ false
+  sound-row past = asked ∙ also-right (leb (s .top) (length store)) (also-left _ (outside _))
+    where
+      outside : (q : ℕ) → insideKept g q (s .row) ≡ false
+      outside q = not-yes _ (λ e. absurd (omega (arith, inside-there (ready .planned) q (s .row) e .1)))
+
+  pub sound-frames : s .top ≤ length store → s .row < rowsOf (g .statements)
+      → soundOf g s store
+      ≡ framesSound g (chain g store (suc (s .base)) (procedureAt (g .procedures) (s .row)) (s .base)) store (s .base)
+      (s .top)
+  unfolding framesOf
+  sound-frames within there =
+      let body = program-accepted image (ready .planned .checked .accepted) .body (s .row) there in
+      asked ∙ also-pass _ (le-leb _ _ within) ∙ also-pass _ (body-inside (ready .planned) _ (s .row) body)
+
+-- the procedure of a statement
+pub procedure-low : (image : List ℕ) {plan : List ℕ} → Ready image plan → {r : ℕ}
+    → r < rowsOf (programOf image .statements) → procedureAt (programOf image .procedures) r < 64
+procedure-low image ready there =
+    omega (arith, program-accepted image (ready .planned .checked .accepted) .body _ there .procedure, procedures-few (ready .planned))
+
+-- ---- question 14
+
+also-last : (b : Bool) → (b also true) ≡ b
+unfolding _also_
+also-last true = refl
+also-last false = refl
+
+module _ (g : Program) (input store output : List ℤ) (r : RunResult) (n : ℕ) where
+  pub question-unfinished : unfinished r ≡ false → question14 g input store output r n ≡ false
+  unfolding question14
+  question-unfinished fails = also-left _ fails
+
+  pub question-within : withinLent input output r n ≡ false → question14 g input store output r n ≡ false
+  unfolding question14
+  question-within fails = also-right (unfinished r) (also-right (soundOf g (r .at) store) fails)
+
+  pub question-sound : unfinished r ≡ true → withinLent input output r n ≡ true
+      → question14 g input store output r n ≡ soundOf g (r .at) store
+  unfolding question14
+  question-sound first last =
+      also-pass _ first ∙ ap (λ b. soundOf g (r .at) store also b) last ∙ also-last (soundOf g (r .at) store)

@@ -1,0 +1,79 @@
+use mathlib.Core.Path.{_≡_, sym, _∙_, refl}
+use native.Mathlib.Omega.{arith}
+use Prim.Native.Nat.{ℕ, _≤_, _<_}
+use Rattle.prelude.specs.Choice.{choose}
+use Rattle.access.specs.Ready.{tableOf}
+use Rattle.access.proofs.Bounds.{procedures-few}
+use Rattle.resuming.proofs.Passing.{sound-top, sound-row, sound-frames, procedure-low}
+use borrow.Author.Needs.{needs}
+use Rattle.resuming.proofs.sound.Statement.{statement}
+use Rattle.resuming.proofs.sound.Tie as tie
+use Rattle.resuming.proofs.sound.Reads as reads
+use Rattle.resuming.proofs.sound.Lts as lts
+use Rattle.access.proofs.procedure_of.Reads as procedure-of-reads
+use Rattle.access.proofs.table.Reads as table-reads
+use Rattle.image.proofs.rows_of.Reads as rows-of-reads
+use Rattle.resuming.proofs.frames_sound.Reads as frames-sound-reads
+
+cast-if1 : tie.Need-cast-if1
+cast-if1 c = search needs
+
+returns : tie.Need-returns
+returns c = sym (sound-top _ (c .before .pre .0) _ _ (c .before .pre .1) (c .if1 .taken))
+
+table-requires : tie.Need-table-requires
+table-requires c κs = search needs
+
+rows-of-requires : tie.Need-rows-of-requires
+rows-of-requires c κs = search needs
+
+cast-if2 : tie.Need-cast-if2
+cast-if2 c = search needs
+
+returns-2 : tie.Need-returns-2
+unfolding tableOf choose
+returns-2 c =
+    let start = c .before .before .before .before .before .before in
+    let rows = rw (c .before .before .table .ensures) at (c .before .rows-of .ensures) in
+    sym (sound-row _ (start .pre .0) _ _ (start .pre .1) (rw rows at (c .if2 .taken)))
+
+procedure-of-requires : tie.Need-procedure-of-requires
+unfolding tableOf choose
+procedure-of-requires c κs =
+    let start = c .before .before .before .before .before .before in
+    let rows = rw (c .before .before .table .ensures) at (c .before .rows-of .ensures) in
+    (start .pre .0, rw rows at (c .if2 .left))
+
+cast-q : tie.Need-cast-q
+unfolding tableOf choose
+cast-q c =
+    let start = c .before .before .before .before .before .before .before in
+    let rows = rw (c .before .before .before .table .ensures) at (c .before .before .rows-of .ensures) in
+    omega (arith, procedure-low _ (start .pre .0) (rw rows at (c .before .if2 .left)), c .procedure-of .ensures)
+
+frames-sound-requires : tie.Need-frames-sound-requires
+frames-sound-requires c κs = search needs
+
+returns-3 : tie.Need-returns-3
+unfolding tableOf choose
+returns-3 c =
+    let start = c .before .before .before .before .before .before .before .before in
+    let rows = rw (c .before .before .before .before .table .ensures) at (c .before .before .before .rows-of .ensures) in
+    c .frames-sound .ensures
+    ∙ rw (c .before .procedure-of .ensures)
+    (sym (sound-frames _ (start .pre .0) _ _ (start .pre .1) (c .before .before .before .before .before .before .before .if1 .left) (rw rows at (c .before .before .if2 .left))))
+
+pub sound-spec : {M : Type 1} → statement M
+sound-spec =
+    tie.close
+    (tie.spec
+    cast-if1
+    returns
+    table-requires
+    rows-of-requires
+    cast-if2
+    returns-2
+    procedure-of-requires
+    cast-q
+    frames-sound-requires
+    returns-3)

@@ -1,0 +1,76 @@
+use mathlib.Core.Path.{_≡_, sym, _∙_, refl}
+use native.Mathlib.Omega.{arith}
+use Prim.Native.Nat.{_+_, _≤_}
+use borrow.Author.Tests.{not-true, not-false}
+use Rattle.prelude.specs.Choice.{choose}
+use Rattle.access.specs.Ready.{tableOf}
+use Rattle.access.proofs.Bounds.{types-few, procedures-some}
+use Rattle.frames.proofs.Claiming.{globals-within}
+use Rattle.prelude.proofs.Choice.{also-left, also-pass}
+use Rattle.asking.specs.Passes.{valuesPass}
+use Rattle.resuming.proofs.Passing.{types-kept, readable-by, globals-first, globals-room}
+use borrow.Author.Needs.{needs}
+use Rattle.resuming.proofs.values_hold.Statement.{statement}
+use Rattle.resuming.proofs.values_hold.Tie as tie
+use Rattle.resuming.proofs.values_hold.Reads as reads
+use Rattle.resuming.proofs.values_hold.Lts as lts
+use Rattle.access.proofs.first_variable.Reads as first-variable-reads
+use Rattle.access.proofs.table.Reads as table-reads
+use Rattle.contents.proofs.fill_even.Reads as fill-even-reads
+use Rattle.resuming.proofs.frames_hold.Reads as frames-hold-reads
+use Rattle.resuming.proofs.variables_hold.Reads as variables-hold-reads
+
+table-requires : tie.Need-table-requires
+table-requires c κs = search needs
+
+table-requires-2 : tie.Need-table-requires-2
+table-requires-2 c κs = search needs
+
+slice-aggregate-fill-even : tie.Need-slice-aggregate-fill-even
+slice-aggregate-fill-even c = search needs
+
+fill-even-requires : tie.Need-fill-even-requires
+unfolding tableOf choose
+fill-even-requires c κs =
+    let start = c .before .before .before .before .before .before .before in
+    rw (c .before .table2 .ensures, c .before .before .before .before .table .ensures)
+    (types-kept (start .pre .0 .planned), types-few (start .pre .0 .planned), ?)
+
+first-variable-requires : tie.Need-first-variable-requires
+first-variable-requires c κs =
+    let start = c .before .before .before .before .before .before .before .before .before in
+    (start .pre .0 .planned, procedures-some (start .pre .0 .planned))
+
+slice-aggregate-variables-hold : tie.Need-slice-aggregate-variables-hold
+slice-aggregate-variables-hold c = search needs
+
+variables-hold-requires : tie.Need-variables-hold-requires
+variables-hold-requires c κs = ?
+
+returns : tie.Need-returns
+returns c = ?
+
+slice-aggregate-frames-hold : tie.Need-slice-aggregate-frames-hold
+slice-aggregate-frames-hold c = search needs
+
+frames-hold-requires : tie.Need-frames-hold-requires
+frames-hold-requires c κs = ?
+
+returns-2 : tie.Need-returns-2
+returns-2 c = ?
+
+pub values-hold-spec : {M : Type 1} → statement M
+values-hold-spec =
+    tie.close
+    (tie.spec
+    table-requires
+    table-requires-2
+    slice-aggregate-fill-even
+    fill-even-requires
+    first-variable-requires
+    slice-aggregate-variables-hold
+    variables-hold-requires
+    returns
+    slice-aggregate-frames-hold
+    frames-hold-requires
+    returns-2)
