@@ -3,26 +3,26 @@
 -- The claims are `question14-exact` and `demand3-continued`, and at the end `run-passes`, `continue-passes`,
 -- `continue-is-run` and `continue-again`. The definitions that they cite stand in specs/Continuing.
 use mathlib.Core.Path.{_≡_, refl, sym, _∙_, ap}
-use mathlib.Core.Bool.{Bool, true, false}
-use mathlib.Core.List.{List, map}
+use mathlib.Core.Bool.{true}
+use mathlib.Core.List.{List}
 use mathlib.Core.Logic.{⊎-elim}
-use Prim.Native.Nat.{ℕ, _+_, _≤_, _<_}
+use Prim.Native.Nat.{ℕ, _+_, _≤_}
 use native.Mathlib.Omega.{arith}
-use borrow.Author.Tests.{leb-true, le-leb, eqb-true, eq-eqb, ne-eqb}
-use lib.Dec.{leb, eqb}
-use lib.IntN.{ℤ, pos}
+use borrow.Author.Tests.{leb-true, le-leb, eqb-true, eq-eqb}
+use lib.Dec.{eqb}
+use lib.IntN.{ℤ}
 use lib.ListN.{length, length-map}
 use Rattle.prelude.specs.Choice.{choose, _also_}
-use Rattle.prelude.proofs.Choice.{choose-yes, choose-no, choose-cases, also-true, also-yes, clash}
+use Rattle.prelude.proofs.Choice.{choose-yes, choose-cases, also-true, clash}
 use Rattle.image.specs.Rows.{Bytes}
 use Rattle.checker.specs.declared.CheckAnswer.the-variants.{Accepted}
-use Rattle.checker.specs.Check.{checkOf, rowOf}
+use Rattle.checker.specs.Check.{checkOf}
 use Rattle.checker.proofs.Accepted.{AcceptedTables}
 use Rattle.semantics.specs.declared.RunResult.{RunResult}
-use Rattle.semantics.specs.Memory.{Cell, tagged, bare}
+use Rattle.semantics.specs.Memory.{Cell, tagged}
 use Rattle.semantics.specs.Layout.{Program}
 use Rattle.semantics.specs.Stepping.{State}
-use Rattle.semantics.specs.Running.{programOf, firstTop, fresh, Ended, runFrom, refusal, ranOf, numbersOf, refusedWith}
+use Rattle.semantics.specs.Running.{programOf, firstTop, fresh, Ended, runFrom, refusal, ranOf, numbersOf}
 use Rattle.semantics.specs.Running.{resultOf, storeAfter, outputAfter}
 use Rattle.semantics.specs.Sound.{Sound}
 use Rattle.semantics.specs.After.{after}
@@ -32,14 +32,13 @@ use Rattle.semantics.proofs.Simulation.{eraseEnded}
 use Rattle.semantics.proofs.Beginning.{fresh-sound, fresh-length}
 use Rattle.semantics.proofs.Demand3.{program-accepted, program-bytes, demand3-from}
 use Rattle.semantics.proofs.Outcomes.{refusal-none, none-refusal, steps-used, run-room, run-kept}
-use Rattle.asking.specs.State.{isNumber, soundOf}
 use Rattle.asking.specs.Resuming.{resumed}
 use Rattle.asking.specs.Continuing.{Continuable, unfinished, withinLent, question14, continueRefusal, continuedOf}
 use Rattle.asking.specs.Continuing.{continueResult, continuedStore, continuedOutput, Left, afterRun}
 use Rattle.asking.specs.Continuing.{afterContinue, refusalOn}
 use Rattle.asking.proofs.Built.{number-is, yes-sound}
 use Rattle.asking.proofs.Told.{number-same, sound-told}
-use Rattle.asking.proofs.Resuming.{run-ok, resumed-told, resumed-cells, resumed-bare, continue-adds}
+use Rattle.asking.proofs.Resuming.{run-ok, resumed-told, resumed-cells, continue-adds}
 
 -- ---- question 14
 
@@ -85,30 +84,6 @@ module _ (g : Program)
           written = leb-true _ _ written;
           steps = leb-true _ _ steps;
         }
-
-  -- a run that used up its steps, from a sound state with its counts within their lists, passes
-  ended-passes : Bytes (g .nodes) → (n k m : ℕ) (s : State Cell) → Sound g s → s .at .read ≤ length input
-      → s .at .written ≤ length (s .output) → (e : Ended Cell) → e ≡ runFrom tagged g input n k s → e .outcome ≡ 0
-      → e .steps + m ≤ 4294967295
-      → question14 g input (numbers (e .state .cells)) (e .state .output) (numbersOf e) m ≡ true
-  unfolding numbersOf
-  ended-passes bytes n k m s sound read written e is used steps =
-      let kept = rw (← is) at (run-kept tagged g input n k s) in
-      let good = rw (← is) at (run-ok g ok bytes input n k s sound) in
-      let no-trap = kept .no-trap (λ two. absurd (omega arith)) in
-      let places = kept .output .places in
-      let told = sound-told g ok (e .state) (good .sound used) in
-      yes-passes (numbers (e .state .cells)) (e .state .output) (numbersOf e) m (record {
-        refusal = refl;
-        fault = refl;
-        outcome = used;
-        trap = no-trap;
-        halt = kept .halt (λ ten. absurd (omega arith));
-        sound = yes-sound g ok (e .state .at) (numbers (e .state .cells)) (e .state .output) told;
-        read = kept .output .inputs read;
-        written = rw places (kept .output .outputs written);
-        steps = steps;
-      })
 
 -- where the image is accepted, "14" is answered by yes just where a continuation may go on
 pub question14-exact : (image : List ℕ) → checkOf image ≡ Accepted → (input store output : List ℤ) (r : RunResult)
@@ -172,7 +147,7 @@ continue-left image input l n none = rw (eq-eqb _ 0 none)
 
 -- ---- in two goes
 
--- a state that a run of this image can begin in
+-- a sound state that the image has room for, with its counts within their lists: a run can begin here
 record Starts (g : Program) (input : List ℤ) (s : State Cell) : Type 0 where
   sound : Sound g s
   least : firstTop g ≤ length (s .cells)
@@ -214,18 +189,36 @@ module _ (image : List ℕ) (bytes : Bytes image) (accepted : checkOf image ≡ 
     abbrev left : Left
     left = leftBy (eraseEnded (runFrom tagged g input n k s))
 
+    may-go-on : Continuable g input (left .store) (left .output) (left .result) m
+    unfolding numbersOf
+    may-go-on =
+        let kept = run-kept tagged g input n k s in
+        let no-trap = kept .no-trap (λ two. absurd (omega arith)) in
+        let places = kept .output .places in
+        let told = sound-told g ok _ (run-ok g ok nodes input n k s (starts .sound) .sound used) in
+        record {
+          refusal = refl;
+          fault = refl;
+          outcome = used;
+          trap = no-trap;
+          halt = kept .halt (λ ten. absurd (omega arith));
+          sound = yes-sound g ok (left .result .at) (left .store) (left .output) told;
+          read = kept .output .inputs (starts .read);
+          written = rw places (kept .output .outputs (starts .written));
+          steps = omega (arith, steps-used g input n k s used);
+        }
+
     -- a run that used up its steps is not refused a continuation
     left-passes : refusalOn image input left m ≡ 0
-    unfolding numbersOf
     left-passes =
         let e = runFrom tagged g input n k s in
         let cells : length (numbers (e .state .cells)) ≡ length (s .cells) =
         length-map (e .state .cells) (tagged .number) ∙ run-room g ok nodes input n k s (starts .sound) in
         let most = starts .sound .lent in
         let least = starts .least in
-        none-continue image input _ _ _ m (none-refusal image _ accepted (omega arith) (omega arith))
-        (ended-passes g ok input nodes n k m s (starts .sound) (starts .read) (starts .written) e refl used
-        (omega (arith, steps-used g input n k s used)))
+        none-continue image input (left .store) (left .output) (left .result) m
+        (none-refusal image (left .store) accepted (omega arith) (omega arith))
+        (yes-passes g ok input (left .store) (left .output) (left .result) m may-go-on)
 
     -- which adds its steps
     left-adds : afterContinue image input left m ≡ leftBy (eraseEnded (runFrom tagged g input (n + m) k s))

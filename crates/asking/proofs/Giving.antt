@@ -1,15 +1,15 @@
 -- What the code of a continuation has to show: the bare machine's run, or a refusal.
-use mathlib.Core.Path.{_≡_, refl, sym, _∙_, ap}
+use mathlib.Core.Path.{_≡_, sym, _∙_, ap}
 use mathlib.Core.Bool.{true, false}
-use mathlib.Core.List.{List, _∷_}
-use Prim.Native.Nat.{ℕ, _+_, _≤_, _<_}
+use mathlib.Core.List.{List}
+use Prim.Native.Nat.{ℕ, _≤_}
 use native.Mathlib.Omega.{arith}
 use borrow.Author.Tests.{eqb-true, eq-eqb, ne-eqb}
 use lib.Dec.{eqb}
 use lib.IntN.{ℤ}
 use lib.ListN.{length, length-append}
 use Rattle.prelude.proofs.Choice.{choose-yes, choose-no, choose-has, also-true}
-use Rattle.image.specs.Rows.{Bytes, rowsOf}
+use Rattle.image.specs.Rows.{Bytes}
 use Rattle.statements.proofs.Bodies.{end-within}
 use Rattle.checker.specs.declared.CheckAnswer.the-variants.{Accepted}
 use Rattle.checker.specs.Check.{checkOf, rowOf}
@@ -17,7 +17,6 @@ use Rattle.semantics.specs.declared.Registers.{Registers}
 use Rattle.semantics.specs.declared.RunResult.{RunResult}
 use Rattle.semantics.specs.Memory.{bare}
 use Rattle.semantics.specs.Layout.{Program}
-use Rattle.semantics.specs.Stepping.{State}
 use Rattle.semantics.specs.Running.{programOf, Ended, runFrom, refusal, numbersOf, refusedWith}
 use Rattle.semantics.specs.Sound.{Sound, frameWants, wants}
 use Rattle.semantics.proofs.Simulation.{eraseEnded}
@@ -122,28 +121,28 @@ module _ (image : List ℕ) (input store output : List ℤ) (from : RunResult) (
         run-ok g (program-accepted image accepted) (program-bytes image bytes) input steps (from .steps)
         (resumed g (from .at) store output) state-sound .not-stuck
 
-    -- the bare machine, on the numbers alone, does the same
-    pub continued-bare : runFrom bare g input steps (from .steps)
-        (record { at = from .at; cells = store; output = output })
-        ≡ eraseEnded (continuedOf image input store output from steps)
+    -- the code's run, on the numbers alone
+    abbrev ran : Ended ℤ
+    ran = runFrom bare g input steps (from .steps) (record { at = from .at; cells = store; output = output })
+
+    -- is the tagged machine's
+    pub continued-bare : ran ≡ eraseEnded (continuedOf image input store output from steps)
     unfolding continuedOf
     continued-bare =
         resumed-bare g (program-accepted image accepted) (program-bytes image bytes) input (from .at) store output
         passes-sound steps (from .steps)
 
     -- so what it gives is what is asked for
-    pub continues-run : {e : Ended ℤ}
-        → e ≡ runFrom bare g input steps (from .steps) (record { at = from .at; cells = store; output = output })
-        → Continues image input store output from steps (numbersOf e) (e .state .cells) (e .state .output)
+    pub continues-run : {r : RunResult} {cells places : List ℤ} → r ≡ numbersOf ran → ran .state .cells ≡ cells
+        → ran .state .output ≡ places → Continues image input store output from steps r cells places
     unfolding continueResult continuedStore continuedOutput numbersOf
-    continues-run {e} is =
+    continues-run result left sent =
         let yes : eqb (continueRefusal image input store output from steps) 0 ≡ true =
         eq-eqb _ 0 (none-continue image input store output from steps none passes) in
-        let same = is ∙ continued-bare in
         record {
-          result = ap (λ (x : Ended ℤ). numbersOf x) same ∙ sym (choose-yes _ _ _ yes);
-          left = ap (λ (x : Ended ℤ). x .state .cells) same ∙ sym (choose-yes _ _ _ yes);
-          sent = ap (λ (x : Ended ℤ). x .state .output) same ∙ sym (choose-yes _ _ _ yes);
+          result = result ∙ ap (λ (x : Ended ℤ). numbersOf x) continued-bare ∙ sym (choose-yes _ _ _ yes);
+          left = sym left ∙ ap (λ (x : Ended ℤ). x .state .cells) continued-bare ∙ sym (choose-yes _ _ _ yes);
+          sent = sym sent ∙ ap (λ (x : Ended ℤ). x .state .output) continued-bare ∙ sym (choose-yes _ _ _ yes);
         }
 
 -- "outcome (0 steps used up, 1 finished, 2 trapped)": whatever the image, the store and the earlier result
