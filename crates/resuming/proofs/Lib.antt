@@ -1,3 +1,4 @@
 pub mod Testing
 pub mod Frames
+pub mod Numbers
 pub mod Passing

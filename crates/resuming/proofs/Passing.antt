@@ -59,11 +59,11 @@ typed-by {image} p =
     }
 
 pub readable-by : {image plan old even : List ℕ} {store : List ℤ} → Planned image plan
-    → Filled 0 (rowsOf (programOf image .types)) (evenOf (programOf image .types) (programOf image .fields)) old even
+    → rowsOf (programOf image .types) ≤ length old → Filled 0 (rowsOf (programOf image .types)) (evenOf (programOf image .types) (programOf image .fields)) old even
     → length store ≤ 65536 → ReadableImage image plan even store
-readable-by {image} p filled most = record {
+readable-by {image} p rows filled most = record {
   planned = p;
-  readable = record { typed = typed-by p; evens = record { each = filled-at filled }; most = most };
+  readable = record { typed = typed-by p; evens = record { rows = rw (filled .cells) rows; each = filled-at filled }; most = most };
 }
 
 -- the globals are the variables before procedure 0's
@@ -77,7 +77,7 @@ pub globals-room : (g : Program) (store : List ℤ) (q base top : ℕ)
     → roomFrom (g .types) (g .fields) (g .variables) 0 (globalsOf (g .variables)) ≤ top
 unfolding roomOf globalCells
 globals-room g store q base top walked =
-    let at : Going g store (λ qs. ⊤) q base top =
+    let at : Going g store (λ qs. Unit {0}) q base top =
     going-start g base q base top (also-yes (walked .ends) (walked .links)) tt in
     omega (arith, room-least g (at .older), walked-base g (at .walked), walked-links g (at .walked))
 
@@ -93,7 +93,7 @@ module _ (image : List ℕ) {plan : List ℕ} (ready : Ready image plan) (s : Re
       also insideKept g (procedureAt (g .procedures) (s .row)) (s .row)
       also framesSound g (framesOf g s store) store (s .base) (s .top))
   unfolding framesSound
-  asked = sound-passes g (program-accepted image (ready .planned .checked .accepted)) s store ∙ also-pass _ (le-leb _ _ few)
+  asked = sound-passes g s store ∙ also-pass _ (le-leb _ _ few)
 
   pub sound-top : length store < s .top → soundOf g s store ≡ false
   sound-top past = asked ∙ also-left _ (lt-leb _ _ past)

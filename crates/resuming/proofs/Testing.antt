@@ -2,15 +2,20 @@
 use mathlib.Core.Path.{_≡_}
 use mathlib.Core.Bool.{true}
 use mathlib.Core.List.{List}
-use Prim.Native.Nat.{ℕ, _+_, _≤_}
+use Prim.Native.Nat.{ℕ, _+_, _≤_, _<_}
 use borrow.Author.Tests.{eq-eqb, ne-eqb}
 use lib.IntN.{ℤ}
 use Rattle.prelude.proofs.Choice.{choose-yes, choose-no}
-use Rattle.image.specs.Rows.{rowAt}
+use lib.ListN.{length}
+use Rattle.image.specs.Rows.{rowAt, rowsOf}
 use Rattle.shapes.specs.Sizes.{sizeOf, layoutOf}
 use Rattle.places.specs.Places.{widthOf}
 use Rattle.places.proofs.Rooms.{width-other}
 use Rattle.semantics.specs.Layout.{Program}
+use Rattle.semantics.specs.Running.{programOf}
+use Rattle.access.specs.Ready.{Planned}
+use Rattle.access.proofs.Bounds.{variable-typed}
+use Rattle.contents.specs.Reading.{Inside}
 use Rattle.asking.specs.State.{valuesKept}
 use Rattle.asking.specs.Passes.{valueTest}
 
@@ -25,6 +30,11 @@ module _ (g : Program) (k : ℕ) (l : List ℤ) where
   test-value e = choose-no _ _ _ (ne-eqb _ 3 e)
 
 -- its cells are those of its type
-pub room-value : (t f v : List ℕ) (k a m : ℕ) → (rowAt v k .kind ≡ 3 → ⊥) → a + widthOf t f v k ≤ m
-    → a + sizeOf t f (rowAt v k .a) ≤ m
-room-value t f v k a m e h = rw (width-other (sizeOf t f) v k e) at h
+pub inside-value : {image plan : List ℕ} {store : List ℤ} → Planned image plan → (k a : ℕ)
+    → k < rowsOf (programOf image .variables) → (rowAt (programOf image .variables) k .kind ≡ 3 → ⊥)
+    → a + widthOf (programOf image .types) (programOf image .fields) (programOf image .variables) k ≤ length store
+    → Inside (programOf image .types) (programOf image .fields) store (rowAt (programOf image .variables) k .a) a
+inside-value {image} p k a there e room = record {
+  row = variable-typed p k there;
+  room = rw (width-other (sizeOf (programOf image .types) (programOf image .fields)) (programOf image .variables) k e) at room;
+}

@@ -1,3 +1,4 @@
+use native.Mathlib.Omega.{arith}
 use mathlib.Core.Path.{_≡_, sym, _∙_, refl}
 use borrow.Author.Tests.{not-true, not-false}
 use Rattle.prelude.proofs.Choice.{also-left, also-pass, also-true, also-right}
@@ -39,8 +40,17 @@ references-requires c κs =
     let walked = c .before .before .before .before .before in
     let start = walked .before .before in
     let yes-all = not-false _ (c .before .before .before .if1 .left) in
-    let (ends, links) = also-true _ _ (sym (walked .walk .ensures .0) ∙ yes-all) in
-    (start .pre .0, record { ends = ends; links = links }, walked .walk .ensures .1 yes-all, start .pre .1, start .pre .2, ?)
+    let (ends, links) = also-true _ _ (sym (walked .walk .ensures .0) ∙ yes-all) in (
+      start .pre .0,
+      record {
+        walked = record { ends = ends; links = links };
+        blocked = walked .walk .ensures .1 yes-all;
+        table = omega arith;
+        cells = start .pre .1;
+        small = start .pre .2;
+      },
+      ?,
+    )
 
 returns-3 : tie.Need-returns-3
 unfolding framesSound

@@ -1,27 +1,37 @@
+use Rattle.resuming.proofs.Numbers.{zero-told}
+use mathlib.Core.Path.{_≡_, sym, _∙_, refl}
+use borrow.Author.Tests.{eq-eqb, ne-eqb}
+use Rattle.prelude.proofs.Choice.{also-left, also-right, also-pass}
+use Rattle.asking.specs.Continuing.{unfinished}
 use Rattle.resuming.proofs.is_unfinished.Statement.{statement}
 use Rattle.resuming.proofs.is_unfinished.Tie as tie
 use Rattle.resuming.proofs.is_unfinished.Reads as reads
 use Rattle.resuming.proofs.is_unfinished.Lts as lts
 
--- src/lib.rt:193:9
 returns : tie.Need-returns
-returns c = ?
+unfolding unfinished
+returns c = sym (also-left _ (ne-eqb _ 0 (c .if1 .taken)))
 
--- src/lib.rt:196:9
 returns-2 : tie.Need-returns-2
-returns-2 c = ?
+unfolding unfinished
+returns-2 c = sym (also-right _ (also-left _ (ne-eqb _ 0 (c .if2 .taken))))
 
--- src/lib.rt:199:9
 returns-3 : tie.Need-returns-3
-returns-3 c = ?
+unfolding unfinished
+returns-3 c = sym (also-right _ (also-right _ (also-left _ (ne-eqb _ 0 (c .if3 .taken)))))
 
--- src/lib.rt:202:9
 returns-4 : tie.Need-returns-4
-returns-4 c = ?
+unfolding unfinished
+returns-4 c = sym (also-right _ (also-right _ (also-right _ (also-left _ (ne-eqb _ 0 (c .if4 .taken))))))
 
--- src/lib.rt:189:1
 returns-5 : tie.Need-returns-5
-returns-5 c = ?
+unfolding unfinished
+returns-5 c =
+    let four = c .before .before in
+    let three = four .before .before in
+    let two = three .before .before in
+    let one = two .before .before in
+    zero-told _ (c .struct-told .given) ∙ sym (also-pass _ (eq-eqb _ 0 (one .if1 .left)) ∙ also-pass _ (eq-eqb _ 0 (two .if2 .left)) ∙ also-pass _ (eq-eqb _ 0 (three .if3 .left)) ∙ also-pass _ (eq-eqb _ 0 (four .if4 .left)))
 
 pub is-unfinished-spec : {M : Type 1} → statement M
 is-unfinished-spec = tie.close (tie.spec returns returns-2 returns-3 returns-4 returns-5)

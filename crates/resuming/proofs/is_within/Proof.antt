@@ -1,24 +1,30 @@
+use Rattle.resuming.proofs.Numbers.{steps-told}
+use mathlib.Core.Path.{_≡_, sym, _∙_, refl}
+use native.Mathlib.Omega.{arith}
+use borrow.Author.Tests.{lt-leb, le-leb}
+use Rattle.prelude.proofs.Choice.{also-left, also-right, also-pass}
+use Rattle.asking.specs.Continuing.{withinLent}
 use borrow.Author.Needs.{needs}
 use Rattle.resuming.proofs.is_within.Statement.{statement}
 use Rattle.resuming.proofs.is_within.Tie as tie
 use Rattle.resuming.proofs.is_within.Reads as reads
 use Rattle.resuming.proofs.is_within.Lts as lts
 
--- src/lib.rt:213:9
 returns : tie.Need-returns
-returns c = ?
+unfolding withinLent
+returns c = sym (also-left _ (lt-leb _ _ (c .if1 .taken)))
 
--- src/lib.rt:216:9
 returns-2 : tie.Need-returns-2
-returns-2 c = ?
+unfolding withinLent
+returns-2 c = sym (also-right _ (also-left _ (lt-leb _ _ (c .if2 .taken))))
 
--- src/lib.rt:218:14
 sub-result : tie.Need-sub-result
 sub-result c = search needs
 
--- src/lib.rt:208:1
 returns-3 : tie.Need-returns-3
-returns-3 c = ?
+unfolding withinLent
+returns-3 c =
+    steps-told _ _ (omega arith) ∙ sym (also-pass _ (le-leb _ _ (c .before .before .before .if1 .left)) ∙ also-pass _ (le-leb _ _ (c .before .if2 .left)))
 
 pub is-within-spec : {M : Type 1} → statement M
 is-within-spec = tie.close (tie.spec returns returns-2 sub-result returns-3)

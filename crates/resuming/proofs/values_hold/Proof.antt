@@ -34,7 +34,7 @@ unfolding tableOf choose
 fill-even-requires c κs =
     let start = c .before .before .before .before .before .before .before in
     rw (c .before .table2 .ensures, c .before .before .before .before .table .ensures)
-    (types-kept (start .pre .0 .planned), types-few (start .pre .0 .planned), ?)
+    (types-few (start .pre .0 .planned), types-kept (start .pre .0 .planned), types-few (start .pre .0 .planned), ?)
 
 first-variable-requires : tie.Need-first-variable-requires
 first-variable-requires c κs =
@@ -45,19 +45,37 @@ slice-aggregate-variables-hold : tie.Need-slice-aggregate-variables-hold
 slice-aggregate-variables-hold c = search needs
 
 variables-hold-requires : tie.Need-variables-hold-requires
-variables-hold-requires c κs = ?
+unfolding tableOf choose
+variables-hold-requires c κs =
+    let filled = c .before .before .before in
+    let start = filled .before .before .before .before .before .before .before .before in
+    let evens = rw (filled .before .before .table2 .ensures, filled .before .before .before .before .before .table .ensures) at (filled .fill-even .ensures) in
+    rw (c .before .first-variable .ensures, globals-first _)
+    (readable-by (start .pre .0 .planned) (types-few (start .pre .0 .planned)) evens (start .pre .2), omega (arith, globals-within _), omega (arith, globals-room _ _ _ _ _ (start .pre .3), start .pre .1))
 
 returns : tie.Need-returns
-returns c = ?
+unfolding valuesPass
+returns c =
+    let held = c .before .variables-hold .ensures in
+    sym (also-left _ (sym (rw (c .before .before .before .first-variable .ensures, globals-first _) at held) ∙ not-true _ (c .if1 .taken)))
 
 slice-aggregate-frames-hold : tie.Need-slice-aggregate-frames-hold
 slice-aggregate-frames-hold c = search needs
 
 frames-hold-requires : tie.Need-frames-hold-requires
-frames-hold-requires c κs = ?
+unfolding tableOf choose
+frames-hold-requires c κs =
+    let filled = c .before .before .before .before .before .before in
+    let start = filled .before .before .before .before .before .before .before .before in
+    let evens = rw (filled .before .before .table2 .ensures, filled .before .before .before .before .before .table .ensures) at (filled .fill-even .ensures) in
+    (readable-by (start .pre .0 .planned) (types-few (start .pre .0 .planned)) evens (start .pre .2), start .pre .1, start .pre .3)
 
 returns-2 : tie.Need-returns-2
-returns-2 c = ?
+unfolding valuesPass
+returns-2 c =
+    let held = c .before .before .before .variables-hold .ensures in
+    c .frames-hold .ensures
+    ∙ sym (also-pass _ (sym (rw (c .before .before .before .before .before .first-variable .ensures, globals-first _) at held) ∙ not-false _ (c .before .before .if1 .left)))
 
 pub values-hold-spec : {M : Type 1} → statement M
 values-hold-spec =

@@ -4,8 +4,7 @@ use Prim.Native.Nat.{_+_, _≤_}
 use lib.ListN.{length}
 use Rattle.prelude.specs.Choice.{choose}
 use Rattle.access.specs.Ready.{tableOf}
-use Rattle.access.proofs.Bounds.{variable-typed}
-use Rattle.resuming.proofs.Testing.{test-reference, test-value, room-value}
+use Rattle.resuming.proofs.Testing.{test-reference, test-value, inside-value}
 use borrow.Author.Needs.{needs}
 use Rattle.resuming.proofs.variable_holds.Statement.{statement}
 use Rattle.resuming.proofs.variable_holds.Tie as tie
@@ -34,7 +33,7 @@ holds-values-requires c κs =
     let start = kinds .before .before .before in
     let row = kinds .before .variable-at .ensures in
     rw (c .before .table2 .ensures, c .before .before .before .before .table .ensures, row)
-    (start .pre .0 .readable, variable-typed (start .pre .0 .planned) _ (start .pre .1), room-value _ _ _ _ _ _ (rw row at (kinds .if1 .left)) (start .pre .2), ?)
+    (start .pre .0 .readable, inside-value (start .pre .0 .planned) _ _ (start .pre .1) (rw row at (kinds .if1 .left)) (start .pre .2), ?)
 
 returns-2 : tie.Need-returns-2
 unfolding tableOf choose
