@@ -37,7 +37,7 @@ pub type Plan = [u32; RUN_PLAN];
 // ---- tables and rows
 
 // Table k of the six, in their order.
-fn table<'a>(image: &'a [u8], plan: &[u32], k: usize) -> &'a [u8]
+pub fn table<'a>(image: &'a [u8], plan: &[u32], k: usize) -> &'a [u8]
     requires { ⌜ Checked (now image) (now plan) × (k < 6) ⌝ }
     ensures { λ x. ⌜ now x ≡ tableOf (programOf (now (image .entry))) k ⌝ }
 {
