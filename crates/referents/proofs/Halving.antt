@@ -54,6 +54,7 @@ module _ (g : Program) (k n at : ℕ) where
         record {
           least = h .least;
           most = omega arith;
+          some = λ x. let less = h .some x in omega arith;
           before = h .before;
           after = λ x.
               let least = h .least in

@@ -5,14 +5,14 @@ use mathlib.Core.List.{List}
 use mathlib.Core.Logic.{_⊎_, inl, inr}
 use Prim.Native.Nat.{ℕ, zero, suc, _+_, _-_, _≤_, _<_}
 use native.Mathlib.Omega.{arith}
-use native.Mathlib.Decide.{decLe}
+use native.Mathlib.Decide.{decLe, decLt}
 use borrow.Author.Tests.{leb-true, le-leb, lt-leb}
 use lib.Dec.{leb}
 use Rattle.prelude.specs.Choice.{choose, _also_}
-use Rattle.prelude.proofs.Choice.{choose-yes, choose-no, also-left, also-right}
+use Rattle.prelude.proofs.Choice.{choose-yes, choose-no, also-left, also-right, also-pass}
 use Rattle.image.specs.Rows.{rowAt}
 use Rattle.places.specs.Places.{widthBy, roomBy}
-use Rattle.places.proofs.Rooms.{width-other}
+use Rattle.places.proofs.Rooms.{width-other, room-more}
 use Rattle.semantics.proofs.Objects.{room-first}
 use Rattle.asking.specs.Asking.{amongVariables}
 use Rattle.asking.proofs.Objects.{room-none}
@@ -93,3 +93,71 @@ module _ (deeper : ℕ → ℕ → Bool) (size : ℕ → ℕ) (v : List ℕ) whe
       let first = room-first size v k n in
       search-next k n o (inside-past k n ends o (omega (arith, first))) (omega (arith, first))
       ∙ search-past n (k + 1) (o - width k) (ends-later k n ends) (omega (arith, first))
+
+  -- ---- variables that stand from `lead` on, a row at a time
+
+  module _ (k n lead at : ℕ) where
+    -- where variable row j stands
+    abbrev place : ℕ → ℕ
+    place j = lead + room k (j - k)
+
+    -- what is left to be searched from row j on
+    abbrev pub left-from : ℕ → Bool
+    left-from j = leb (place j) at also search-from j (k + n - j) (at - place j)
+
+    -- the rows before j are passed over
+    pub left-start : (j : ℕ) → Ends k n → k ≤ j → j ≤ k + n → (k < j → place j < at)
+        → (leb lead at also search-from k n (at - lead)) ≡ left-from j
+    left-start j ends least most below = go (decLt k j)
+      where
+        go : Dec (k < j) → (leb lead at also search-from k n (at - lead)) ≡ left-from j
+        go (no h) =
+            let row : j ≡ k = omega arith in
+            let all : k + n - k ≡ n = omega arith in
+            let none : k - k ≡ 0 = omega arith in
+            let start : lead + 0 ≡ lead = omega arith in
+            rw (row, all, none, room-none deeper size v k, start) refl
+        go (yes h) =
+            let under = below h in
+            let into : at - lead ≡ room k (j - k) + (at - place j) = omega arith in
+            let row : k + (j - k) ≡ j = omega arith in
+            let rest : n - (j - k) ≡ k + n - j = omega arith in
+            also-pass _ (le-leb lead at (omega arith))
+            ∙ ap (λ o. search-from k n o) into
+            ∙ search-from-later n k (j - k) (at - place j) ends (omega arith) (omega arith)
+            ∙ rw (row, rest) (sym (also-pass _ (le-leb (place j) at (omega arith))))
+
+    pub left-end : (j : ℕ) → k + n ≤ j → left-from j ≡ false
+    left-end j h = let none : k + n - j ≡ 0 = omega arith in
+        rw none (also-right _ (search-none j (at - place j)))
+
+    module _ (j : ℕ) where
+      pub left-below : at < place j → left-from j ≡ false
+      left-below h = also-left _ (lt-leb _ _ h)
+
+      module _ (more : j < k + n) (reaches : place j ≤ at) where
+        left-is : left-from j ≡ search-from j (suc (k + n - (j + 1))) (at - place j)
+        left-is =
+            let one : k + n - j ≡ suc (k + n - (j + 1)) = omega arith in
+            rw one (also-pass _ (le-leb _ _ reaches))
+
+        pub left-here : inside j (at - place j) ≡ true → left-from j ≡ true
+        left-here e = left-is ∙ search-here j _ _ e
+
+        pub left-next : k ≤ j → inside j (at - place j) ≡ false → left-from j ≡ left-from (j + 1)
+        left-next least e = go (decLe (width j) (at - place j))
+          where
+            next : place (j + 1) ≡ place j + width j
+            next =
+                let row : k + (j - k) ≡ j = omega arith in
+                let one : j + 1 - k ≡ suc (j - k) = omega arith in
+                rw one (omega (arith, rw row at (room-more size v k (j - k))))
+
+            go : Dec (width j ≤ at - place j) → left-from j ≡ left-from (j + 1)
+            go (yes h) =
+                let into : at - place j - width j ≡ at - place (j + 1) = omega (arith, next) in
+                left-is ∙ search-next j _ _ e h ∙ ap (λ o. search-from (j + 1) (k + n - (j + 1)) o) into
+                ∙ sym (also-pass _ (le-leb (place (j + 1)) at (omega (arith, next))))
+            go (no h) =
+                left-is ∙ search-stop j _ _ e (omega arith)
+                ∙ sym (also-left _ (lt-leb (place (j + 1)) at (omega (arith, next))))

@@ -1,0 +1,144 @@
+-- Laws of the search for an object in frames.
+use mathlib.Core.Path.{_≡_, refl, sym, _∙_, ap}
+use mathlib.Core.Bool.{Bool, true, false}
+use mathlib.Core.List.{List, [], _∷_}
+use Prim.Native.Nat.{ℕ, zero, suc, _+_, _-_, _*_, _≤_, _<_}
+use native.Mathlib.Omega.{arith}
+use native.Mathlib.Decide.{decLt}
+use borrow.Author.Tests.{le-leb, lt-leb, lt-ltb, le-ltb}
+use lib.Dec.{leb, ltb}
+use Rattle.prelude.specs.Choice.{choose, _also_}
+use Rattle.prelude.proofs.Choice.{choose-yes, choose-no}
+use Rattle.image.specs.Rows.{rowAt, rowsOf}
+use Rattle.shapes.specs.Sizes.{sizeOf}
+use Rattle.frames.specs.Variables.{globalsOf}
+use Rattle.frames.specs.Procedures.{firstVariable, claimedBy}
+use Rattle.frames.proofs.Claiming.{globals-within}
+use Rattle.places.specs.Places.{globalCells, frameSize}
+use Rattle.checker.proofs.Accepted.{AcceptedTables}
+use Rattle.semantics.specs.Layout.{Program}
+use Rattle.objects.specs.Begins.{beginsAt}
+use Rattle.objects.proofs.Beginning.{begins-past}
+use Rattle.asking.specs.Asking.{roomOf, objectIn, objectAt}
+use Rattle.asking.specs.Passes.{newestBelow}
+use Rattle.asking.proofs.Objects.{older-yes}
+use Rattle.referents.proofs.Variables.{Ends, search-past}
+
+module _ (g : Program) where
+  -- frames of existing procedures
+  pub data Existing : List ℕ → Type 0 where
+    no-frame : Existing []
+    a-frame : {q : ℕ} {qs : List ℕ} → q < rowsOf (g .procedures) → Existing qs → Existing (q ∷ qs)
+
+  -- some frames are the oldest of others
+  pub data Oldest (older : List ℕ) : List ℕ → Type 0 where
+    all : Oldest older older
+    newer : {q : ℕ} {qs : List ℕ} → Oldest older qs → Oldest older (q ∷ qs)
+
+  -- ---- where frames end
+
+  -- a frame has its three links
+  pub room-links : (q : ℕ) (qs : List ℕ) → roomOf g qs + 3 ≤ roomOf g (q ∷ qs)
+  unfolding roomOf frameSize
+  room-links q qs = omega arith
+
+  -- all frames were there later than the globals
+  pub oldest-none : (qs : List ℕ) → Oldest [] qs
+  oldest-none [] = all
+  oldest-none (q ∷ qs) = newer (oldest-none qs)
+
+  pub room-oldest : {older qs : List ℕ} → Oldest older qs → roomOf g older ≤ roomOf g qs
+  room-oldest all = omega arith
+  room-oldest (newer {q = q} {qs = qs} o) = omega (arith, room-oldest o, room-links q qs)
+
+  -- ---- the newest frame that begins below an address
+
+  newest-here : (q : ℕ) (qs : List ℕ) (at : ℕ) → roomOf g qs < at
+      → newestBelow g (q ∷ qs) at ≡ q * 65536 + roomOf g qs
+  unfolding newestBelow
+  newest-here q qs at h = choose-yes _ _ _ (lt-ltb _ _ h)
+
+  newest-later : (q : ℕ) (qs : List ℕ) (at : ℕ) → at ≤ roomOf g qs → newestBelow g (q ∷ qs) at ≡ newestBelow g qs at
+  unfolding newestBelow
+  newest-later q qs at h = choose-no _ _ _ (le-ltb (roomOf g qs) at h)
+
+  module _ (ok : AcceptedTables (g .types) (g .fields) (g .variables) (g .procedures) (g .nodes) (g .statements))
+      (w : ℕ) where
+    -- variables that exist end where their types do
+    pub ends-there : (k n : ℕ) → k + n ≤ rowsOf (g .variables)
+        → Ends (beginsAt (g .types) (g .fields) w) (sizeOf (g .types) (g .fields)) (g .variables) k n
+    ends-there k n there j o low high h =
+        begins-past (g .types) (g .fields) (ok .types) w _ o (ok .variable j (omega arith) .typed) h
+
+    claimed-there : (q : ℕ) → q < rowsOf (g .procedures)
+        → firstVariable (g .variables) (g .procedures) q + claimedBy (rowAt (g .procedures) q) ≤ rowsOf (g .variables)
+    unfolding claimedBy
+    claimed-there q h = ok .procedures .row q h .room
+
+    -- behind the newest frame's end none begins
+    pub object-past : {qs : List ℕ} → Existing qs → (at : ℕ) → roomOf g qs < at → objectAt g w qs at ≡ false
+    unfolding objectAt roomOf globalCells frameSize
+    object-past no-frame at h =
+        let n = globalsOf (g .variables) in
+        search-past _ _ _ n 0 at (ends-there 0 n (omega (arith, globals-within (g .variables)))) h
+    object-past (a-frame {q = q} {qs = qs} low e) at h =
+        let first = firstVariable (g .variables) (g .procedures) q in
+        let n = claimedBy (rowAt (g .procedures) q) in
+        choose-yes _ _ _ (lt-ltb (roomOf g qs) at (omega arith))
+        ∙ choose-yes _ _ _ (le-leb (roomOf g qs + 3) at (omega arith))
+        ∙ search-past _ _ _ n first (at - (roomOf g qs + 3)) (ends-there first n (claimed-there q low)) (omega arith)
+
+    -- at an address where none of the newer frames begins below, only the older ones can have it
+    pub object-oldest : {older qs : List ℕ} → Oldest older qs → (at : ℕ) → at ≤ roomOf g older
+        → objectAt g w qs at ≡ objectAt g w older at
+    object-oldest all at h = refl
+    object-oldest (newer {q = q} {qs = qs} o) at h =
+        older-yes g ok w q qs at (omega (arith, room-oldest o)) ∙ object-oldest o at h
+
+    -- ---- in the frame that an address lies in
+
+    -- o cells into the variables of procedure q's frame
+    abbrev pub in-frame : ℕ → ℕ → Bool
+    in-frame q o = objectIn g w (firstVariable (g .variables) (g .procedures) q) (claimedBy (rowAt (g .procedures) q)) o
+
+    newest-object : (q : ℕ) (qs : List ℕ) (at : ℕ) → roomOf g qs < at → objectAt g w (q ∷ qs) at
+        ≡ choose (leb (roomOf g qs + 3) at) (in-frame q (at - (roomOf g qs + 3))) false
+    unfolding objectAt
+    newest-object q qs at h = choose-yes _ _ _ (lt-ltb _ _ h)
+
+    -- at or below the globals' end
+    pub object-global : (qs : List ℕ) (at : ℕ) → at ≤ roomOf g []
+        → objectAt g w qs at ≡ objectIn g w 0 (globalsOf (g .variables)) at
+    unfolding objectAt
+    object-global [] at h = refl
+    object-global (q ∷ qs) at h =
+        older-yes g ok w q qs at (omega (arith, room-oldest (oldest-none qs))) ∙ object-global qs at h
+
+    -- above it: in the newest frame that begins below the address, that of procedure p at b
+    module _ (at p b : ℕ) (low : b < 65536) where
+      abbrev in-newest : Bool
+      in-newest = choose (leb (b + 3) at) (in-frame p (at - (b + 3))) false
+
+      newest-is : (q : ℕ) (qs : List ℕ) → roomOf g qs < at → roomOf g (q ∷ qs) ≤ 65536
+          → p * 65536 + b ≡ newestBelow g (q ∷ qs) at → objectAt g w (q ∷ qs) at ≡ in-newest
+      newest-is q qs h room is =
+          let packed : p * 65536 + b ≡ q * 65536 + roomOf g qs = is ∙ newest-here q qs at h in
+          let links = room-links q qs in
+          let base : roomOf g qs ≡ b = omega arith in
+          let procedure : q ≡ p = omega arith in
+          newest-object q qs at h ∙ rw (base, procedure) refl
+
+      pub object-newest : (q : ℕ) (qs : List ℕ) → roomOf g [] < at → roomOf g (q ∷ qs) ≤ 65536
+          → p * 65536 + b ≡ newestBelow g (q ∷ qs) at → objectAt g w (q ∷ qs) at ≡ in-newest
+      object-newest q [] least room is = newest-is q [] least room is
+      object-newest q (o ∷ qs) least room is =
+          go (decLt (roomOf g (o ∷ qs)) at) (λ r i. object-newest o qs least r i)
+        where
+          go : Dec (roomOf g (o ∷ qs) < at)
+              → (roomOf g (o ∷ qs) ≤ 65536 → p * 65536 + b ≡ newestBelow g (o ∷ qs) at
+              → objectAt g w (o ∷ qs) at ≡ in-newest)
+              → objectAt g w (q ∷ o ∷ qs) at ≡ in-newest
+          go (yes h) ih = newest-is q (o ∷ qs) h room is
+          go (no h) ih =
+              older-yes g ok w q (o ∷ qs) at (omega arith)
+              ∙ ih (omega (arith, room-links q (o ∷ qs))) (is ∙ newest-later q (o ∷ qs) at (omega arith))
