@@ -22,6 +22,7 @@ use Rattle.objects.proofs.Beginning.{begins-past}
 use Rattle.asking.specs.Asking.{roomOf, objectIn, objectAt}
 use Rattle.asking.specs.Passes.{newestBelow}
 use Rattle.asking.proofs.Objects.{older-yes}
+use Rattle.referents.specs.Reading.{Oldest, Oldest.all, Oldest.newer}
 use Rattle.referents.proofs.Variables.{Ends, search-past}
 
 module _ (g : Program) where
@@ -29,11 +30,6 @@ module _ (g : Program) where
   pub data Existing : List ℕ → Type 0 where
     no-frame : Existing []
     a-frame : {q : ℕ} {qs : List ℕ} → q < rowsOf (g .procedures) → Existing qs → Existing (q ∷ qs)
-
-  -- some frames are the oldest of others
-  pub data Oldest (older : List ℕ) : List ℕ → Type 0 where
-    all : Oldest older older
-    newer : {q : ℕ} {qs : List ℕ} → Oldest older qs → Oldest older (q ∷ qs)
 
   -- ---- where frames end
 

@@ -1,3 +1,4 @@
 pub mod Variables
 pub mod Halving
 pub mod Frames
+pub mod Scanning

@@ -1,1 +1,3 @@
 pub mod Reaching
+pub mod Reading
+pub mod Stub
