@@ -1,9 +1,13 @@
 -- Laws of the search among variables as the code makes it, by their places.
 use mathlib.Core.Path.{_≡_, refl, sym, _∙_, ap}
 use mathlib.Core.Bool.{Bool, true, false}
+use mathlib.Core.List.{List}
 use Prim.Native.Nat.{ℕ, _+_, _-_, _≤_, _<_}
 use native.Mathlib.Omega.{arith}
-use Rattle.image.specs.Rows.{rowsOf}
+use borrow.Author.Tests.{lt-leb, le-leb}
+use Rattle.prelude.proofs.Choice.{also-left, also-pass}
+use Rattle.image.specs.declared.Row.{Row}
+use Rattle.image.specs.Rows.{rowAt, rowsOf}
 use Rattle.shapes.specs.Sizes.{sizeOf}
 use Rattle.places.specs.Places.{roomFrom}
 use Rattle.checker.proofs.Accepted.{AcceptedTables}
@@ -76,3 +80,20 @@ module _ (g : Program) (w k n at : ℕ) where
               ∙ left-next _ _ _ k n lead at j more (omega (arith, is, stands)) (s .least)
               (sym (inside-is lead placed) ∙ e);
         }
+
+-- ---- one variable
+
+module _ (g : Program) (w k o : ℕ) {row : Row} (is : row ≡ rowAt (g .variables) k) where
+  pub variable-other : 2 < row .kind → false ≡ inVariable g w k o
+  variable-other h = sym (also-left _ (lt-leb (rowAt (g .variables) k .kind) 2 (rw is at h)))
+
+  module _ {t f : List ℕ} (types : t ≡ g .types) (fields : f ≡ g .fields) where
+    pub variable-plain : row .kind ≤ 2 → {x : Bool} → x ≡ beginsAt t f w (row .a) o → x ≡ inVariable g w k o
+    variable-plain h e =
+        (rw (types, fields, is) at e) ∙ sym (also-pass _ (le-leb (rowAt (g .variables) k .kind) 2 (rw is at h)))
+
+    pub variable-low : rowAt (g .variables) k .a < rowsOf (g .types) → row .a < rowsOf t
+    variable-low h = rw (types, is) h
+
+    pub type-low : w < rowsOf (g .types) → w < rowsOf t
+    type-low h = rw types h
