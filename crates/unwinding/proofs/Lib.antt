@@ -1,0 +1,4 @@
+pub mod Links
+pub mod Walking
+pub mod Going
+mod Seeking

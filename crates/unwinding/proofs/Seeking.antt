@@ -1,0 +1,71 @@
+-- Seeking a frame by address, from that of its block on.
+use mathlib.Core.Path.{_≡_, refl, sym, _∙_, ap}
+use mathlib.Core.List.{List, [], _∷_}
+use Prim.Native.Nat.{ℕ, _+_, _-_, _*_, _/_, _%_, _≤_, _<_}
+use native.Mathlib.Omega.{arith}
+use native.Mathlib.Nat.{div-add-mod', lt-div-mul-add, div-lt-iff-lt-mul}
+use lib.IntN.{ℤ}
+use lib.ListN.{getD}
+use Rattle.image.specs.Rows.{rowsOf}
+use Rattle.semantics.specs.Layout.{Program}
+use Rattle.asking.specs.Asking.{roomOf}
+use Rattle.asking.specs.Passes.{Walked, newestBelow}
+use Rattle.unwinding.specs.declared.Spot.{Spot}
+use Rattle.unwinding.specs.Links.{callerOf, spotOf}
+use Rattle.unwinding.specs.Blocks.{BLOCK, Blocks}
+use Rattle.unwinding.specs.Going.{Going, Newest}
+use Rattle.unwinding.proofs.Links.{spot-is}
+use Rattle.unwinding.proofs.Walking.{walked-base, walked-links}
+use Rattle.unwinding.proofs.Going.{above-called, going-on, below-here, below-older, newest-is}
+
+-- an address's block is one of the table's
+pub block-low : (at : ℕ) → at ≤ 65536 → (at - 1) / 64 < 1024
+block-low at most = div-lt-iff-lt-mul {k = 64} {x = at - 1} {y = 1024} (omega arith) .1 (omega arith)
+
+-- and ends behind it
+block-end : (at : ℕ) → at ≤ (at - 1) / BLOCK * BLOCK + BLOCK
+block-end at = let h = lt-div-mul-add {a = at - 1} {b = 64} (omega arith) in omega arith
+
+-- the loop stands at this frame, and seeks among it and its older ones
+pub record Seeking (g : Program) (qs : List ℕ) (store : List ℤ) (top at q b : ℕ) : Type 0 where
+  pub end : ℕ
+  pub within : end ≤ top
+  pub going : Going g store (λ rest. newestBelow g qs at ≡ newestBelow g rest at) q b end
+
+module _ {g : Program} {qs : List ℕ} {store : List ℤ} {top at : ℕ} where
+  -- at the frame of the address's block
+  pub seeking-start : {b e : ℕ} {blocks : List ℕ} → Walked g qs store b e → e ≤ top → Blocks g qs blocks
+      → roomOf g [] < at → at ≤ 65536
+      → let packed = getD blocks ((at - 1) / 64) 0 in Seeking g qs store top at (packed / 65536) (packed % 65536)
+  unfolding spotOf
+  seeking-start w within table above most =
+      let block = (at - 1) / 64 in
+      let low = block-low at most in
+      let more = block-end at in
+      let n = newest-is g qs (block * 64 + 64) w (omega arith) (omega arith) in
+      let is = table .each block low in
+      rw is (record {
+        end = n .end;
+        within = omega (arith, n .within);
+        going = record { older = n .older; walked = n .walked; told = n .same at more };
+      })
+
+  -- at the caller's, where this one does not begin below the address
+  pub seeking-on : {q b : ℕ} → rowsOf (g .procedures) ≤ 64 → roomOf g [] < at → at ≤ b → b ≤ 65536
+      → Seeking g qs store top at q b → {x : Spot} → x ≡ callerOf top store b
+      → (x .base < b) × Seeking g qs store top at (x .procedure) (x .base)
+  seeking-on {q} {b} few above high low s is =
+      let h = s .going in
+      let base = walked-base g (h .walked) in
+      let own = walked-links g (h .walked) in
+      let (less, next) = going-on g h few top (s .within) low (above-called g (omega arith))
+      (λ told. told ∙ below-older g q (h .older) at (omega arith)) is in
+      (less, record { end = b; within = omega (arith, s .within); going = next })
+
+  -- where it does, it is the frame
+  pub seeking-ends : {q b : ℕ} → Seeking g qs store top at q b → b < 65536 → b < at
+      → spotOf (newestBelow g qs at) ≡ record { procedure = q; base = b }
+  seeking-ends {q} {b} s small low =
+      let h = s .going in
+      let base = walked-base g (h .walked) in
+      ap spotOf (h .told ∙ below-here g q (h .older) at (omega arith) ∙ rw (← base)) ∙ spot-is q b small

@@ -1,0 +1,28 @@
+-- Going from frame to frame.
+use Prim.Native.Nat.{ℕ, _*_, _+_, _≤_, _<_}
+use mathlib.Core.Path.{_≡_}
+use mathlib.Core.List.{List, _∷_}
+use lib.IntN.{ℤ}
+use Rattle.semantics.specs.Layout.{Program}
+use Rattle.asking.specs.Asking.{objectAt}
+use Rattle.asking.specs.Passes.{Walked, newestBelow}
+use Rattle.unwinding.specs.declared.Spot.{Spot}
+
+-- a loop over the frames stands at that of procedure q, from b to e; `Told` is what it knows of this frame and all older
+-- ones
+pub record Going (g : Program) (store : List ℤ) (Told : List ℕ → Type 0) (q b e : ℕ) : Type 0 where
+  pub older : List ℕ
+  pub walked : Walked g (q ∷ older) store b e
+  pub told : Told (q ∷ older)
+
+-- of frames `all`, which end at e, the newest that begins below an address, with its older ones: what is asked of all of
+-- them at an address that is no higher is answered by these
+pub record Newest (g : Program) (all : List ℕ) (store : List ℤ) (e at : ℕ) (s : Spot) : Type 0 where
+  pub older : List ℕ
+  pub end : ℕ
+  pub within : end ≤ e
+  pub walked : Walked g (s .procedure ∷ older) store (s .base) end
+  pub below : s .base < at
+  pub packed : newestBelow g all at ≡ s .procedure * 65536 + s .base
+  pub same : (a : ℕ) → a ≤ at → newestBelow g all a ≡ newestBelow g (s .procedure ∷ older) a
+  pub object : (w a : ℕ) → a ≤ at → objectAt g w all a ≡ objectAt g w (s .procedure ∷ older) a
