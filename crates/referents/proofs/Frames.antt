@@ -7,6 +7,7 @@ use native.Mathlib.Omega.{arith}
 use native.Mathlib.Decide.{decLt}
 use borrow.Author.Tests.{le-leb, lt-leb, lt-ltb, le-ltb}
 use lib.Dec.{leb, ltb}
+use lib.IntN.{ℤ}
 use Rattle.prelude.specs.Choice.{choose, _also_}
 use Rattle.prelude.proofs.Choice.{choose-yes, choose-no}
 use Rattle.image.specs.Rows.{rowAt, rowsOf}
@@ -20,8 +21,10 @@ use Rattle.semantics.specs.Layout.{Program}
 use Rattle.objects.specs.Begins.{beginsAt}
 use Rattle.objects.proofs.Beginning.{begins-past}
 use Rattle.asking.specs.Asking.{roomOf, objectIn, objectAt}
-use Rattle.asking.specs.Passes.{newestBelow}
 use Rattle.asking.proofs.Objects.{older-yes}
+use Rattle.unwinding.specs.declared.Spot.{Spot}
+use Rattle.unwinding.specs.Going.{Newest}
+use Rattle.unwinding.proofs.Walking.{room-more, walked-base}
 use Rattle.referents.specs.Reading.{Oldest, Oldest.all, Oldest.newer}
 use Rattle.referents.proofs.Variables.{Ends, search-past}
 
@@ -33,11 +36,6 @@ module _ (g : Program) where
 
   -- ---- where frames end
 
-  -- a frame has its three links
-  pub room-links : (q : ℕ) (qs : List ℕ) → roomOf g qs + 3 ≤ roomOf g (q ∷ qs)
-  unfolding roomOf frameSize
-  room-links q qs = omega arith
-
   -- all frames were there later than the globals
   pub oldest-none : (qs : List ℕ) → Oldest [] qs
   oldest-none [] = all
@@ -45,18 +43,7 @@ module _ (g : Program) where
 
   pub room-oldest : {older qs : List ℕ} → Oldest older qs → roomOf g older ≤ roomOf g qs
   room-oldest all = omega arith
-  room-oldest (newer {q = q} {qs = qs} o) = omega (arith, room-oldest o, room-links q qs)
-
-  -- ---- the newest frame that begins below an address
-
-  newest-here : (q : ℕ) (qs : List ℕ) (at : ℕ) → roomOf g qs < at
-      → newestBelow g (q ∷ qs) at ≡ q * 65536 + roomOf g qs
-  unfolding newestBelow
-  newest-here q qs at h = choose-yes _ _ _ (lt-ltb _ _ h)
-
-  newest-later : (q : ℕ) (qs : List ℕ) (at : ℕ) → at ≤ roomOf g qs → newestBelow g (q ∷ qs) at ≡ newestBelow g qs at
-  unfolding newestBelow
-  newest-later q qs at h = choose-no _ _ _ (le-ltb (roomOf g qs) at h)
+  room-oldest (newer {q = q} {qs = qs} o) = omega (arith, room-oldest o, room-more g q qs)
 
   module _ (ok : AcceptedTables (g .types) (g .fields) (g .variables) (g .procedures) (g .nodes) (g .statements))
       (w : ℕ) where
@@ -97,11 +84,6 @@ module _ (g : Program) where
     abbrev pub in-frame : ℕ → ℕ → Bool
     in-frame q o = objectIn g w (firstVariable (g .variables) (g .procedures) q) (claimedBy (rowAt (g .procedures) q)) o
 
-    newest-object : (q : ℕ) (qs : List ℕ) (at : ℕ) → roomOf g qs < at → objectAt g w (q ∷ qs) at
-        ≡ choose (leb (roomOf g qs + 3) at) (in-frame q (at - (roomOf g qs + 3))) false
-    unfolding objectAt
-    newest-object q qs at h = choose-yes _ _ _ (lt-ltb _ _ h)
-
     -- at or below the globals' end
     pub object-global : (qs : List ℕ) (at : ℕ) → at ≤ roomOf g []
         → objectAt g w qs at ≡ objectIn g w 0 (globalsOf (g .variables)) at
@@ -110,31 +92,16 @@ module _ (g : Program) where
     object-global (q ∷ qs) at h =
         older-yes g ok w q qs at (omega (arith, room-oldest (oldest-none qs))) ∙ object-global qs at h
 
-    -- above it: in the newest frame that begins below the address, that of procedure p at b
-    module _ (at p b : ℕ) (low : b < 65536) where
-      abbrev in-newest : Bool
-      in-newest = choose (leb (b + 3) at) (in-frame p (at - (b + 3))) false
+    -- above it: in the newest frame that begins below the address
+    frame-object : (q : ℕ) (qs : List ℕ) (at : ℕ) → roomOf g qs < at → objectAt g w (q ∷ qs) at
+        ≡ choose (leb (roomOf g qs + 3) at) (in-frame q (at - (roomOf g qs + 3))) false
+    unfolding objectAt
+    frame-object q qs at h = choose-yes _ _ _ (lt-ltb _ _ h)
 
-      newest-is : (q : ℕ) (qs : List ℕ) → roomOf g qs < at → roomOf g (q ∷ qs) ≤ 65536
-          → p * 65536 + b ≡ newestBelow g (q ∷ qs) at → objectAt g w (q ∷ qs) at ≡ in-newest
-      newest-is q qs h room is =
-          let packed : p * 65536 + b ≡ q * 65536 + roomOf g qs = is ∙ newest-here q qs at h in
-          let links = room-links q qs in
-          let base : roomOf g qs ≡ b = omega arith in
-          let procedure : q ≡ p = omega arith in
-          newest-object q qs at h ∙ rw (base, procedure) refl
-
-      pub object-newest : (q : ℕ) (qs : List ℕ) → roomOf g [] < at → roomOf g (q ∷ qs) ≤ 65536
-          → p * 65536 + b ≡ newestBelow g (q ∷ qs) at → objectAt g w (q ∷ qs) at ≡ in-newest
-      object-newest q [] least room is = newest-is q [] least room is
-      object-newest q (o ∷ qs) least room is =
-          go (decLt (roomOf g (o ∷ qs)) at) (λ r i. object-newest o qs least r i)
-        where
-          go : Dec (roomOf g (o ∷ qs) < at)
-              → (roomOf g (o ∷ qs) ≤ 65536 → p * 65536 + b ≡ newestBelow g (o ∷ qs) at
-              → objectAt g w (o ∷ qs) at ≡ in-newest)
-              → objectAt g w (q ∷ o ∷ qs) at ≡ in-newest
-          go (yes h) ih = newest-is q (o ∷ qs) h room is
-          go (no h) ih =
-              older-yes g ok w q (o ∷ qs) at (omega arith)
-              ∙ ih (omega (arith, room-links q (o ∷ qs))) (is ∙ newest-later q (o ∷ qs) at (omega arith))
+    pub object-newest : {qs : List ℕ} {store : List ℤ} {e at : ℕ} {s : Spot} → Newest g qs store e at s
+        → objectAt g w qs at ≡ choose (leb (s .base + 3) at) (in-frame (s .procedure) (at - (s .base + 3))) false
+    object-newest {at = at} {s = s} n =
+        let base = walked-base g (n .walked) in
+        n .object w at (omega arith)
+        ∙ frame-object (s .procedure) (n .older) at (omega (arith, n .below))
+        ∙ rw (← base) refl

@@ -2,3 +2,4 @@ pub mod Variables
 pub mod Halving
 pub mod Frames
 pub mod Scanning
+pub mod Finding

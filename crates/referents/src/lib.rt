@@ -8,24 +8,19 @@ ghost use lib.ListN.{length, drop};
 ghost use Rattle.image.specs.Rows.{rowAt, rowsOf};
 ghost use Rattle.frames.specs.Procedures.{firstVariable, claimedBy};
 ghost use Rattle.places.specs.Places.{frameSize};
-ghost use Rattle.semantics.specs.Layout.{Program};
 ghost use Rattle.semantics.specs.Running.{programOf};
 ghost use Rattle.objects.specs.Begins.{beginsAt};
 ghost use Rattle.objects.specs.Looking.{Typed};
 ghost use Rattle.asking.specs.Asking.{roomOf, objectAt};
 ghost use Rattle.asking.specs.State.{referenceKept, chain};
-ghost use Rattle.asking.specs.Passes.{Walked, newestBelow, variablesPass, referenceTest, referencesPass};
+ghost use Rattle.asking.specs.Passes.{Walked, variablesPass, referenceTest, referencesPass};
 ghost use Rattle.access.specs.Ready.{Planned, Ready};
 ghost use Rattle.referents.specs.Reaching.{Placed, Reached, inVariable, inPlaces};
 ghost use Rattle.referents.specs.Reading.{Lent, Framed, Stacked, Oldest};
-ghost use Rattle.referents.specs.Stub.{AllEdges, Blocks, BLOCKS, callerOf, spotOf};
+ghost use Rattle.unwinding.specs.Blocks.{BLOCKS, Blocks};
+ghost use Rattle.referents.specs.Stub.{AllEdges};
 
 // ---- STUB
-
-pub struct Spot {
-    pub procedure: u16,
-    pub base: u32,
-}
 
 fn holds(
     t: &[u8],
@@ -42,28 +37,6 @@ fn holds(
     ensures { λ x. ⌜ x ≡ beginsAt (now (t .entry)) (now (f .entry)) w r o ⌝ }
 {
     false
-}
-
-fn caller(store: &[i64], top: u32, base: u32) -> Spot
-    requires { ⌜ (top ≤ length (now store)) × (base ≤ 65536) ⌝ }
-    ensures { λ x. ⌜ x ≡ callerOf top (now (store .entry)) base ⌝ }
-{
-    Spot {
-        procedure: 0,
-        base: 0,
-    }
-}
-
-fn frame_below(store: &[i64], top: u32, blocks: &[u32], at: u32) -> Spot
-    requires { ⌜ (top ≤ length (now store)) × (BLOCKS ≤ length (now blocks)) × (1 ≤ at) × (at ≤ 65536) ⌝ }
-    ensures { λ x. ⌜ ((g : Program) (qs : List ℕ) (b e : ℕ) → Walked g qs (now (store .entry)) b e → e ≤ top
-        → rowsOf (g .procedures) ≤ 64 → Blocks g qs (now (blocks .entry)) → roomOf g [] < at
-        → x ≡ spotOf (newestBelow g qs at)) ⌝ }
-{
-    Spot {
-        procedure: 0,
-        base: 0,
-    }
 }
 
 // ---- objects in variables
@@ -187,7 +160,7 @@ fn object_at(
         let n = access::first_variable(image, plan, 0);
         return in_places(image, plan, t, f, starts, ends, w, 0, n, at);
     }
-    let frame = frame_below(store, top, blocks, at);
+    let frame = unwinding::frame_below(store, top, blocks, at);
     let q = frame.procedure;
     let base = frame.base;
     let first = access::first_variable(image, plan, q);
