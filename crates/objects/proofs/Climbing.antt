@@ -2,10 +2,12 @@
 use mathlib.Core.Path.{_≡_, refl, sym, _∙_, ap}
 use mathlib.Core.Bool.{Bool, true, false}
 use mathlib.Core.List.{List, [], _∷_, _++_, map}
-use Prim.Native.Nat.{ℕ, zero, suc, _-_, _≤_, _<_}
+use Prim.Native.Nat.{ℕ, zero, suc, _+_, _-_, _≤_, _<_}
+use native.Mathlib.Nat.{add-sub-cancel-left}
 use native.Mathlib.Omega.{arith}
 use borrow.Author.Tests.{le-leb}
 use lib.Dec.{leb}
+use lib.ListN.{length}
 use Rattle.prelude.specs.Choice.{choose}
 use Rattle.prelude.specs.Parts.{sum, Nth, Nth.here, Nth.there}
 use Rattle.prelude.proofs.Choice.{choose-yes, choose-no}
@@ -20,6 +22,7 @@ use Rattle.relations.proofs.Fielding.{fields-of, base-size}
 use Rattle.objects.specs.Begins.{partsOf, among}
 use Rattle.objects.specs.Looking.{held, Typed, Edges, LowTypes}
 use Rattle.objects.proofs.Following.{either, first-alone, among-append, among-past, among-agree}
+use Rattle.objects.proofs.Looks.{lows-more}
 use Rattle.objects.proofs.Beginning.{record-row, fields-low, based-low, parts-low}
 
 map-agree : (g h : ℕ → ℕ) (l : List ℕ) → ((n u : ℕ) → Nth l n u → g u ≡ h u) → map g l ≡ map h l
@@ -37,7 +40,7 @@ module _ {t f plan : List ℕ} (typed : Typed t f plan) where
   -- ---- sizes by the plan
 
   pub held-size : (u : ℕ) → u < rowsOf t → held plan u ≡ sizeOf t f u
-  held-size u low = typed .planned .size u low
+  held-size u low = typed .size u low
 
   pub by-plan : (deeper : ℕ → ℕ → Bool) (r o : ℕ) → r < rowsOf t
       → among deeper (held plan) (partsOf t f r) o ≡ among deeper (sizeOf t f) (partsOf t f r) o
@@ -59,10 +62,16 @@ module _ {t f plan : List ℕ} (typed : Typed t f plan) where
     on : Based t at (row .a)
     on = rw this (record-row t f kept at low kind .1 .on)
 
-    pub own-low : LowTypes f (row .b) (row .c) at
+    pub own-low : LowTypes f (row .b) (row .b + row .c) at
     own-low =
-        let own = record-row t f kept at low kind .1 .own in
-        rw this (record { each = λ j least most. field-low f at j (own .each j least most) })
+        let is = record-row t f kept at low kind .1 in
+        rw this (record {
+          within = is .within;
+          each = λ j least most. field-low f at j (is .own .each j least most);
+        })
+
+    pub own-room : LowTypes f (row .b) (row .b + row .c) (length plan)
+    own-room = lows-more (let few = typed .room in omega arith) own-low
 
     pub base-lower : 0 < row .a → (row .a - 1 < at) × (rowAt t (row .a - 1) .kind ≡ 4)
     base-lower h = go (row .a) on h
@@ -84,14 +93,14 @@ module _ {t f plan : List ℕ} (typed : Typed t f plan) where
       inner = among deeper (held plan) (ofBase [] (fieldsOf t f) (row .a)) o
 
       abbrev own : Bool
-      own = among deeper (held plan) (ownTypes f (row .b) (row .c)) (o - before)
+      own = among deeper (held plan) (ownTypes f (row .b) (row .b + row .c - row .b)) (o - before)
 
       split : among deeper (held plan) (fieldsOf t f at) o ≡ choose inner true (choose (leb before o) own false)
       split =
           let size = base-held low on in
           ap (λ l. among deeper (held plan) l o) whole
           ∙ among-append deeper (held plan) (ofBase [] (fieldsOf t f) (row .a)) (ownTypes f (row .b) (row .c)) o
-          ∙ rw (size, is)
+          ∙ rw (size, is, add-sub-cancel-left (row .b) (row .c))
 
       -- behind the base
       pub climb-own : before < o → own ≡ among deeper (held plan) (fieldsOf t f at) o

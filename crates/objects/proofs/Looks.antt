@@ -2,25 +2,21 @@
 use mathlib.Core.Path.{_≡_, refl, sym, _∙_, ap}
 use mathlib.Core.Bool.{Bool, true, false}
 use mathlib.Core.List.{List, [], _∷_}
-use mathlib.Core.Logic.{_⊎_, inl, inr, ⊎-elim}
+use mathlib.Core.Logic.{⊎-elim}
 use Prim.Native.Nat.{ℕ, zero, suc, _+_, _-_, _*_, _≤_, _<_}
 use native.Mathlib.Nat.{mul-zero, suc-mul, mul-le-mul-right}
 use native.Mathlib.Omega.{arith}
-use borrow.Author.Tests.{eq-eqb, ne-eqb}
 use denote.Enum.Declared.{tagOf}
 use types.Run.{OneOf}
 use lib.ListN.{getD, replicate}
-use Rattle.prelude.proofs.Choice.{choose-yes, choose-no, clash}
 use Rattle.prelude.proofs.Parts.{nth-replicate}
-use Rattle.image.specs.declared.Row.{Row}
 use Rattle.image.specs.Rows.{rowAt}
 use Rattle.shapes.specs.Forms.{ownTypes}
 use Rattle.shapes.proofs.Rows.{own-step, own-end}
-use Rattle.shapes.proofs.Layouts.{decide}
 use Rattle.objects.specs.Begins.{among}
 use Rattle.objects.specs.declared.Look.{Look}
 use Rattle.objects.specs.declared.Look.the-variants as Ls
-use Rattle.objects.specs.Looking.{Edges, atEdge, LowTypes, toldBy, settled, Looks}
+use Rattle.objects.specs.Looking.{Edges, LowTypes, toldBy, settled, Looks}
 use Rattle.objects.specs.Looking.{Below, Below.yes-below, Below.no-below, Below.inside-below}
 use Rattle.objects.proofs.Look.{the-type as lookType}
 use Rattle.objects.proofs.Following.{among-here, among-stop, among-next, among-past, some-among}
@@ -37,9 +33,9 @@ module _ {deeper : ℕ → ℕ → Bool} {m : ℕ} where
   unfolding settled
   looks-no e = record { answer = sym e; lower = no-below }
 
-  pub looks-inside : {b : Bool} {u o : ℕ} → u < m → b ≡ deeper u o → Looks deeper m (Ls.Inside u o) b
+  pub looks-inside : {b : Bool} {u o : ℕ} → u < m → 0 < o → b ≡ deeper u o → Looks deeper m (Ls.Inside u o) b
   unfolding settled
-  looks-inside low e = record { answer = sym e; lower = inside-below low }
+  looks-inside low some e = record { answer = sym e; lower = inside-below low some }
 
   pub looks-same : {x : Look} {b c : Bool} → b ≡ c → Looks deeper m x b → Looks deeper m x c
   looks-same e h = record { answer = h .answer ∙ e; lower = h .lower }
@@ -55,7 +51,7 @@ module _ {deeper : ℕ → ℕ → Bool} {m : ℕ} where
 below-more : {k m : ℕ} {x : Look} → k ≤ m → Below k x → Below m x
 below-more low yes-below = yes-below
 below-more low no-below = no-below
-below-more low (inside-below {u = u} l) = inside-below {u = u} (omega arith)
+below-more low (inside-below {u = u} l some) = inside-below {u = u} (omega arith) some
 
 pub looks-more : {deeper : ℕ → ℕ → Bool} {k m : ℕ} {x : Look} {b c : Bool} → k ≤ m → b ≡ c → Looks deeper k x b
     → Looks deeper m x c
@@ -63,12 +59,12 @@ looks-more low e h = record { answer = h .answer ∙ e; lower = below-more low (
 
 -- what a look that leads on says
 pub looks-on : {deeper : ℕ → ℕ → Bool} {m : ℕ} {x : Look} {b : Bool} {u o : ℕ} → x ≡ Ls.Inside u o
-    → Looks deeper m x b → (deeper u o ≡ b) × (u < m)
+    → Looks deeper m x b → (deeper u o ≡ b) × (u < m) × (0 < o)
 unfolding settled
-looks-on {m = m} {u = u} {o = o} e h = (rw e at (h .answer), go (rw e at (h .lower)))
+looks-on {m = m} {u = u} {o = o} e h = let (low, some) = go (rw e at (h .lower)) in (rw e at (h .answer), low, some)
   where
-    go : Below m (Ls.Inside u o) → u < m
-    go (inside-below l) = l
+    go : Below m (Ls.Inside u o) → (u < m) × (0 < o)
+    go (inside-below l some) = (l, some)
 
 -- one that leads nowhere comes to the same answer whatever lies deeper
 settled-by : (d : ℕ → ℕ → Bool) (x : Look) → OneOf (0 ∷ 1 ∷ []) (tagOf lookType x)
@@ -98,107 +94,77 @@ edges-less low h = record {
   past = λ u o l. h .past u o (omega arith);
 }
 
-module _ (starts ends : List Bool) (u size rest : ℕ) where
-  pub edge-start : rest ≡ 0 → atEdge starts ends u size rest ≡ getD starts u false
-  unfolding atEdge
-  edge-start first = choose-yes _ _ _ (eq-eqb rest 0 first)
+-- ---- fields, a row at a time
 
-  pub edge-end : (rest ≡ 0 → ⊥) → rest ≡ size → atEdge starts ends u size rest ≡ getD ends u false
-  unfolding atEdge
-  edge-end some last = choose-no _ _ _ (ne-eqb rest 0 some) ∙ choose-yes _ _ _ (eq-eqb rest size last)
+pub lows-later : {f : List ℕ} {k j e m : ℕ} → k ≤ j → LowTypes f k e m → LowTypes f j e m
+lows-later low h = record { within = h .within; each = λ i least more. h .each i (omega arith) more }
 
-  pub edge-none : (rest ≡ 0 → ⊥) → (rest ≡ size → ⊥) → atEdge starts ends u size rest ≡ false
-  unfolding atEdge
-  edge-none some other = choose-no _ _ _ (ne-eqb rest 0 some) ∙ choose-no _ _ _ (ne-eqb rest size other)
+pub lows-more : {f : List ℕ} {k e m n : ℕ} → m ≤ n → LowTypes f k e m → LowTypes f k e n
+lows-more low h = record {
+  within = h .within;
+  each = λ i least more. let l = h .each i least more in omega arith;
+}
 
-module _ {deeper : ℕ → ℕ → Bool} {size : ℕ → ℕ} {m : ℕ} {starts ends : List Bool}
-    (edges : Edges deeper size m starts ends) {u : ℕ} (low : u < m) (rest : ℕ) where
-  -- at an edge, or behind the end, the tables say what `deeper` does
-  edge-is : ((rest ≡ 0 → ⊥) → size u ≤ rest) → atEdge starts ends u (size u) rest ≡ deeper u rest
-  edge-is outside = go (decide rest 0) (decide rest (size u))
-    where
-      go : (rest ≡ 0) ⊎ (rest ≡ 0 → ⊥) → (rest ≡ size u) ⊎ (rest ≡ size u → ⊥)
-          → atEdge starts ends u (size u) rest ≡ deeper u rest
-      go (inl first) d =
-          edge-start starts ends u (size u) rest first ∙ edges .start u low ∙ ap (λ o. deeper u o) (sym first)
-      go (inr some) (inl last) =
-          edge-end starts ends u (size u) rest some last ∙ edges .end u low ∙ ap (λ o. deeper u o) (sym last)
-      go (inr some) (inr other) =
-          edge-none starts ends u (size u) rest some other
-          ∙ sym (edges .past u rest low (let l = outside some in omega arith))
-
-  -- where they say yes, so does it
-  edge-yes : atEdge starts ends u (size u) rest ≡ true → deeper u rest ≡ true
-  edge-yes e = go (decide rest 0) (decide rest (size u))
-    where
-      go : (rest ≡ 0) ⊎ (rest ≡ 0 → ⊥) → (rest ≡ size u) ⊎ (rest ≡ size u → ⊥) → deeper u rest ≡ true
-      go (inl first) d = sym (edge-is λ some. absurd (some first)) ∙ e
-      go (inr some) (inl last) = sym (edge-is λ x. omega arith) ∙ e
-      go (inr some) (inr other) = clash (sym e ∙ edge-none starts ends u (size u) rest some other)
-
--- ---- n fields, a row at a time
-
-module _ {deeper : ℕ → ℕ → Bool} {size : ℕ → ℕ} {m : ℕ} {starts ends : List Bool} {f : List ℕ} {k n : ℕ}
-    (edges : Edges deeper size m starts ends) (lows : LowTypes f k n m) {j : ℕ} (rest : ℕ) (least : k ≤ j)
-    (more : j < k + n) {row : Row} (this : row ≡ rowAt f j) where
-  pub turn-low : row .a < m
+module _ {deeper : ℕ → ℕ → Bool} {size : ℕ → ℕ} {m : ℕ} {starts ends : List Bool} {f : List ℕ} {k e : ℕ}
+    (edges : Edges deeper size m starts ends) (lows : LowTypes f k e m) {j : ℕ} (least : k ≤ j) (more : j < e)
+    {u : ℕ} (this : u ≡ rowAt f j .a) where
+  pub turn-low : u < m
   turn-low = rw this (lows .each j least more)
 
   abbrev here-on : ℕ → Bool
-  here-on o = among deeper size (ownTypes f j (k + n - j)) o
+  here-on o = among deeper size (ownTypes f j (e - j)) o
 
   abbrev later : ℕ → Bool
-  later o = among deeper size (ownTypes f (j + 1) (k + n - (j + 1))) o
+  later o = among deeper size (ownTypes f (j + 1) (e - (j + 1))) o
 
-  at-row : here-on rest ≡ among deeper size (row .a ∷ ownTypes f (j + 1) (k + n - (j + 1))) rest
-  at-row =
+  at-row : (rest : ℕ) → here-on rest ≡ among deeper size (u ∷ ownTypes f (j + 1) (e - (j + 1))) rest
+  at-row rest =
       ap (λ l. among deeper size l rest)
-      (own-step f j (k + n) more ∙ ap (λ (r : Row). r .a ∷ ownTypes f (j + 1) (k + n - (j + 1))) (sym this))
+      (own-step f j e more ∙ ap (λ v. v ∷ ownTypes f (j + 1) (e - (j + 1))) (sym this))
 
-  turn-here : deeper (row .a) rest ≡ true → here-on rest ≡ true
-  turn-here h = at-row ∙ among-here deeper size _ _ _ h
+  turn-here : {rest : ℕ} → deeper u rest ≡ true → here-on rest ≡ true
+  turn-here {rest} h = at-row rest ∙ among-here deeper size _ _ _ h
 
-  module _ {room : ℕ} (is : room ≡ size (row .a)) where
-    pub turn-in : rest < room → here-on rest ≡ deeper (row .a) rest
-    turn-in h = at-row ∙ among-stop deeper size _ _ _ (rw is at h)
+  module _ {room rest : ℕ} (is : room ≡ size u) where
+    pub turn-in : rest < room → here-on rest ≡ deeper u rest
+    turn-in h = at-row rest ∙ among-stop deeper size _ _ _ (rw is at h)
 
-    turn-past : deeper (row .a) rest ≡ false → room ≤ rest → here-on rest ≡ later (rest - room)
-    turn-past e h = at-row ∙ among-next deeper size _ _ _ e (rw is at h) ∙ rw is
+    turn-past : deeper u rest ≡ false → room ≤ rest → here-on rest ≡ later (rest - room)
+    turn-past q h = at-row rest ∙ among-next deeper size _ _ _ q (rw is at h) ∙ rw is
 
-    module _ {x : Bool} (edge : x ≡ atEdge starts ends (row .a) room rest) where
-      edge-of : atEdge starts ends (row .a) (size (row .a)) rest ≡ x
-      edge-of = sym (edge ∙ ap (λ s. atEdge starts ends (row .a) s rest) is)
+    -- behind the field
+    pub turn-next : room < rest → here-on rest ≡ later (rest - room)
+    turn-next h = turn-past (edges .past u rest turn-low (rw is at h)) (omega arith)
+
+    -- at its end
+    module _ (last : rest ≡ room) {x : Bool} (mark : x ≡ getD ends u false) where
+      end-deeper : deeper u rest ≡ x
+      end-deeper = ap (λ o. deeper u o) (last ∙ is) ∙ sym (mark ∙ edges .end u turn-low)
 
       pub turn-yes : x ≡ true → here-on rest ≡ true
-      turn-yes e = turn-here (edge-yes edges turn-low rest (edge-of ∙ e))
+      turn-yes q = turn-here (end-deeper ∙ q)
 
-      pub turn-no : x ≡ false → rest < room → rest ≡ 0 → here-on rest ≡ false
-      turn-no e h first =
-          turn-in h ∙ sym (edge-is edges turn-low rest λ some. absurd (some first)) ∙ edge-of ∙ e
+      pub turn-end : x ≡ false → here-on rest ≡ later 0
+      turn-end q =
+          let none : rest - room ≡ 0 = omega arith in
+          turn-past (end-deeper ∙ q) (omega arith) ∙ ap (λ o. later o) none
 
-      pub turn-next : x ≡ false → room ≤ rest → here-on rest ≡ later (rest - room)
-      turn-next e h = turn-past (sym (edge-is edges turn-low rest λ some. rw is at h) ∙ edge-of ∙ e) h
+  -- at its start
+  module _ {x : Bool} (mark : x ≡ getD starts u false) where
+    first-deeper : deeper u 0 ≡ x
+    first-deeper = sym (mark ∙ edges .start u turn-low)
 
--- the same at the start of the fields
-module _ {deeper : ℕ → ℕ → Bool} {size : ℕ → ℕ} {m : ℕ} {starts ends : List Bool} {f : List ℕ} {k n : ℕ}
-    (edges : Edges deeper size m starts ends) (lows : LowTypes f k n m) {j : ℕ} (least : k ≤ j)
-    (more : j < k + n) {row : Row} (this : row ≡ rowAt f j) {x : Bool} (mark : x ≡ getD starts (row .a) false) where
-  first-deeper : deeper (row .a) 0 ≡ x
-  first-deeper = sym (mark ∙ edges .start (row .a) (turn-low edges lows 0 least more this))
+    pub first-yes : x ≡ true → here-on 0 ≡ true
+    first-yes q = turn-here (first-deeper ∙ q)
 
-  pub first-yes : x ≡ true → among deeper size (ownTypes f j (k + n - j)) 0 ≡ true
-  first-yes e = turn-here edges lows 0 least more this (first-deeper ∙ e)
+    module _ {room : ℕ} (is : room ≡ size u) (q : x ≡ false) where
+      pub first-no : 0 < room → here-on 0 ≡ false
+      first-no h = turn-in is h ∙ first-deeper ∙ q
 
-  module _ {room : ℕ} (is : room ≡ size (row .a)) (e : x ≡ false) where
-    pub first-no : 0 < room → among deeper size (ownTypes f j (k + n - j)) 0 ≡ false
-    first-no h = turn-in edges lows 0 least more this is h ∙ first-deeper ∙ e
-
-    pub first-next : room ≤ 0 → among deeper size (ownTypes f j (k + n - j)) 0
-        ≡ among deeper size (ownTypes f (j + 1) (k + n - (j + 1))) 0
-    first-next h =
-        let same : 0 - room ≡ 0 = omega arith in
-        turn-past edges lows 0 least more this is (first-deeper ∙ e) h
-        ∙ ap (λ o. among deeper size (ownTypes f (j + 1) (k + n - (j + 1))) o) same
+      pub first-next : room ≤ 0 → here-on 0 ≡ later 0
+      first-next h =
+          let none : 0 - room ≡ 0 = omega arith in
+          turn-past is (first-deeper ∙ q) h ∙ ap (λ o. later o) none
 
 pub scan-end : (deeper : ℕ → ℕ → Bool) (size : ℕ → ℕ) (f : List ℕ) (j e o : ℕ) → e ≤ j
     → among deeper size (ownTypes f j (e - j)) o ≡ false

@@ -1,15 +1,13 @@
 -- What the functions that look for an object read and answer.
-use Prim.Native.Nat.{ℕ, _+_, _≤_, _<_}
+use Prim.Native.Nat.{ℕ, _≤_, _<_}
 use mathlib.Core.Path.{_≡_}
 use mathlib.Core.Bool.{Bool, true, false}
 use mathlib.Core.List.{List}
-use lib.Dec.{eqb}
 use lib.ListN.{length, getD}
-use Rattle.prelude.specs.Choice.{choose}
 use Rattle.image.specs.declared.Verdict.the-variants.{Kept}
 use Rattle.image.specs.Rows.{rowAt, rowsOf}
+use Rattle.shapes.specs.Sizes.{sizeOf}
 use Rattle.types.specs.Question.{question4}
-use Rattle.types.specs.Plan.{Plan}
 use Rattle.objects.specs.declared.Look.{Look}
 use Rattle.objects.specs.declared.Look.the-variants as Ls
 
@@ -19,11 +17,12 @@ use Rattle.objects.specs.declared.Look.the-variants as Ls
 abbrev pub held : List ℕ → ℕ → ℕ
 held plan r = getD plan r 0
 
--- accepted types and their plan
+-- accepted types, and a plan that holds their sizes
 pub record Typed (t f plan : List ℕ) : Type 0 where
   pub few : rowsOf t ≤ 64
   pub kept : question4 t f ≡ Kept
-  pub planned : Plan t f (rowsOf t) plan
+  pub room : rowsOf t ≤ length plan
+  pub size : (r : ℕ) → r < rowsOf t → getD plan r 0 ≡ sizeOf t f r
 
 -- two tables say of the types below row m what `deeper` says at the start and at the end of each; behind the end it
 -- says no
@@ -37,14 +36,10 @@ pub record Beyond (m : ℕ) (old table : List Bool) : Type 0 where
   pub cells : length table ≡ length old
   pub rest : (i : ℕ) → m ≤ i → getD table i false ≡ getD old i false
 
--- what the tables say `rest` cells into a part of type u and this size: no where it is no edge
-unfoldable pub atEdge : List Bool → List Bool → ℕ → ℕ → ℕ → Bool
-atEdge starts ends u size rest =
-    choose (eqb rest 0) (getD starts u false) (choose (eqb rest size) (getD ends u false) false)
-
--- n field rows from row k on have types below row m
-pub record LowTypes (f : List ℕ) (k n m : ℕ) : Type 0 where
-  pub each : (j : ℕ) → k ≤ j → j < k + n → rowAt f j .a < m
+-- rows k to e of the field table have types below row m
+pub record LowTypes (f : List ℕ) (k e m : ℕ) : Type 0 where
+  pub within : e ≤ rowsOf f
+  pub each : (j : ℕ) → k ≤ j → j < e → rowAt f j .a < m
 
 -- ---- what they answer
 
@@ -59,11 +54,11 @@ settled deeper Ls.Yes = true
 settled deeper Ls.No = false
 settled deeper (Ls.Inside u o) = deeper u o
 
--- a look leads to no type but one below row m
+-- a look leads to no type but one below row m, and into it
 pub data Below (m : ℕ) : Look → Type 0 where
   yes-below : Below m Ls.Yes
   no-below : Below m Ls.No
-  inside-below : {u o : ℕ} → u < m → Below m (Ls.Inside u o)
+  inside-below : {u o : ℕ} → u < m → 0 < o → Below m (Ls.Inside u o)
 
 -- a look comes to this answer, by types below row m
 pub record Looks (deeper : ℕ → ℕ → Bool) (m : ℕ) (x : Look) (b : Bool) : Type 0 where

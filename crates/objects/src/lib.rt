@@ -12,7 +12,13 @@ ghost use Rattle.image.specs.Rows.{rowAt, rowsOf};
 ghost use Rattle.shapes.specs.Forms.{ownTypes};
 ghost use Rattle.shapes.specs.Sizes.{fieldsOf};
 ghost use Rattle.objects.specs.Begins.{partsOf, among as amongOf, beginsAt};
-ghost use Rattle.objects.specs.Looking.{held, Typed, Edges, Beyond, atEdge, LowTypes, toldBy, settled, Looks};
+ghost use Rattle.objects.specs.Looking.{held, Typed, Edges, Beyond, LowTypes, toldBy, settled, Looks};
+ghost use Rattle.objects.specs.Tables.{TABLE, AllEdges, Besides};
+
+// A table says one thing of each type row: of all types together they have a row of places each.
+const ROWS: usize = 64;
+
+pub const TABLE: usize = ROWS * ROWS;
 
 // What a look at the parts of an object settles: one begins there, none does, or the answer is that of a part of this
 // type, so many cells into it.
@@ -43,64 +49,29 @@ fn told(b: bool) -> Look
     Look::No
 }
 
-// Whether one begins at an edge of a part of type row u and this size, `rest` cells into it.
-fn at_edge(starts: &[bool], ends: &[bool], u: u16, size: u32, rest: u32) -> bool
-    ensures { λ x. ⌜ x ≡ atEdge (now (starts .entry)) (now (ends .entry)) u size rest ⌝ }
+// The type of the field in row j.
+fn field_type(f: &[u8], j: usize) -> u16
+    requires { ⌜ j < rowsOf (now f) ⌝ }
+    ensures { λ x. ⌜ x ≡ rowAt (now (f .entry)) j .a ⌝ }
 {
-    if rest == 0 {
-        return marked(starts, u);
-    }
-    if rest == size {
-        return marked(ends, u);
-    }
-    false
+    image::number_at(f, j * 8 + 2)
 }
 
-// A look o cells into n fields from row k on.
-fn among(f: &[u8], plan: &[u32], starts: &[bool], ends: &[bool], k: u16, n: u16, o: u32) -> Look
-    ensures { λ x. ⌜ ((deeper : ℕ → ℕ → Bool) (m : ℕ)
-        → Edges deeper (held (now (plan .entry))) m (now (starts .entry)) (now (ends .entry))
-        → LowTypes (now (f .entry)) k n m
-        → Looks deeper m x (amongOf deeper (held (now (plan .entry))) (ownTypes (now (f .entry)) k n) o)) ⌝ }
-{
-    let end = (k as usize) + (n as usize);
-    let mut j = k as usize;
-    let mut rest = o;
-    while j < end {
-        let row = image::row_at(f, j);
-        let u = row.a;
-        let size = sizes::cell(plan, u as usize);
-        if at_edge(starts, ends, u, size, rest) {
-            return Look::Yes;
-        }
-        if rest < size {
-            if rest == 0 {
-                return Look::No;
-            }
-            return Look::Inside(u, rest);
-        }
-        rest = rest - size;
-        j = j + 1;
-    }
-    Look::No
-}
-
-// Whether one begins where n fields from row k on start.
-fn among_first(f: &[u8], plan: &[u32], starts: &[bool], k: u16, n: u16) -> bool
+// Whether one begins where the fields in rows k to e start.
+fn among_first(f: &[u8], plan: &[u32], starts: &[bool], k: usize, e: usize) -> bool
+    requires { ⌜ LowTypes (now f) k e (length (now plan)) ⌝ }
     ensures { λ x. ⌜ ((deeper : ℕ → ℕ → Bool) (m : ℕ) (ends : List Bool)
         → Edges deeper (held (now (plan .entry))) m (now (starts .entry)) ends
-        → LowTypes (now (f .entry)) k n m
-        → x ≡ amongOf deeper (held (now (plan .entry))) (ownTypes (now (f .entry)) k n) 0) ⌝ }
+        → LowTypes (now (f .entry)) k e m
+        → x ≡ amongOf deeper (held (now (plan .entry))) (ownTypes (now (f .entry)) k (e - k)) 0) ⌝ }
 {
-    let end = (k as usize) + (n as usize);
-    let mut j = k as usize;
-    while j < end {
-        let row = image::row_at(f, j);
-        let u = row.a;
+    let mut j = k;
+    while j < e {
+        let u = field_type(f, j);
         if marked(starts, u) {
             return true;
         }
-        let size = sizes::cell(plan, u as usize);
+        let size = plan[u as usize];
         if 0 < size {
             return false;
         }
@@ -109,17 +80,46 @@ fn among_first(f: &[u8], plan: &[u32], starts: &[bool], k: u16, n: u16) -> bool
     false
 }
 
-// Whether one begins at the seam of a base that ends `before` cells into its record and n own fields from row k on, o
-// cells into the record.
-fn at_seam(f: &[u8], plan: &[u32], starts: &[bool], k: u16, n: u16, o: u32, before: u32) -> bool
+// A look o cells into the fields in rows k to e, behind their start.
+fn among(f: &[u8], plan: &[u32], starts: &[bool], ends: &[bool], k: usize, e: usize, o: u32) -> Look
+    requires { ⌜ LowTypes (now f) k e (length (now plan)) × (0 < o) ⌝ }
+    ensures { λ x. ⌜ ((deeper : ℕ → ℕ → Bool) (m : ℕ)
+        → Edges deeper (held (now (plan .entry))) m (now (starts .entry)) (now (ends .entry))
+        → LowTypes (now (f .entry)) k e m
+        → Looks deeper m x (amongOf deeper (held (now (plan .entry))) (ownTypes (now (f .entry)) k (e - k)) o)) ⌝ }
+{
+    let mut j = k;
+    let mut rest = o;
+    while j < e {
+        let u = field_type(f, j);
+        let size = plan[u as usize];
+        if rest < size {
+            return Look::Inside(u, rest);
+        }
+        j = j + 1;
+        if rest == size {
+            if marked(ends, u) {
+                return Look::Yes;
+            }
+            return told(among_first(f, plan, starts, j, e));
+        }
+        rest = rest - size;
+    }
+    Look::No
+}
+
+// Whether one begins at the seam of a base that ends `before` cells into its record and the own fields in rows k to e,
+// o cells into the record.
+fn at_seam(f: &[u8], plan: &[u32], starts: &[bool], k: usize, e: usize, o: u32, before: u32) -> bool
+    requires { ⌜ LowTypes (now f) k e (length (now plan)) ⌝ }
     ensures { λ x. ⌜ ((deeper : ℕ → ℕ → Bool) (m : ℕ) (ends : List Bool)
         → Edges deeper (held (now (plan .entry))) m (now (starts .entry)) ends
-        → LowTypes (now (f .entry)) k n m → o ≤ before
+        → LowTypes (now (f .entry)) k e m → o ≤ before
         → x ≡ choose (leb before o)
-        (amongOf deeper (held (now (plan .entry))) (ownTypes (now (f .entry)) k n) (o - before)) false) ⌝ }
+        (amongOf deeper (held (now (plan .entry))) (ownTypes (now (f .entry)) k (e - k)) (o - before)) false) ⌝ }
 {
     if o == before {
-        return among_first(f, plan, starts, k, n);
+        return among_first(f, plan, starts, k, e);
     }
     false
 }
@@ -136,13 +136,13 @@ fn fields(t: &[u8], f: &[u8], plan: &[u32], starts: &[bool], ends: &[bool], r: u
     loop {
         let row = image::row_at(t, at);
         let a = row.a;
-        let b = row.b;
-        let c = row.c;
+        let first = row.b as usize;
+        let past = first + (row.c as usize);
         let before = sizes::base_size(plan, a);
         if before < o {
-            return among(f, plan, starts, ends, b, c, o - before);
+            return among(f, plan, starts, ends, first, past, o - before);
         }
-        if at_seam(f, plan, starts, b, c, o, before) {
+        if at_seam(f, plan, starts, first, past, o, before) {
             return Look::Yes;
         }
         if a == 0 {
@@ -230,29 +230,17 @@ fn is_yes(x: Look) -> bool
     }
 }
 
-// Whether an object declared with type w begins o cells into one of type row r: the tables are those of w, for the rows
-// up to r.
-pub fn holds(
-    t: &[u8],
-    f: &[u8],
-    plan: &[u32],
-    starts: &[bool],
-    ends: &[bool],
-    r: u16,
-    o: u32,
-) -> bool
+// Whether one begins o cells into the parts of type row r, at any depth.
+fn reached(t: &[u8], f: &[u8], plan: &[u32], starts: &[bool], ends: &[bool], r: u16, o: u32) -> bool
     requires { ⌜ Typed (now t) (now f) (now plan) × (r < rowsOf (now t)) ⌝ }
-    ensures { λ x. ⌜ ((w m : ℕ) → r < m → m ≤ rowsOf (now (t .entry))
-        → Edges (beginsAt (now (t .entry)) (now (f .entry)) w) (held (now (plan .entry))) m
+    ensures { λ x. ⌜ ((w : ℕ) → Edges (beginsAt (now (t .entry)) (now (f .entry)) w) (held (now (plan .entry))) r
         (now (starts .entry)) (now (ends .entry))
-        → x ≡ beginsAt (now (t .entry)) (now (f .entry)) w r o) ⌝ }
+        → x ≡ amongOf (beginsAt (now (t .entry)) (now (f .entry)) w) (held (now (plan .entry)))
+        (partsOf (now (t .entry)) (now (f .entry)) r) o) ⌝ }
 {
     let mut at = r;
     let mut into = o;
     loop {
-        if into == 0 {
-            return marked(starts, at);
-        }
         let look = parts(t, f, plan, starts, ends, at, into);
         let Look::Inside(u, x) = look else {
             return is_yes(look);
@@ -275,7 +263,8 @@ fn is_itself(r: u16, w: u16, o: u32) -> bool
     o == 0
 }
 
-// The same as `holds`, by tables that have the rows below r only.
+// Whether an object declared with type w begins o cells into one of type row r: the tables are those of w, for the rows
+// below r.
 fn begun(
     t: &[u8],
     f: &[u8],
@@ -294,18 +283,11 @@ fn begun(
     if is_itself(r, w, o) {
         return true;
     }
-    let look = parts(t, f, plan, starts, ends, r, o);
-    let Look::Inside(u, x) = look else {
-        return is_yes(look);
-    };
-    if r <= u {
-        return false;
-    }
-    holds(t, f, plan, starts, ends, u, x)
+    reached(t, f, plan, starts, ends, r, o)
 }
 
 // Fills the tables of type w: whether one declared with it begins at the start of each type row, and at its end.
-pub fn fill(t: &[u8], f: &[u8], plan: &[u32], w: u16, starts: &mut [bool], ends: &mut [bool])
+fn fill(t: &[u8], f: &[u8], plan: &[u32], w: u16, starts: &mut [bool], ends: &mut [bool])
     requires { ⌜ Typed (now t) (now f) (now plan) × (rowsOf (now t) ≤ length (now starts))
         × (rowsOf (now t) ≤ length (now ends)) ⌝ }
     ensures { λ x. ⌜ Edges (beginsAt (now (t .entry)) (now (f .entry)) w) (held (now (plan .entry)))
@@ -324,4 +306,49 @@ pub fn fill(t: &[u8], f: &[u8], plan: &[u32], w: u16, starts: &mut [bool], ends:
         ends[r] = last;
         r = r + 1;
     }
+}
+
+// Fills the tables of every type.
+pub fn fill_all(t: &[u8], f: &[u8], plan: &[u32], starts: &mut [bool], ends: &mut [bool])
+    requires { ⌜ Typed (now t) (now f) (now plan) × (TABLE ≤ length (now starts)) × (TABLE ≤ length (now ends)) ⌝ }
+    ensures { λ x. ⌜ AllEdges (now (t .entry)) (now (f .entry)) (now (plan .entry)) (now (starts .exit))
+        (now (ends .exit)) ⌝ }
+    ensures starts { λ x. ⌜ Besides (rowsOf (now (t .entry))) (rowsOf (now (t .entry))) (now (starts .entry)) (now (starts .exit)) ⌝ }
+    ensures ends { λ x. ⌜ Besides (rowsOf (now (t .entry))) (rowsOf (now (t .entry))) (now (ends .entry)) (now (ends .exit)) ⌝ }
+{
+    let rows = image::rows_of(t);
+    let mut w: usize = 0;
+    while w < rows {
+        let from = w * ROWS;
+        fill(t, f, plan, w as u16, &mut starts[from..], &mut ends[from..]);
+        w = w + 1;
+    }
+}
+
+// Whether an object declared with type w begins o cells into one of type row r.
+pub fn holds(
+    t: &[u8],
+    f: &[u8],
+    plan: &[u32],
+    starts: &[bool],
+    ends: &[bool],
+    w: u16,
+    r: u16,
+    o: u32,
+) -> bool
+    requires { ⌜ Typed (now t) (now f) (now plan) × AllEdges (now t) (now f) (now plan) (now starts) (now ends)
+        × (w < rowsOf (now t)) × (r < rowsOf (now t)) ⌝ }
+    ensures { λ x. ⌜ x ≡ beginsAt (now (t .entry)) (now (f .entry)) w r o ⌝ }
+{
+    let from = (w as usize) * ROWS;
+    let first = &starts[from..];
+    if o == 0 {
+        return marked(first, r);
+    }
+    let last = &ends[from..];
+    let size = sizes::cell(plan, r as usize);
+    if o == size {
+        return marked(last, r);
+    }
+    reached(t, f, plan, first, last, r, o)
 }

@@ -1,101 +1,109 @@
 use denote.Ref.{now}
-use mathlib.Core.Path.{_≡_, _∙_}
+use mathlib.Core.Path.{_≡_, refl, sym, _∙_}
 use mathlib.Core.Bool.{Bool}
-use Prim.Native.Nat.{ℕ, _+_, _-_, _≤_}
-use native.Mathlib.Nat.{add-sub-cancel-left}
+use Prim.Native.Nat.{ℕ, _-_, _≤_, _<_}
 use native.Mathlib.Omega.{arith}
 use borrow.Author.Needs.{needs}
 use Rattle.shapes.specs.Forms.{ownTypes}
 use Rattle.objects.specs.Begins.{among}
 use Rattle.objects.specs.Looking.{held, Edges, LowTypes}
-use Rattle.objects.proofs.Looks.{looks-yes, looks-no, looks-inside, turn-low, turn-yes, turn-no, turn-in}
-use Rattle.objects.proofs.Looks.{turn-next, scan-end}
+use Rattle.objects.proofs.Looks.{looks-yes, looks-no, looks-inside, looks-told, lows-later, turn-low, turn-yes}
+use Rattle.objects.proofs.Looks.{turn-end, turn-in, turn-next, scan-end}
 use Rattle.objects.proofs.among.Statement.{statement}
 use Rattle.objects.proofs.among.Tie as tie
 use Rattle.objects.proofs.among.Reads as reads
 use Rattle.objects.proofs.among.Lts as lts
-use Rattle.image.proofs.row_at.Reads as row-at-reads
-use Rattle.objects.proofs.at_edge.Reads as at-edge-reads
-use Rattle.sizes.proofs.cell.Reads as cell-reads
+use Rattle.objects.proofs.among_first.Reads as among-first-reads
+use Rattle.objects.proofs.field_type.Reads as field-type-reads
+use Rattle.objects.proofs.marked.Reads as marked-reads
+use Rattle.objects.proofs.told.Reads as told-reads
 
 abbrev Inv-loop : tie.InvT-loop
-Inv-loop f plan starts ends k n o end j₀ rest₀ j rest = (k ≤ j) × (j ≤ end)
-    × ((deeper : ℕ → ℕ → Bool) (m : ℕ) → Edges deeper (held plan) m starts ends → LowTypes f k n m
-    → among deeper (held plan) (ownTypes f k n) o ≡ among deeper (held plan) (ownTypes f j (end - j)) rest)
+Inv-loop f plan starts ends k e o j₀ rest₀ j rest = (k ≤ j) × (0 < rest)
+    × ((deeper : ℕ → ℕ → Bool) (m : ℕ) → Edges deeper (held plan) m starts ends → LowTypes f k e m
+    → among deeper (held plan) (ownTypes f k (e - k)) o ≡ among deeper (held plan) (ownTypes f j (e - j)) rest)
 
 abbrev μ-loop : tie.MeasureT-loop
-μ-loop f plan starts ends k n o end j₀ rest₀ j rest = end - j
-
-add-end : tie.Need-add-end Inv-loop μ-loop
-add-end c = omega arith
+μ-loop f plan starts ends k e o j₀ rest₀ j rest = e - j
 
 loop-holds : tie.Need-loop-holds Inv-loop μ-loop
-loop-holds c = let a = c .before .before .before .before .args in
-    (omega arith, omega arith, λ deeper m edges lows. rw (add-sub-cancel-left (a .k) (a .n)))
+loop-holds c = (omega arith, c .before .before .before .before .pre .1, λ deeper m edges lows. refl)
 
-row-at-requires : tie.Need-row-at-requires Inv-loop μ-loop
-row-at-requires c κs = search needs
+field-type-requires : tie.Need-field-type-requires Inv-loop μ-loop
+field-type-requires c κs = let rows = c .before .before .before .before .before .before .pre .0 .within in
+    omega (arith, rows, c .loop-test .taken)
 
-cast-cell : tie.Need-cast-cell Inv-loop μ-loop
-cast-cell c = search needs
+cast-size : tie.Need-cast-size Inv-loop μ-loop
+cast-size c = search needs
 
-cell-requires : tie.Need-cell-requires Inv-loop μ-loop
-cell-requires c κs = search needs
+mul-size : tie.Need-mul-size Inv-loop μ-loop
+mul-size c = search needs
 
-at-edge-requires : tie.Need-at-edge-requires Inv-loop μ-loop
-at-edge-requires c κs = search needs
+shared-slice-read-size : tie.Need-shared-slice-read-size Inv-loop μ-loop
+shared-slice-read-size c = let l = c .before .before .before .loop in
+    let s = c .before .before .before .before .before .before .before .before in
+    rw (c .before .field-type .ensures)
+    (s .pre .0 .each (l .j) (l .inv .0) (c .before .before .loop-test .taken))
 
 returns : tie.Need-returns Inv-loop μ-loop
-returns c = let l = c .before .before .before .before .before .loop in
+returns c = let l = c .before .before .before .before .loop in
+    let more = c .before .before .before .loop-test .taken in
+    let this = c .before .before .field-type .ensures in
     λ deeper m edges lows.
-    let yes = turn-yes edges lows (l .rest) (l .inv .0) (c .before .before .before .before .loop-test .taken)
-    (c .before .before .before .row-at .ensures)
-    (c .before .before .cell .ensures) (c .before .at-edge .ensures) (c .if1 .taken) in
-    looks-yes (l .inv .2 deeper m edges lows ∙ yes)
-
-returns-2 : tie.Need-returns-2 Inv-loop μ-loop
-returns-2 c = let l = c .before .before .before .before .before .before .before .loop in
-    λ deeper m edges lows.
-    let no = turn-no edges lows (l .rest) (l .inv .0)
-    (c .before .before .before .before .before .before .loop-test .taken)
-    (c .before .before .before .before .before .row-at .ensures)
-    (c .before .before .before .before .cell .ensures) (c .before .before .before .at-edge .ensures)
-    (c .before .before .if1 .left) (c .before .if2 .taken) (c .if3 .taken) in
-    looks-no (l .inv .2 deeper m edges lows ∙ no)
-
-returns-3 : tie.Need-returns-3 Inv-loop μ-loop
-returns-3 c = let l = c .before .before .before .before .before .before .before .loop in
-    let more = c .before .before .before .before .before .before .loop-test .taken in
-    let row = c .before .before .before .before .before .row-at .ensures in
-    λ deeper m edges lows.
-    let inside = turn-in edges lows (l .rest) (l .inv .0) more row (c .before .before .before .before .cell .ensures)
-    (c .before .if2 .taken) in
-    looks-inside (turn-low edges lows (l .rest) (l .inv .0) more row) (l .inv .2 deeper m edges lows ∙ inside)
+    looks-inside (turn-low edges lows (l .inv .0) more this) (l .inv .1)
+    (l .inv .2 deeper m edges lows ∙ turn-in edges lows (l .inv .0) more this refl (c .if1 .taken))
 
 add-j : tie.Need-add-j Inv-loop μ-loop
 add-j c = omega arith
+
+marked-requires : tie.Need-marked-requires Inv-loop μ-loop
+marked-requires c κs = search needs
+
+returns-2 : tie.Need-returns-2 Inv-loop μ-loop
+returns-2 c = let l = c .before .before .before .before .before .before .before .loop in
+    let more = c .before .before .before .before .before .before .loop-test .taken in
+    let this = c .before .before .before .before .before .field-type .ensures in
+    λ deeper m edges lows.
+    looks-yes (l .inv .2 deeper m edges lows ∙ turn-yes edges lows (l .inv .0) more this refl
+    (c .before .before .if2 .taken) (c .before .marked .ensures) (c .if3 .taken))
+
+among-first-requires : tie.Need-among-first-requires Inv-loop μ-loop
+among-first-requires c κs = let l = c .before .before .before .before .before .before .before .loop in
+    let s = c .before .before .before .before .before .before .before .before .before .before .before .before in
+    lows-later (let least = l .inv .0 in omega arith) (s .pre .0)
+
+told-requires : tie.Need-told-requires Inv-loop μ-loop
+told-requires c κs = search needs
+
+returns-3 : tie.Need-returns-3 Inv-loop μ-loop
+returns-3 c = let l = c .before .before .before .before .before .before .before .before .before .loop in
+    let more = c .before .before .before .before .before .before .before .before .loop-test .taken in
+    let this = c .before .before .before .before .before .before .before .field-type .ensures in
+    λ deeper m edges lows.
+    let first = c .before .among-first .ensures deeper m _ edges
+    (lows-later (let least = l .inv .0 in omega arith) lows) in
+    looks-told (c .told .ensures) (first ∙ sym (l .inv .2 deeper m edges lows
+    ∙ turn-end edges lows (l .inv .0) more this refl (c .before .before .before .before .if2 .taken)
+    (c .before .before .before .marked .ensures) (c .before .before .if3 .left)))
 
 loop-less : tie.Need-loop-less Inv-loop μ-loop
 loop-less c = omega arith
 
 loop-again : tie.Need-loop-again Inv-loop μ-loop
-loop-again c = let l = c .before .before .before .before .before .before .loop in (
+loop-again c = let l = c .before .before .before .before .before .loop in (
   omega arith,
   omega arith,
   λ deeper m edges lows. l .inv .2 deeper m edges lows
-      ∙ turn-next edges lows (l .rest) (l .inv .0) (c .before .before .before .before .before .loop-test .taken)
-      (c .before .before .before .before .row-at .ensures)
-      (c .before .before .before .cell .ensures) (c .before .before .at-edge .ensures) (c .before .if1 .left)
-      (c .if2 .left),
+      ∙ turn-next edges lows (l .inv .0) (c .before .before .before .before .loop-test .taken)
+      (c .before .before .before .field-type .ensures) refl (omega arith),
 )
 
 returns-4 : tie.Need-returns-4 Inv-loop μ-loop
 returns-4 c = let a = c .before .before .before .before .before .before .args in
     let l = c .before .loop in
     λ deeper m edges lows.
-    let none = scan-end deeper (held (now (a .plan))) (now (a .f)) (l .j) (a .k + a .n) (l .rest)
-    (c .loop-test .left) in
-    looks-no (l .inv .2 deeper m edges lows ∙ none)
+    looks-no (l .inv .2 deeper m edges lows
+    ∙ scan-end deeper (held (now (a .plan))) (now (a .f)) (l .j) (a .e) (l .rest) (c .loop-test .left))
 
 pub among-spec : {M : Type 1} → statement M
 among-spec =
@@ -103,16 +111,18 @@ among-spec =
     (tie.spec
     Inv-loop
     μ-loop
-    add-end
     loop-holds
-    row-at-requires
-    cast-cell
-    cell-requires
-    at-edge-requires
+    field-type-requires
+    cast-size
+    mul-size
+    shared-slice-read-size
     returns
-    returns-2
-    returns-3
     add-j
+    marked-requires
+    returns-2
+    among-first-requires
+    told-requires
+    returns-3
     loop-less
     loop-again
     returns-4)

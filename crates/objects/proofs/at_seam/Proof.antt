@@ -23,7 +23,7 @@ returns c = let a = c .before .before .before .before .before .args in
     let none : a .o - a .before ≡ 0 = omega arith in
     c .among-first .ensures deeper m ends edges lows
     ∙ sym (choose-yes _ _ _ (le-leb (a .before) (a .o) (omega arith))
-    ∙ ap (λ o. among deeper (held (now (a .plan))) (ownTypes (now (a .f)) (a .k) (a .n)) o) none)
+    ∙ ap (λ o. among deeper (held (now (a .plan))) (ownTypes (now (a .f)) (a .k) (a .e - a .k)) o) none)
 
 returns-2 : tie.Need-returns-2
 returns-2 c = let a = c .before .before .before .before .args in

@@ -63,7 +63,7 @@ returns-4 : tie.Need-returns-4
 returns-4 c = let a = c .before .before .before .before .before .before .before .args in
     let size = c .before .before .before .cell .result in
     λ deeper m edges low least.
-    looks-inside low (parted-inside edges low (a .n) (c .before .before .before .cell .ensures) (a .o / size)
+    looks-inside low (omega arith) (parted-inside edges low (a .n) (c .before .before .before .cell .ensures) (a .o / size)
     (a .o % size) (omega arith)
     (div-add-mod' (a .o) size) (c .before .if3 .left) (mod-lt (a .o) (omega arith)) (c .if4 .taken))
 

@@ -3,12 +3,13 @@ use mathlib.Core.Path.{_≡_, refl, sym, _∙_}
 use mathlib.Core.Bool.{Bool}
 use Prim.Native.Nat.{ℕ, _≤_}
 use native.Mathlib.Omega.{arith}
-use Rattle.shapes.specs.Sizes.{fieldsOf}
 use Rattle.image.specs.Rows.{rowAt}
+use Rattle.shapes.specs.Sizes.{fieldsOf}
 use Rattle.objects.specs.Begins.{among}
 use Rattle.objects.specs.Looking.{held, Edges}
 use Rattle.objects.proofs.Looks.{looks-yes, looks-no, looks-more, edges-less}
-use Rattle.objects.proofs.Climbing.{in-table, own-low, base-lower, climb-own, climb-yes, climb-none, climb-up}
+use Rattle.objects.proofs.Climbing.{in-table, own-low, own-room, base-lower, climb-own, climb-yes, climb-none}
+use Rattle.objects.proofs.Climbing.{climb-up}
 use Rattle.objects.proofs.fields.Statement.{statement}
 use Rattle.objects.proofs.fields.Tie as tie
 use Rattle.objects.proofs.fields.Reads as reads
@@ -32,6 +33,15 @@ loop-holds c = (omega arith, c .before .before .before .before .before .pre .2, 
 row-at-requires : tie.Need-row-at-requires Inv-loop μ-loop
 row-at-requires c κs = search needs
 
+cast-first : tie.Need-cast-first Inv-loop μ-loop
+cast-first c = search needs
+
+cast-past : tie.Need-cast-past Inv-loop μ-loop
+cast-past c = search needs
+
+add-past : tie.Need-add-past Inv-loop μ-loop
+add-past c = search needs
+
 base-size-requires : tie.Need-base-size-requires Inv-loop μ-loop
 base-size-requires c κs = search needs
 
@@ -39,13 +49,19 @@ sub-among : tie.Need-sub-among Inv-loop μ-loop
 sub-among c = omega arith
 
 among-requires : tie.Need-among-requires Inv-loop μ-loop
-among-requires c κs = search needs
+among-requires c κs = let n = c .before .before .before .before .before in
+    let l = n .loop in
+    let s = n .before .before .before .before .before .before in (
+      own-room (s .pre .0) (l .at) (in-table (s .pre .1) (l .inv .0)) (l .inv .1)
+          (c .before .before .before .before .row-at .ensures),
+      omega arith,
+    )
 
 returns : tie.Need-returns Inv-loop μ-loop
-returns c = let n = c .before .before .before .before in
+returns c = let n = c .before .before .before .before .before .before in
     let l = n .loop in
     let s = n .before .before .before .before .before .before in
-    let row = c .before .before .before .row-at .ensures in
+    let row = c .before .before .before .before .before .row-at .ensures in
     let low = in-table (s .pre .1) (l .inv .0) in
     λ deeper edges.
     let own = own-low (s .pre .0) (l .at) low (l .inv .1) row in
@@ -56,13 +72,17 @@ returns c = let n = c .before .before .before .before in
     (c .among .ensures deeper (l .at) (edges-less (l .inv .0) edges) own)
 
 at-seam-requires : tie.Need-at-seam-requires Inv-loop μ-loop
-at-seam-requires c κs = search needs
-
-returns-2 : tie.Need-returns-2 Inv-loop μ-loop
-returns-2 c = let n = c .before .before .before .before .before in
+at-seam-requires c κs = let n = c .before .before .before .before .before in
     let l = n .loop in
     let s = n .before .before .before .before .before .before in
-    let row = c .before .before .before .before .row-at .ensures in
+    own-room (s .pre .0) (l .at) (in-table (s .pre .1) (l .inv .0)) (l .inv .1)
+    (c .before .before .before .before .row-at .ensures)
+
+returns-2 : tie.Need-returns-2 Inv-loop μ-loop
+returns-2 c = let n = c .before .before .before .before .before .before .before in
+    let l = n .loop in
+    let s = n .before .before .before .before .before .before in
+    let row = c .before .before .before .before .before .before .row-at .ensures in
     let low = in-table (s .pre .1) (l .inv .0) in
     λ deeper edges.
     let own = own-low (s .pre .0) (l .at) low (l .inv .1) row in
@@ -72,10 +92,10 @@ returns-2 c = let n = c .before .before .before .before .before in
     (c .before .before .before .base-size .ensures) (s .args .o) seam (c .if2 .taken))
 
 returns-3 : tie.Need-returns-3 Inv-loop μ-loop
-returns-3 c = let n = c .before .before .before .before .before .before in
+returns-3 c = let n = c .before .before .before .before .before .before .before .before in
     let l = n .loop in
     let s = n .before .before .before .before .before .before in
-    let row = c .before .before .before .before .before .row-at .ensures in
+    let row = c .before .before .before .before .before .before .before .row-at .ensures in
     let low = in-table (s .pre .1) (l .inv .0) in
     λ deeper edges.
     let own = own-low (s .pre .0) (l .at) low (l .inv .1) row in
@@ -91,18 +111,18 @@ sub-at : tie.Need-sub-at Inv-loop μ-loop
 sub-at c = omega arith
 
 loop-less : tie.Need-loop-less Inv-loop μ-loop
-loop-less c = let n = c .before .before .before .before .before .before in
+loop-less c = let n = c .before .before .before .before .before .before .before .before in
     let l = n .loop in
     let s = n .before .before .before .before .before .before in
     let low = in-table (s .pre .1) (l .inv .0) in
-    base-lower (s .pre .0) (l .at) low (l .inv .1) (c .before .before .before .before .before .row-at .ensures)
+    base-lower (s .pre .0) (l .at) low (l .inv .1) (c .before .before .before .before .before .before .before .row-at .ensures)
     (omega arith) .0
 
 loop-again : tie.Need-loop-again Inv-loop μ-loop
-loop-again c = let n = c .before .before .before .before .before .before in
+loop-again c = let n = c .before .before .before .before .before .before .before .before in
     let l = n .loop in
     let s = n .before .before .before .before .before .before in
-    let row = c .before .before .before .before .before .row-at .ensures in
+    let row = c .before .before .before .before .before .before .before .row-at .ensures in
     let low = in-table (s .pre .1) (l .inv .0) in
     let (lower, kind) = base-lower (s .pre .0) (l .at) low (l .inv .1) row (omega arith) in (
       omega arith,
@@ -124,6 +144,9 @@ fields-spec =
     μ-loop
     loop-holds
     row-at-requires
+    cast-first
+    cast-past
+    add-past
     base-size-requires
     sub-among
     among-requires

@@ -1,100 +1,88 @@
-use borrow.Author.Needs.{needs}
-use mathlib.Core.Path.{_≡_, refl, sym, _∙_}
-use Prim.Native.Nat.{ℕ, _≤_, _<_}
+use mathlib.Core.Path.{sym, _∙_}
 use native.Mathlib.Omega.{arith}
-use Rattle.image.specs.Rows.{rowsOf}
-use Rattle.objects.specs.Begins.{beginsAt}
-use Rattle.objects.specs.Looking.{held, Edges}
-use Rattle.objects.proofs.Looks.{edges-less, looks-on, looks-end}
-use Rattle.objects.proofs.Climbing.{in-table}
+use borrow.Author.Needs.{needs}
+use Rattle.objects.proofs.Looks.{edges-less}
 use Rattle.objects.proofs.Deciding.{by-inner}
+use Rattle.objects.proofs.Tabling.{lent-within, lent-edges}
 use Rattle.objects.proofs.holds.Statement.{statement}
 use Rattle.objects.proofs.holds.Tie as tie
 use Rattle.objects.proofs.holds.Reads as reads
 use Rattle.objects.proofs.holds.Lts as lts
-use Rattle.objects.proofs.is_yes.Reads as is-yes-reads
 use Rattle.objects.proofs.marked.Reads as marked-reads
-use Rattle.objects.proofs.parts.Reads as parts-reads
+use Rattle.objects.proofs.reached.Reads as reached-reads
+use Rattle.sizes.proofs.cell.Reads as cell-reads
 
-abbrev Inv-loop : tie.InvT-loop
-Inv-loop t f plan starts ends r o at₀ into₀ at into = (at ≤ r)
-    × ((w m : ℕ) → r < m → m ≤ rowsOf t → Edges (beginsAt t f w) (held plan) m starts ends
-    → beginsAt t f w r o ≡ beginsAt t f w at into)
+mul-from : tie.Need-mul-from
+mul-from c = search needs
 
-abbrev μ-loop : tie.MeasureT-loop
-μ-loop t f plan starts ends r o at₀ into₀ at into = at
+sub-first : tie.Need-sub-first
+sub-first c = let s = c .before .before .before .before .before in
+    lent-within (s .pre .2) (s .pre .0 .few) (s .pre .1 .starting)
 
-loop-holds : tie.Need-loop-holds Inv-loop μ-loop
-loop-holds c = (omega arith, λ w m a b edges. refl)
+part-first-start : tie.Need-part-first-start
+part-first-start c = let s = c .before .before .before .before .before in
+    lent-within (s .pre .2) (s .pre .0 .few) (s .pre .1 .starting)
 
-marked-requires : tie.Need-marked-requires Inv-loop μ-loop
+part-first-end : tie.Need-part-first-end
+part-first-end c = search needs
+
+marked-requires : tie.Need-marked-requires
 marked-requires c κs = search needs
 
-returns : tie.Need-returns Inv-loop μ-loop
-returns c = let n = c .before .before in
-    let l = n .loop in
-    let s = n .before .before .before .before .before .before in
-    λ w m a b edges. c .marked .ensures ∙ edges .start (l .at) (omega arith)
-    ∙ sym (l .inv .1 w m a b edges ∙ rw (c .before .if1 .taken))
+returns : tie.Need-returns
+returns c = let s = c .before .before .before .before .before .before .before .before in
+    let edges = lent-edges (s .args .w) (s .pre .1) (s .pre .2) in
+    c .marked .ensures ∙ edges .start (s .args .r) (s .pre .3) ∙ rw (c .before .if1 .taken)
 
-parts-requires : tie.Need-parts-requires Inv-loop μ-loop
-parts-requires c κs = let s = c .before .before .before .before .before .before .before in
-    let l = c .before .loop in
-    (s .pre .0, in-table (s .pre .1) (l .inv .0))
+sub-last : tie.Need-sub-last
+sub-last c = let s = c .before .before .before .before .before .before .before in
+    lent-within (s .pre .2) (s .pre .0 .few) (s .pre .1 .ending)
 
-enum-known-look : tie.Need-enum-known-look Inv-loop μ-loop
-enum-known-look c = search needs
+part-last-start : tie.Need-part-last-start
+part-last-start c = let s = c .before .before .before .before .before .before .before in
+    lent-within (s .pre .2) (s .pre .0 .few) (s .pre .1 .ending)
 
-is-yes-requires : tie.Need-is-yes-requires Inv-loop μ-loop
-is-yes-requires c κs = search needs
+part-last-end : tie.Need-part-last-end
+part-last-end c = search needs
 
-returns-2 : tie.Need-returns-2 Inv-loop μ-loop
-returns-2 c = let n = c .before .before .before .before in
-    let l = n .loop in
-    let s = n .before .before .before .before .before .before in
-    let low = in-table (s .pre .1) (l .inv .0) in
-    λ w m a b edges.
-    let look = c .before .before .parts .ensures _ (edges-less (omega arith) edges) in
-    looks-end (c .is-yes .ensures) (c .before .match .keys2) look
-    ∙ sym (l .inv .1 w m a b edges ∙ by-inner (s .pre .0) w (l .at) low (l .into)
-    (c .before .before .before .if1 .left))
+cell-requires : tie.Need-cell-requires
+cell-requires c κs = search needs
 
-returns-3 : tie.Need-returns-3 Inv-loop μ-loop
-returns-3 c = let l = c .before .before .before .before .before .before .loop in
-    λ w m a b edges.
-    let look = c .before .before .before .before .parts .ensures _ (edges-less (omega arith) edges) in
-    let (same, less) = looks-on (c .before .before .look .given .1) look in
-    absurd (omega arith)
+marked-requires-2 : tie.Need-marked-requires-2
+marked-requires-2 c κs = search needs
 
-loop-less : tie.Need-loop-less Inv-loop μ-loop
-loop-less c = omega arith
+returns-2 : tie.Need-returns-2
+returns-2 c = let s = c .before .before .before .before .before .before .before .before .before .before .before in
+    let edges = lent-edges (s .args .w) (s .pre .1) (s .pre .2) in
+    c .marked2 .ensures ∙ edges .end (s .args .r) (s .pre .3)
+    ∙ rw (c .before .if2 .taken, c .before .before .cell .ensures)
 
-loop-again : tie.Need-loop-again Inv-loop μ-loop
-loop-again c = let n = c .before .before .before .before .before .before in
-    let l = n .loop in
-    let s = n .before .before .before .before .before .before in
-    let low = in-table (s .pre .1) (l .inv .0) in (
-      omega arith,
-      λ w m a b edges.
-          let look = c .before .before .before .before .parts .ensures _ (edges-less (omega arith) edges) in
-          let (same, less) = looks-on (c .before .before .look .given .1) look in
-          l .inv .1 w m a b edges ∙ by-inner (s .pre .0) w (l .at) low (l .into)
-          (c .before .before .before .before .before .if1 .left) ∙ sym same,
-    )
+reached-requires : tie.Need-reached-requires
+reached-requires c κs = let s = c .before .before .before .before .before .before .before .before .before .before in
+    (s .pre .0, s .pre .3)
+
+returns-3 : tie.Need-returns-3
+returns-3 c = let s = c .before .before .before .before .before .before .before .before .before .before .before in
+    let edges = lent-edges (s .args .w) (s .pre .1) (s .pre .2) in
+    c .reached .ensures (s .args .w) (edges-less (let low = s .pre .3 in omega arith) edges)
+    ∙ sym (by-inner (s .pre .0) (s .args .w) (s .args .r) (s .pre .3) (s .args .o)
+    (c .before .before .before .before .if1 .left))
 
 pub holds-spec : {M : Type 1} → statement M
 holds-spec =
     tie.close
     (tie.spec
-    Inv-loop
-    μ-loop
-    loop-holds
+    mul-from
+    sub-first
+    part-first-start
+    part-first-end
     marked-requires
     returns
-    parts-requires
-    enum-known-look
-    is-yes-requires
+    sub-last
+    part-last-start
+    part-last-end
+    cell-requires
+    marked-requires-2
     returns-2
-    returns-3
-    loop-less
-    loop-again)
+    reached-requires
+    returns-3)

@@ -1,0 +1,79 @@
+use borrow.Author.Needs.{needs}
+use mathlib.Core.Path.{_≡_, refl, sym, _∙_}
+use Prim.Native.Nat.{ℕ, _≤_}
+use native.Mathlib.Omega.{arith}
+use Rattle.objects.specs.Begins.{partsOf, among, beginsAt}
+use Rattle.objects.specs.Looking.{held, Edges}
+use Rattle.objects.proofs.Looks.{edges-less, looks-on, looks-end}
+use Rattle.objects.proofs.Climbing.{in-table}
+use Rattle.objects.proofs.Deciding.{by-inner}
+use Rattle.objects.proofs.reached.Statement.{statement}
+use Rattle.objects.proofs.reached.Tie as tie
+use Rattle.objects.proofs.reached.Reads as reads
+use Rattle.objects.proofs.reached.Lts as lts
+use Rattle.objects.proofs.is_yes.Reads as is-yes-reads
+use Rattle.objects.proofs.parts.Reads as parts-reads
+
+abbrev Inv-loop : tie.InvT-loop
+Inv-loop t f plan starts ends r o at₀ into₀ at into = (at ≤ r)
+    × ((w : ℕ) → Edges (beginsAt t f w) (held plan) r starts ends
+    → among (beginsAt t f w) (held plan) (partsOf t f r) o ≡ among (beginsAt t f w) (held plan) (partsOf t f at) into)
+
+abbrev μ-loop : tie.MeasureT-loop
+μ-loop t f plan starts ends r o at₀ into₀ at into = at
+
+loop-holds : tie.Need-loop-holds Inv-loop μ-loop
+loop-holds c = (omega arith, λ w edges. refl)
+
+parts-requires : tie.Need-parts-requires Inv-loop μ-loop
+parts-requires c κs = let s = c .before .before .before .before .before .before in
+    (s .pre .0, in-table (s .pre .1) (c .loop .inv .0))
+
+enum-known-look : tie.Need-enum-known-look Inv-loop μ-loop
+enum-known-look c = search needs
+
+is-yes-requires : tie.Need-is-yes-requires Inv-loop μ-loop
+is-yes-requires c κs = search needs
+
+returns : tie.Need-returns Inv-loop μ-loop
+returns c = let l = c .before .before .before .loop in
+    λ w edges.
+    looks-end (c .is-yes .ensures) (c .before .match .keys2)
+    (c .before .before .parts .ensures _ (edges-less (l .inv .0) edges))
+    ∙ sym (l .inv .1 w edges)
+
+returns-2 : tie.Need-returns-2 Inv-loop μ-loop
+returns-2 c = let l = c .before .before .before .before .before .loop in
+    λ w edges.
+    let (same, less, some) = looks-on (c .before .before .look .given .1)
+    (c .before .before .before .before .parts .ensures _ (edges-less (l .inv .0) edges)) in
+    absurd (omega arith)
+
+loop-less : tie.Need-loop-less Inv-loop μ-loop
+loop-less c = omega arith
+
+loop-again : tie.Need-loop-again Inv-loop μ-loop
+loop-again c = let n = c .before .before .before .before .before in
+    let l = n .loop in
+    let s = n .before .before .before .before .before .before in (
+      omega arith,
+      λ w edges.
+          let (same, less, some) = looks-on (c .before .before .look .given .1)
+          (c .before .before .before .before .parts .ensures _ (edges-less (l .inv .0) edges)) in
+          l .inv .1 w edges ∙ sym same ∙ by-inner (s .pre .0) w _ (omega arith) _ (omega arith),
+    )
+
+pub reached-spec : {M : Type 1} → statement M
+reached-spec =
+    tie.close
+    (tie.spec
+    Inv-loop
+    μ-loop
+    loop-holds
+    parts-requires
+    enum-known-look
+    is-yes-requires
+    returns
+    returns-2
+    loop-less
+    loop-again)
