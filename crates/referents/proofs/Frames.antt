@@ -21,10 +21,11 @@ use Rattle.semantics.specs.Layout.{Program}
 use Rattle.objects.specs.Begins.{beginsAt}
 use Rattle.objects.proofs.Beginning.{begins-past}
 use Rattle.asking.specs.Asking.{roomOf, objectIn, objectAt}
+use Rattle.asking.specs.Passes.{Walked}
 use Rattle.asking.proofs.Objects.{older-yes}
 use Rattle.unwinding.specs.declared.Spot.{Spot}
 use Rattle.unwinding.specs.Going.{Newest}
-use Rattle.unwinding.proofs.Walking.{room-more, walked-base}
+use Rattle.unwinding.proofs.Walking.{room-more, walked-base, walked-procedure, walked-older}
 use Rattle.referents.specs.Reading.{Oldest, Oldest.all, Oldest.newer}
 use Rattle.referents.proofs.Variables.{Ends, search-past}
 
@@ -33,6 +34,17 @@ module _ (g : Program) where
   pub data Existing : List ℕ → Type 0 where
     no-frame : Existing []
     a-frame : {q : ℕ} {qs : List ℕ} → q < rowsOf (g .procedures) → Existing qs → Existing (q ∷ qs)
+
+  -- ---- walked frames
+
+  pub walked-existing : (qs : List ℕ) {store : List ℤ} {b e : ℕ} → Walked g qs store b e → Existing qs
+  walked-existing [] w = no-frame
+  walked-existing (q ∷ []) w = a-frame (walked-procedure g w) no-frame
+  walked-existing (q ∷ c ∷ qs) w = a-frame (walked-procedure g w) (walked-existing (c ∷ qs) (walked-older g w))
+
+  pub oldest-existing : {older qs : List ℕ} → Oldest older qs → Existing qs → Existing older
+  oldest-existing all e = e
+  oldest-existing (newer o) (a-frame low e) = oldest-existing o e
 
   -- ---- where frames end
 

@@ -3,3 +3,4 @@ pub mod Halving
 pub mod Frames
 pub mod Scanning
 pub mod Finding
+pub mod References

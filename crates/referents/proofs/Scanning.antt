@@ -92,8 +92,10 @@ module _ (g : Program) (w k o : ℕ) {row : Row} (is : row ≡ rowAt (g .variabl
     variable-plain h e =
         (rw (types, fields, is) at e) ∙ sym (also-pass _ (le-leb (rowAt (g .variables) k .kind) 2 (rw is at h)))
 
-    pub variable-low : rowAt (g .variables) k .a < rowsOf (g .types) → row .a < rowsOf t
-    variable-low h = rw (types, is) h
+-- its type and another one are there
+pub type-low : {r : ℕ} {t u : List ℕ} → t ≡ u → r < rowsOf u → r < rowsOf t
+type-low same h = rw same h
 
-    pub type-low : w < rowsOf (g .types) → w < rowsOf t
-    type-low h = rw types h
+pub variable-low : (v : List ℕ) (k : ℕ) {t u : List ℕ} {row : Row} → row ≡ rowAt v k → t ≡ u → rowAt v k .a < rowsOf u
+    → row .a < rowsOf t
+variable-low v k is same h = rw (is, same) h

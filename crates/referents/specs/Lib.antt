@@ -1,3 +1,2 @@
 pub mod Reaching
 pub mod Reading
-pub mod Stub

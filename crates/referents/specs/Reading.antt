@@ -8,10 +8,10 @@ use lib.ListN.{length}
 use Rattle.semantics.specs.Layout.{Program}
 use Rattle.semantics.specs.Running.{programOf}
 use Rattle.objects.specs.Looking.{Typed}
+use Rattle.objects.specs.Tables.{AllEdges}
 use Rattle.asking.specs.Passes.{Walked}
 use Rattle.access.specs.Ready.{Planned}
 use Rattle.unwinding.specs.Blocks.{BLOCKS, Blocks}
-use Rattle.referents.specs.Stub.{AllEdges}
 
 -- an image's plan, its types and fields, and where objects begin at the edges of all types
 pub record Lent (image plan t f : List ℕ) (starts ends : List Bool) : Type 0 where

@@ -9,8 +9,6 @@ ghost use Rattle.image.specs.Rows.{rowAt, rowsOf};
 ghost use Rattle.frames.specs.Procedures.{firstVariable, claimedBy};
 ghost use Rattle.places.specs.Places.{frameSize};
 ghost use Rattle.semantics.specs.Running.{programOf};
-ghost use Rattle.objects.specs.Begins.{beginsAt};
-ghost use Rattle.objects.specs.Looking.{Typed};
 ghost use Rattle.asking.specs.Asking.{roomOf, objectAt};
 ghost use Rattle.asking.specs.State.{referenceKept, chain};
 ghost use Rattle.asking.specs.Passes.{Walked, variablesPass, referenceTest, referencesPass};
@@ -18,26 +16,6 @@ ghost use Rattle.access.specs.Ready.{Planned, Ready};
 ghost use Rattle.referents.specs.Reaching.{Placed, Reached, inVariable, inPlaces};
 ghost use Rattle.referents.specs.Reading.{Lent, Framed, Stacked, Oldest};
 ghost use Rattle.unwinding.specs.Blocks.{BLOCKS, Blocks};
-ghost use Rattle.referents.specs.Stub.{AllEdges};
-
-// ---- STUB
-
-fn holds(
-    t: &[u8],
-    f: &[u8],
-    plan: &[u32],
-    starts: &[bool],
-    ends: &[bool],
-    w: u16,
-    r: u16,
-    o: u32,
-) -> bool
-    requires { ⌜ Typed (now t) (now f) (now plan) × AllEdges (now t) (now f) (now plan) (now starts) (now ends)
-        × (w < rowsOf (now t)) × (r < rowsOf (now t)) ⌝ }
-    ensures { λ x. ⌜ x ≡ beginsAt (now (t .entry)) (now (f .entry)) w r o ⌝ }
-{
-    false
-}
 
 // ---- objects in variables
 
@@ -84,7 +62,7 @@ fn in_variable(
     if 2 < kind {
         return false;
     }
-    holds(t, f, plan, starts, ends, w, r, o)
+    objects::holds(t, f, plan, starts, ends, w, r, o)
 }
 
 // Whether one begins at an address in n variables from row k on, which the plan has one behind the other.
