@@ -4,3 +4,4 @@ pub mod Frames
 pub mod Scanning
 pub mod Finding
 pub mod References
+pub mod Parameters

@@ -7,7 +7,8 @@ ghost use Prim.Native.Nat.{ℕ, suc, _+_, _-_, _≤_, _<_};
 ghost use lib.ListN.{length, drop};
 ghost use Rattle.image.specs.Rows.{rowAt, rowsOf};
 ghost use Rattle.frames.specs.Procedures.{firstVariable, claimedBy};
-ghost use Rattle.places.specs.Places.{frameSize};
+ghost use Rattle.places.specs.Places.{widthOf, frameSize};
+ghost use Rattle.semantics.specs.Layout.{placeOf};
 ghost use Rattle.semantics.specs.Running.{programOf};
 ghost use Rattle.asking.specs.Asking.{roomOf, objectAt};
 ghost use Rattle.asking.specs.State.{referenceKept, chain};
@@ -187,7 +188,42 @@ fn reference(
     object_at(image, plan, t, f, starts, ends, store, top, blocks, dynamic, at)
 }
 
-// Whether the VAR parameters of the frame of procedure q at base do.
+// Whether variable row k of the frame that begins at base does, where it is a VAR parameter.
+fn parameter(
+    image: &&[u8],
+    plan: &Plan,
+    t: &[u8],
+    f: &[u8],
+    starts: &[bool],
+    ends: &[bool],
+    store: &[i64],
+    top: u32,
+    blocks: &[u32],
+    base: u32,
+    k: u32,
+) -> bool
+    requires { ⌜ Lent (now (now image)) (now plan) (now t) (now f) (now starts) (now ends)
+        × Stacked (programOf (now (now image))) (now store) top (now blocks)
+        × (k < rowsOf (programOf (now (now image)) .variables)) × (base < 65536)
+        × (base + placeOf (programOf (now (now image))) k + widthOf (programOf (now (now image)) .types)
+        (programOf (now (now image)) .fields) (programOf (now (now image)) .variables) k ≤ top) ⌝ }
+    ensures { λ x. ⌜ ((qs older : List ℕ) → Framed (programOf (now (now (image .entry)))) (now (store .entry)) top
+        (now (blocks .entry)) qs → Oldest older qs → base ≡ roomOf (programOf (now (now (image .entry)))) older
+        → x ≡ referenceTest (programOf (now (now (image .entry)))) older k
+        (drop (base + placeOf (programOf (now (now (image .entry)))) k) (now (store .entry)))) ⌝ }
+{
+    let row = access::variable_at(image, plan, k);
+    let kind = row.kind;
+    let r = row.a;
+    if kind != 3 {
+        return true;
+    }
+    let place = access::place_of(image, plan, k);
+    let a = base + place;
+    reference(image, plan, t, f, starts, ends, store, top, blocks, base, r, a)
+}
+
+// Whether the VAR parameters of the frame of procedure q at base do: locals are none.
 fn frame_references(
     image: &&[u8],
     plan: &Plan,
@@ -215,19 +251,14 @@ fn frame_references(
         (claimedBy (rowAt (programOf (now (now (image .entry))) .procedures) q))
         (drop (base + 3) (now (store .entry)))) ⌝ }
 {
+    let procedure = access::procedure_at(image, plan, q);
+    let parameters = procedure.b;
     let first = access::first_variable(image, plan, q);
-    let end = first + claimed(image, plan, q);
+    let end = first + parameters as u32;
     let mut k = first;
     while k < end {
-        let row = access::variable_at(image, plan, k);
-        let kind = row.kind;
-        let r = row.a;
-        if kind == 3 {
-            let place = access::place_of(image, plan, k);
-            let a = base + place;
-            if !reference(image, plan, t, f, starts, ends, store, top, blocks, base, r, a) {
-                return false;
-            }
+        if !parameter(image, plan, t, f, starts, ends, store, top, blocks, base, k) {
+            return false;
         }
         k = k + 1;
     }
