@@ -3,5 +3,6 @@ pub mod Halving
 pub mod Frames
 pub mod Scanning
 pub mod Finding
-pub mod References
+pub mod Referring
 pub mod Parameters
+pub mod Going

@@ -1,5 +1,5 @@
 -- What the functions read.
-use Prim.Native.Nat.{ℕ, _≤_}
+use Prim.Native.Nat.{ℕ, suc, _≤_}
 use mathlib.Core.Path.{_≡_}
 use mathlib.Core.Bool.{Bool}
 use mathlib.Core.List.{List, [], _∷_}
@@ -9,6 +9,7 @@ use Rattle.semantics.specs.Layout.{Program}
 use Rattle.semantics.specs.Running.{programOf}
 use Rattle.objects.specs.Looking.{Typed}
 use Rattle.objects.specs.Tables.{AllEdges}
+use Rattle.asking.specs.State.{chain}
 use Rattle.asking.specs.Passes.{Walked}
 use Rattle.access.specs.Ready.{Planned}
 use Rattle.unwinding.specs.Blocks.{BLOCKS, Blocks}
@@ -39,3 +40,11 @@ pub record Stacked (g : Program) (store : List ℤ) (top : ℕ) (blocks : List �
 pub data Oldest (older : List ℕ) : List ℕ → Type 0 where
   all : Oldest older older
   newer : {q : ℕ} {qs : List ℕ} → Oldest older qs → Oldest older (q ∷ qs)
+
+-- the state that is asked of: its frames are those that the links lead to, from that of procedure q at base on
+pub record Asked (g : Program) (store : List ℤ) (q base top : ℕ) (blocks : List ℕ) : Type 0 where
+  pub walked : Walked g (chain g store (suc base) q base) store base top
+  pub blocked : Blocks g (chain g store (suc base) q base) blocks
+  pub table : BLOCKS ≤ length blocks
+  pub cells : top ≤ length store
+  pub small : length store ≤ 65536

@@ -1,5 +1,6 @@
 // Whether the VAR parameters of all frames refer to objects.
 use access::Plan;
+use objects::TABLE;
 use semantics::Mark;
 ghost use mathlib.Core.Path.{_≡_};
 ghost use mathlib.Core.List.{List, []};
@@ -15,8 +16,7 @@ ghost use Rattle.asking.specs.State.{referenceKept, chain};
 ghost use Rattle.asking.specs.Passes.{Walked, variablesPass, referenceTest, referencesPass};
 ghost use Rattle.access.specs.Ready.{Planned, Ready};
 ghost use Rattle.referents.specs.Reaching.{Placed, Reached, inVariable, inPlaces};
-ghost use Rattle.referents.specs.Reading.{Lent, Framed, Stacked, Oldest};
-ghost use Rattle.unwinding.specs.Blocks.{BLOCKS, Blocks};
+ghost use Rattle.referents.specs.Reading.{Lent, Framed, Stacked, Oldest, Asked};
 
 // ---- objects in variables
 
@@ -263,4 +263,61 @@ fn frame_references(
         k = k + 1;
     }
     true
+}
+
+// Whether those of all frames do, from that of procedure q at base to the oldest.
+fn all_references(
+    image: &&[u8],
+    plan: &Plan,
+    t: &[u8],
+    f: &[u8],
+    starts: &[bool],
+    ends: &[bool],
+    store: &[i64],
+    q: u16,
+    base: u32,
+    top: u32,
+    blocks: &[u32],
+) -> bool
+    requires { ⌜ Lent (now (now image)) (now plan) (now t) (now f) (now starts) (now ends)
+        × Asked (programOf (now (now image))) (now store) q base top (now blocks) ⌝ }
+    ensures { λ x. ⌜ x ≡ referencesPass (programOf (now (now (image .entry))))
+        (chain (programOf (now (now (image .entry)))) (now (store .entry)) (suc base) q base) (now (store .entry)) ⌝ }
+{
+    let mut procedure = q;
+    let mut at = base;
+    loop {
+        if !frame_references(image, plan, t, f, starts, ends, store, top, blocks, procedure, at) {
+            return false;
+        }
+        if procedure == 0 {
+            return true;
+        }
+        let caller = unwinding::caller(store, top, at);
+        procedure = caller.procedure;
+        at = caller.base;
+    }
+}
+
+// The same with tables of its own, from the newest frame on: that of procedure q, from base to top.
+pub fn references(
+    image: &&[u8],
+    plan: &Plan,
+    store: &[i64],
+    q: u16,
+    base: u32,
+    top: u32,
+    blocks: &[u32],
+) -> bool
+    requires { ⌜ Ready (now (now image)) (now plan)
+        × Asked (programOf (now (now image))) (now store) q base top (now blocks) ⌝ }
+    ensures { λ x. ⌜ x ≡ referencesPass (programOf (now (now (image .entry))))
+        (chain (programOf (now (now (image .entry)))) (now (store .entry)) (suc base) q base) (now (store .entry)) ⌝ }
+{
+    let t = access::table(*image, plan, 0);
+    let f = access::table(*image, plan, 1);
+    let mut starts = [false; TABLE];
+    let mut ends = [false; TABLE];
+    objects::fill_all(t, f, plan, &mut starts, &mut ends);
+    all_references(image, plan, t, f, &starts, &ends, store, q, base, top, blocks)
 }

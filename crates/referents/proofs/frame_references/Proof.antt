@@ -24,7 +24,7 @@ abbrev μ-loop : tie.MeasureT-loop
 μ-loop image plan t f starts ends store top blocks q base parameters first end k₀ k = end - k
 
 procedure-at-requires : tie.Need-procedure-at-requires Inv-loop μ-loop
-procedure-at-requires c κs = ?
+procedure-at-requires c κs = search needs
 
 first-variable-requires : tie.Need-first-variable-requires Inv-loop μ-loop
 first-variable-requires c κs = let s = c .before .before .before .before .before .before in

@@ -5,7 +5,7 @@ use Rattle.semantics.specs.Running.{programOf}
 use Rattle.semantics.proofs.Demand3.{program-accepted}
 use Rattle.access.proofs.Bounds.{types-few}
 use Rattle.referents.proofs.Frames.{walked-existing, oldest-existing}
-use Rattle.referents.proofs.References.{no-type, not-extended, no-address, too-high, refers, extends-there}
+use Rattle.referents.proofs.Referring.{no-type, not-extended, no-address, too-high, refers, extends-there}
 use borrow.Author.Needs.{needs}
 use Rattle.referents.proofs.reference.Statement.{statement}
 use Rattle.referents.proofs.reference.Tie as tie
