@@ -6,3 +6,4 @@ pub mod Finding
 pub mod Referring
 pub mod Parameters
 pub mod Going
+pub mod Lending

@@ -185,7 +185,19 @@ fn reference(
     if base < at {
         return false;
     }
-    object_at(image, plan, t, f, starts, ends, store, top, blocks, dynamic, at)
+    object_at(
+        image,
+        plan,
+        t,
+        f,
+        starts,
+        ends,
+        store,
+        top,
+        blocks,
+        dynamic,
+        at,
+    )
 }
 
 // Whether variable row k of the frame that begins at base does, where it is a VAR parameter.
@@ -220,7 +232,20 @@ fn parameter(
     }
     let place = access::place_of(image, plan, k);
     let a = base + place;
-    reference(image, plan, t, f, starts, ends, store, top, blocks, base, r, a)
+    reference(
+        image,
+        plan,
+        t,
+        f,
+        starts,
+        ends,
+        store,
+        top,
+        blocks,
+        base,
+        r,
+        a,
+    )
 }
 
 // Whether the VAR parameters of the frame of procedure q at base do: locals are none.
@@ -287,7 +312,19 @@ fn all_references(
     let mut procedure = q;
     let mut at = base;
     loop {
-        if !frame_references(image, plan, t, f, starts, ends, store, top, blocks, procedure, at) {
+        if !frame_references(
+            image,
+            plan,
+            t,
+            f,
+            starts,
+            ends,
+            store,
+            top,
+            blocks,
+            procedure,
+            at,
+        ) {
             return false;
         }
         if procedure == 0 {
@@ -319,5 +356,17 @@ pub fn references(
     let mut starts = [false; TABLE];
     let mut ends = [false; TABLE];
     objects::fill_all(t, f, plan, &mut starts, &mut ends);
-    all_references(image, plan, t, f, &starts, &ends, store, q, base, top, blocks)
+    all_references(
+        image,
+        plan,
+        t,
+        f,
+        &starts,
+        &ends,
+        store,
+        q,
+        base,
+        top,
+        blocks,
+    )
 }

@@ -36,8 +36,13 @@ cast-end c = search needs
 add-end : tie.Need-add-end Inv-loop μ-loop
 add-end c = let s = c .before .before .before .before .before .before .before in
     let p = s .pre .0 .planned in
-    omega (arith, end-is (now (now (s .args .image))) (s .args .q) (c .before .procedure-at .ensures)
-    (c .first-variable .ensures), claimed-there p _ (s .pre .2), variables-few p)
+    omega (
+      arith,
+      end-is (now (now (s .args .image))) (s .args .q) (c .before .procedure-at .ensures)
+          (c .first-variable .ensures),
+      claimed-there p _ (s .pre .2),
+      variables-few p,
+    )
 
 loop-holds : tie.Need-loop-holds Inv-loop μ-loop
 loop-holds c = passed-start _ _ _ _ _ _ (c .first-variable .ensures)

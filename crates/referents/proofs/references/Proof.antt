@@ -1,3 +1,5 @@
+use native.Mathlib.Omega.{arith}
+use Rattle.referents.proofs.Lending.{typed-plan, lent-all}
 use borrow.Author.Needs.{needs}
 use Rattle.referents.proofs.references.Statement.{statement}
 use Rattle.referents.proofs.references.Tie as tie
@@ -7,39 +9,39 @@ use Rattle.access.proofs.table.Reads as table-reads
 use Rattle.objects.proofs.fill_all.Reads as fill-all-reads
 use Rattle.referents.proofs.all_references.Reads as all-references-reads
 
--- src/lib.rt:317:9
 table-requires : tie.Need-table-requires
 table-requires c κs = search needs
 
--- src/lib.rt:318:9
 table-requires-2 : tie.Need-table-requires-2
 table-requires-2 c κs = search needs
 
--- src/lib.rt:321:35
 slice-aggregate-fill-all : tie.Need-slice-aggregate-fill-all
 slice-aggregate-fill-all c = search needs
 
--- src/lib.rt:321:48
 slice-aggregate-fill-all-2 : tie.Need-slice-aggregate-fill-all-2
 slice-aggregate-fill-all-2 c = search needs
 
--- src/lib.rt:321:5
 fill-all-requires : tie.Need-fill-all-requires
-fill-all-requires c κs = ?
+fill-all-requires c κs = let s = c .before .before .before .before .before .before .before .before .before .before in
+    let types = c .before .before .before .before .before .before .table .ensures in
+    let fields = c .before .before .before .table2 .ensures in
+    (typed-plan (s .pre .0 .planned) types fields, omega arith, omega arith)
 
--- src/lib.rt:322:39
 slice-aggregate-all-references : tie.Need-slice-aggregate-all-references
 slice-aggregate-all-references c = search needs
 
--- src/lib.rt:322:48
 slice-aggregate-all-references-2 : tie.Need-slice-aggregate-all-references-2
 slice-aggregate-all-references-2 c = search needs
 
--- src/lib.rt:322:5
 all-references-requires : tie.Need-all-references-requires
-all-references-requires c κs = ?
+all-references-requires c κs =
+    let n = c .before .before .before .before .before .before .before .before in
+    let s = n .before .before .before .before .before .before .before in (
+      lent-all (s .pre .0 .planned) (n .before .before .before .table .ensures) (n .table2 .ensures)
+          (c .before .before .before .before .fill-all .ensures .0),
+      s .pre .1,
+    )
 
--- src/lib.rt:303:1
 returns : tie.Need-returns
 returns c = search needs
 
