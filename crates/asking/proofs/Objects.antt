@@ -52,7 +52,7 @@ module _ (deeper : ℕ → ℕ → Bool) (size : ℕ → ℕ) (v : List ℕ) whe
     place : roomBy size v k number + into ≡ o
     holds : deeper (rowAt v (k + number) .a) into ≡ true
 
-  room-none : (k : ℕ) → roomBy size v k 0 ≡ 0
+  pub room-none : (k : ℕ) → roomBy size v k 0 ≡ 0
   unfolding roomBy
   room-none k = refl
 
@@ -297,7 +297,7 @@ module _ (g : Program)
   variable-typed k h = ok .variable k h .typed
 
   -- at an address where the newest frame does not begin below, only older ones can have it
-  older-yes : (q : ℕ) (qs : List ℕ) (at : ℕ) → at ≤ roomOf g qs → objectAt g w (q ∷ qs) at ≡ objectAt g w qs at
+  pub older-yes : (q : ℕ) (qs : List ℕ) (at : ℕ) → at ≤ roomOf g qs → objectAt g w (q ∷ qs) at ≡ objectAt g w qs at
   unfolding objectAt
   older-yes q qs at h = choose-no _ _ _ (le-ltb (roomOf g qs) at h)
 

@@ -1,0 +1,172 @@
+-- Laws of the loop over a frame's parameters.
+use mathlib.Core.Path.{_≡_, refl, sym, _∙_, ap}
+use mathlib.Core.Bool.{Bool, true, false}
+use mathlib.Core.List.{List}
+use Prim.Native.Nat.{ℕ, zero, suc, _+_, _-_, _≤_, _<_}
+use native.Mathlib.Omega.{arith}
+use borrow.Author.Tests.{leb-true, eq-eqb, ne-eqb}
+use lib.IntN.{ℤ}
+use lib.ListN.{drop}
+use Rattle.prelude.specs.Choice.{_also_}
+use Rattle.prelude.proofs.Choice.{choose-yes, choose-no, also-true, also-yes}
+use Rattle.image.specs.declared.Row.{Row}
+use Rattle.image.specs.Rows.{rowAt, rowsOf}
+use Rattle.shapes.specs.Sizes.{sizeOf}
+use Rattle.frames.specs.Variables.{kindWithin}
+use Rattle.frames.specs.Procedures.{firstVariable, claimedBy}
+use Rattle.places.specs.Places.{widthOf, roomFrom, frameSize}
+use Rattle.places.proofs.Rooms.{width-var, room-up}
+use Rattle.semantics.specs.Layout.{Program, placeOf}
+use Rattle.semantics.specs.Running.{programOf}
+use Rattle.semantics.proofs.Demand3.{program-accepted}
+use Rattle.asking.specs.Asking.{roomOf}
+use Rattle.asking.specs.State.{referenceKept}
+use Rattle.asking.specs.Passes.{variablesPass, referenceTest}
+use Rattle.asking.proofs.Variables.{Along, along-start, along-no, along-more}
+use Rattle.access.specs.Ready.{Planned}
+use Rattle.access.proofs.Bounds.{claimed-there, place-in}
+use Rattle.referents.specs.Reading.{Framed, Oldest}
+
+-- ---- one variable
+
+module _ (g : Program) (k : ℕ) {row : Row} (is : row ≡ rowAt (g .variables) k) where
+  pub test-other : (older : List ℕ) (l : List ℤ) → (row .kind ≡ 3 → ⊥) → true ≡ referenceTest g older k l
+  unfolding referenceTest
+  test-other older l other = sym (choose-no _ _ _ (ne-eqb (rowAt (g .variables) k .kind) 3 (rw is at other)))
+
+  module _ (var : row .kind ≡ 3) where
+    -- its two cells
+    pub test-room : (base : ℕ) {place top : ℕ} → place ≡ placeOf g k
+        → base + placeOf g k + widthOf (g .types) (g .fields) (g .variables) k ≤ top → base + place + 2 ≤ top
+    test-room base at room =
+        let two = width-var (sizeOf (g .types) (g .fields)) (g .variables) k (rw is at var) in
+        omega (arith, at, two)
+
+    pub test-reference : (older : List ℕ) (store : List ℤ) (base : ℕ) {place : ℕ} → place ≡ placeOf g k → {x : Bool}
+        → x ≡ referenceKept g older (row .a) (drop (base + place) store)
+        → x ≡ referenceTest g older k (drop (base + placeOf g k) store)
+    unfolding referenceTest
+    test-reference older store base at e =
+        (rw (at, is) at e) ∙ sym (choose-yes _ _ _ (eq-eqb (rowAt (g .variables) k .kind) 3 (rw is at var)))
+
+-- ---- several
+
+pass-all : (g : Program) (test : ℕ → List ℤ → Bool) (n j : ℕ) (l : List ℤ)
+    → ((i : ℕ) (m : List ℤ) → j ≤ i → i < j + n → test i m ≡ true) → variablesPass g test j n l ≡ true
+unfolding variablesPass
+pass-all g test zero j l each = refl
+pass-all g test (suc n) j l each =
+    also-yes (each j l (omega arith) (omega arith))
+    (pass-all g test n (j + 1) _ (λ i m low high. each i m (omega arith) (omega arith)))
+
+module _ (image : List ℕ) (q : ℕ) where
+  abbrev g : Program
+  g = programOf image
+
+  -- procedure q's first variable, and how many parameters and variables it has
+  abbrev first : ℕ
+  first = firstVariable (g .variables) (g .procedures) q
+
+  abbrev parameters : ℕ
+  parameters = rowAt (g .procedures) q .b
+
+  abbrev all : ℕ
+  all = claimedBy (rowAt (g .procedures) q)
+
+  all-is : all ≡ parameters + rowAt (g .procedures) q .c
+  unfolding claimedBy
+  all-is = refl
+
+  pub end-is : {row : Row} {start : ℕ} → row ≡ rowAt (g .procedures) q → start ≡ first
+      → start + row .b ≡ first + parameters
+  end-is is at = rw (is, at) refl
+
+  module _ {plan : List ℕ} (p : Planned image plan) (there : q < rowsOf (g .procedures)) where
+    module _ {k : ℕ} (low : first ≤ k) (more : k < first + parameters) where
+      place-is : placeOf g k ≡ 3 + roomFrom (g .types) (g .fields) (g .variables) first (k - first)
+      place-is =
+          let row : first + (k - first) ≡ k = omega arith in
+          rw row at (place-in p q (k - first) there (omega arith))
+
+      -- a parameter is there, within the frame
+      pub parameter-there : k < rowsOf (g .variables)
+      parameter-there = omega (arith, claimed-there p q there)
+
+      pub parameter-room : (base : ℕ) {top : ℕ}
+          → base + frameSize (g .types) (g .fields) (g .variables) (g .procedures) q ≤ top
+          → base + placeOf g k + widthOf (g .types) (g .fields) (g .variables) k ≤ top
+      unfolding frameSize
+      parameter-room base room =
+          let row : first + (k - first) ≡ k = omega arith in
+          let up = rw row at (room-up (sizeOf (g .types) (g .fields)) (g .variables) first (k - first) all
+          (omega (arith, all-is))) in
+          omega (arith, place-is)
+
+    -- locals are no VAR parameters
+    local-passes : (older : List ℕ) (i : ℕ) (l : List ℤ) → first + parameters ≤ i → i < first + all
+        → referenceTest g older i l ≡ true
+    unfolding kindWithin
+    local-passes older i l low high =
+        let ok = program-accepted image (p .checked .accepted) in
+        let local = ok .procedures .row q there .locals .each i low (omega (arith, all-is)) in
+        let most : rowAt (g .variables) i .kind ≤ 1 = leb-true _ _ (also-true _ _ local .1) in
+        sym (test-other g i refl older l (λ e. absurd (omega arith)))
+
+  module _ (base : ℕ) (store : List ℤ) (top : ℕ) (blocks : List ℕ) where
+    -- what is said of the frame at base, where it is one of these and begins behind the older ones
+    abbrev Told : (List ℕ → Type 0) → Type 0
+    Told P = (qs older : List ℕ) → Framed g store top blocks qs → Oldest older qs → base ≡ roomOf g older → P older
+
+    -- the parameters before row k passed
+    pub record Passed (k : ℕ) : Type 0 where
+      pub least : first ≤ k
+      pub most : k ≤ first + parameters
+      pub along : Told (λ older. (at : ℕ) × Along g (referenceTest g older) store first all (base + 3) k at)
+
+    pub passed-start : {start : ℕ} → start ≡ first → Passed start
+    passed-start at = rw at (record {
+      least = omega arith;
+      most = omega arith;
+      along = λ qs older framed oldest start. (
+        base + 3,
+        along-start g (referenceTest g older) store first all (base + 3),
+      );
+    })
+
+    module _ {plan : List ℕ} (p : Planned image plan) (there : q < rowsOf (g .procedures)) {k : ℕ} (h : Passed k) where
+      module _ (more : k < first + parameters) {x : Bool}
+          (answer : Told (λ older. x ≡ referenceTest g older k (drop (base + placeOf g k) store))) where
+        test-is : (qs older : List ℕ) → Framed g store top blocks qs → Oldest older qs → base ≡ roomOf g older
+            → {at : ℕ} → Along g (referenceTest g older) store first all (base + 3) k at
+            → x ≡ referenceTest g older k (drop at store)
+        test-is qs older framed oldest start {at} along =
+            let same : base + placeOf g k ≡ at = omega (arith, along .place, place-is p there (h .least) more) in
+            rw same at (answer qs older framed oldest start)
+
+        pub passed-no : x ≡ false
+            → Told (λ older. false ≡ variablesPass g (referenceTest g older) first all (drop (base + 3) store))
+        passed-no e qs older framed oldest start =
+            let (at, along) = h .along qs older framed oldest start in
+            sym (along-no g (referenceTest g older) along (omega (arith, all-is))
+            (sym (test-is qs older framed oldest start along) ∙ e))
+
+        pub passed-next : x ≡ true → Passed (k + 1)
+        passed-next e = record {
+          least = let l = h .least in omega arith;
+          most = omega arith;
+          along = λ qs older framed oldest start.
+              let (at, along) = h .along qs older framed oldest start in (
+                _,
+                along-more g (referenceTest g older) along (omega (arith, all-is))
+                    (sym (test-is qs older framed oldest start along) ∙ e) refl,
+              );
+        }
+
+      pub passed-end : first + parameters ≤ k
+          → Told (λ older. true ≡ variablesPass g (referenceTest g older) first all (drop (base + 3) store))
+      passed-end done qs older framed oldest start =
+          let (at, along) = h .along qs older framed oldest start in
+          let most = h .most in
+          sym (along .rest
+          ∙ pass-all g (referenceTest g older) (first + all - k) k (drop at store)
+          (λ i m low high. local-passes p there older i m (omega arith) (omega (arith, all-is))))

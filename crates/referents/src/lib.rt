@@ -1,0 +1,372 @@
+// Whether the VAR parameters of all frames refer to objects.
+use access::Plan;
+use objects::TABLE;
+use semantics::Mark;
+ghost use mathlib.Core.Path.{_≡_};
+ghost use mathlib.Core.List.{List, []};
+ghost use Prim.Native.Nat.{ℕ, suc, _+_, _-_, _≤_, _<_};
+ghost use lib.ListN.{length, drop};
+ghost use Rattle.image.specs.Rows.{rowAt, rowsOf};
+ghost use Rattle.frames.specs.Procedures.{firstVariable, claimedBy};
+ghost use Rattle.places.specs.Places.{widthOf, frameSize};
+ghost use Rattle.semantics.specs.Layout.{placeOf};
+ghost use Rattle.semantics.specs.Running.{programOf};
+ghost use Rattle.asking.specs.Asking.{roomOf, objectAt};
+ghost use Rattle.asking.specs.State.{referenceKept, chain};
+ghost use Rattle.asking.specs.Passes.{Walked, variablesPass, referenceTest, referencesPass};
+ghost use Rattle.access.specs.Ready.{Planned, Ready};
+ghost use Rattle.referents.specs.Reaching.{Placed, Reached, inVariable, inPlaces};
+ghost use Rattle.referents.specs.Reading.{Lent, Framed, Stacked, Oldest, Asked};
+
+// ---- objects in variables
+
+// Of n variables from row k on the last that begins below an address, by halving; row k where none does. So those before
+// it end below the address.
+fn first_reaching(image: &&[u8], plan: &Plan, k: u32, n: u32, at: u32) -> u32
+    requires { ⌜ Planned (now (now image)) (now plan) × (k + n ≤ rowsOf (programOf (now (now image)) .variables)) ⌝ }
+    ensures { λ x. ⌜ Reached (programOf (now (now (image .entry)))) k n at x ⌝ }
+{
+    let mut low = k;
+    let mut high = k + n;
+    while 1 < high - low {
+        let middle = low + (high - low) / 2;
+        let place = access::place_of(image, plan, middle);
+        if place < at {
+            low = middle;
+        } else {
+            high = middle;
+        }
+    }
+    low
+}
+
+// Whether an object declared with type w begins o cells into variable row k: the two cells of a VAR parameter are none.
+fn in_variable(
+    image: &&[u8],
+    plan: &Plan,
+    t: &[u8],
+    f: &[u8],
+    starts: &[bool],
+    ends: &[bool],
+    w: u16,
+    k: u32,
+    o: u32,
+) -> bool
+    requires { ⌜ Lent (now (now image)) (now plan) (now t) (now f) (now starts) (now ends)
+        × (w < rowsOf (programOf (now (now image)) .types))
+        × (k < rowsOf (programOf (now (now image)) .variables)) ⌝ }
+    ensures { λ x. ⌜ x ≡ inVariable (programOf (now (now (image .entry)))) w k o ⌝ }
+{
+    let row = access::variable_at(image, plan, k);
+    let kind = row.kind;
+    let r = row.a;
+    if 2 < kind {
+        return false;
+    }
+    objects::holds(t, f, plan, starts, ends, w, r, o)
+}
+
+// Whether one begins at an address in n variables from row k on, which the plan has one behind the other.
+fn in_places(
+    image: &&[u8],
+    plan: &Plan,
+    t: &[u8],
+    f: &[u8],
+    starts: &[bool],
+    ends: &[bool],
+    w: u16,
+    k: u32,
+    n: u32,
+    at: u32,
+) -> bool
+    requires { ⌜ Lent (now (now image)) (now plan) (now t) (now f) (now starts) (now ends)
+        × (w < rowsOf (programOf (now (now image)) .types))
+        × (k + n ≤ rowsOf (programOf (now (now image)) .variables)) ⌝ }
+    ensures { λ x. ⌜ ((lead : ℕ) → Placed (programOf (now (now (image .entry)))) k n lead
+        → x ≡ inPlaces (programOf (now (now (image .entry)))) w k n lead at) ⌝ }
+{
+    let end = k + n;
+    let mut j = first_reaching(image, plan, k, n, at);
+    while j < end {
+        let place = access::place_of(image, plan, j);
+        if at < place {
+            return false;
+        }
+        if in_variable(image, plan, t, f, starts, ends, w, j, at - place) {
+            return true;
+        }
+        j = j + 1;
+    }
+    false
+}
+
+// ---- objects in frames
+
+// How many variables a frame of procedure q has.
+fn claimed(image: &&[u8], plan: &Plan, q: u16) -> u32
+    requires { ⌜ Planned (now (now image)) (now plan) ⌝ }
+    ensures { λ x. ⌜ x ≡ claimedBy (rowAt (programOf (now (now (image .entry))) .procedures) q) ⌝ }
+{
+    let row = access::procedure_at(image, plan, q);
+    let parameters = row.b as u32;
+    let locals = row.c as u32;
+    parameters + locals
+}
+
+// Whether an object declared with type w begins at an address: in the globals, or in the newest frame that begins below
+// the address.
+fn object_at(
+    image: &&[u8],
+    plan: &Plan,
+    t: &[u8],
+    f: &[u8],
+    starts: &[bool],
+    ends: &[bool],
+    store: &[i64],
+    top: u32,
+    blocks: &[u32],
+    w: u16,
+    at: u32,
+) -> bool
+    requires { ⌜ Lent (now (now image)) (now plan) (now t) (now f) (now starts) (now ends)
+        × Stacked (programOf (now (now image))) (now store) top (now blocks)
+        × (w < rowsOf (programOf (now (now image)) .types)) × (at ≤ 65536) ⌝ }
+    ensures { λ x. ⌜ ((qs : List ℕ) → Framed (programOf (now (now (image .entry)))) (now (store .entry)) top
+        (now (blocks .entry)) qs → x ≡ objectAt (programOf (now (now (image .entry)))) w qs at) ⌝ }
+{
+    let globals = access::global_room(image, plan);
+    if at <= globals {
+        let n = access::first_variable(image, plan, 0);
+        return in_places(image, plan, t, f, starts, ends, w, 0, n, at);
+    }
+    let frame = unwinding::frame_below(store, top, blocks, at);
+    let q = frame.procedure;
+    let base = frame.base;
+    let first = access::first_variable(image, plan, q);
+    let n = claimed(image, plan, q);
+    in_places(image, plan, t, f, starts, ends, w, first, n, at - base)
+}
+
+// ---- references
+
+// Whether the two cells of a VAR parameter of type row r, at a in the frame that begins at base, refer to an object in
+// the older frames.
+fn reference(
+    image: &&[u8],
+    plan: &Plan,
+    t: &[u8],
+    f: &[u8],
+    starts: &[bool],
+    ends: &[bool],
+    store: &[i64],
+    top: u32,
+    blocks: &[u32],
+    base: u32,
+    r: u16,
+    a: u32,
+) -> bool
+    requires { ⌜ Lent (now (now image)) (now plan) (now t) (now f) (now starts) (now ends)
+        × Stacked (programOf (now (now image))) (now store) top (now blocks)
+        × (r < rowsOf (programOf (now (now image)) .types)) × (base < 65536) × (a + 2 ≤ top) ⌝ }
+    ensures { λ x. ⌜ ((qs older : List ℕ) → Framed (programOf (now (now (image .entry)))) (now (store .entry)) top
+        (now (blocks .entry)) qs → Oldest older qs → base ≡ roomOf (programOf (now (now (image .entry)))) older
+        → x ≡ referenceKept (programOf (now (now (image .entry)))) older r (drop a (now (store .entry)))) ⌝ }
+{
+    let Mark::Number(address) = cells::mark_at(store, top, a) else {
+        return false;
+    };
+    let Mark::Number(dynamic) = cells::mark_at(store, top, a + 1) else {
+        return false;
+    };
+    if !access::extends(image, plan, dynamic, r) {
+        return false;
+    }
+    let at = address as u32;
+    if base < at {
+        return false;
+    }
+    object_at(
+        image,
+        plan,
+        t,
+        f,
+        starts,
+        ends,
+        store,
+        top,
+        blocks,
+        dynamic,
+        at,
+    )
+}
+
+// Whether variable row k of the frame that begins at base does, where it is a VAR parameter.
+fn parameter(
+    image: &&[u8],
+    plan: &Plan,
+    t: &[u8],
+    f: &[u8],
+    starts: &[bool],
+    ends: &[bool],
+    store: &[i64],
+    top: u32,
+    blocks: &[u32],
+    base: u32,
+    k: u32,
+) -> bool
+    requires { ⌜ Lent (now (now image)) (now plan) (now t) (now f) (now starts) (now ends)
+        × Stacked (programOf (now (now image))) (now store) top (now blocks)
+        × (k < rowsOf (programOf (now (now image)) .variables)) × (base < 65536)
+        × (base + placeOf (programOf (now (now image))) k + widthOf (programOf (now (now image)) .types)
+        (programOf (now (now image)) .fields) (programOf (now (now image)) .variables) k ≤ top) ⌝ }
+    ensures { λ x. ⌜ ((qs older : List ℕ) → Framed (programOf (now (now (image .entry)))) (now (store .entry)) top
+        (now (blocks .entry)) qs → Oldest older qs → base ≡ roomOf (programOf (now (now (image .entry)))) older
+        → x ≡ referenceTest (programOf (now (now (image .entry)))) older k
+        (drop (base + placeOf (programOf (now (now (image .entry)))) k) (now (store .entry)))) ⌝ }
+{
+    let row = access::variable_at(image, plan, k);
+    let kind = row.kind;
+    let r = row.a;
+    if kind != 3 {
+        return true;
+    }
+    let place = access::place_of(image, plan, k);
+    let a = base + place;
+    reference(
+        image,
+        plan,
+        t,
+        f,
+        starts,
+        ends,
+        store,
+        top,
+        blocks,
+        base,
+        r,
+        a,
+    )
+}
+
+// Whether the VAR parameters of the frame of procedure q at base do: locals are none.
+fn frame_references(
+    image: &&[u8],
+    plan: &Plan,
+    t: &[u8],
+    f: &[u8],
+    starts: &[bool],
+    ends: &[bool],
+    store: &[i64],
+    top: u32,
+    blocks: &[u32],
+    q: u16,
+    base: u32,
+) -> bool
+    requires { ⌜ Lent (now (now image)) (now plan) (now t) (now f) (now starts) (now ends)
+        × Stacked (programOf (now (now image))) (now store) top (now blocks)
+        × (q < rowsOf (programOf (now (now image)) .procedures))
+        × (base + frameSize (programOf (now (now image)) .types) (programOf (now (now image)) .fields)
+        (programOf (now (now image)) .variables) (programOf (now (now image)) .procedures) q ≤ top) ⌝ }
+    ensures { λ x. ⌜ ((qs older : List ℕ) → Framed (programOf (now (now (image .entry)))) (now (store .entry)) top
+        (now (blocks .entry)) qs → Oldest older qs → base ≡ roomOf (programOf (now (now (image .entry)))) older
+        → x ≡ variablesPass (programOf (now (now (image .entry))))
+        (referenceTest (programOf (now (now (image .entry)))) older)
+        (firstVariable (programOf (now (now (image .entry))) .variables)
+        (programOf (now (now (image .entry))) .procedures) q)
+        (claimedBy (rowAt (programOf (now (now (image .entry))) .procedures) q))
+        (drop (base + 3) (now (store .entry)))) ⌝ }
+{
+    let procedure = access::procedure_at(image, plan, q);
+    let parameters = procedure.b;
+    let first = access::first_variable(image, plan, q);
+    let end = first + parameters as u32;
+    let mut k = first;
+    while k < end {
+        if !parameter(image, plan, t, f, starts, ends, store, top, blocks, base, k) {
+            return false;
+        }
+        k = k + 1;
+    }
+    true
+}
+
+// Whether those of all frames do, from that of procedure q at base to the oldest.
+fn all_references(
+    image: &&[u8],
+    plan: &Plan,
+    t: &[u8],
+    f: &[u8],
+    starts: &[bool],
+    ends: &[bool],
+    store: &[i64],
+    q: u16,
+    base: u32,
+    top: u32,
+    blocks: &[u32],
+) -> bool
+    requires { ⌜ Lent (now (now image)) (now plan) (now t) (now f) (now starts) (now ends)
+        × Asked (programOf (now (now image))) (now store) q base top (now blocks) ⌝ }
+    ensures { λ x. ⌜ x ≡ referencesPass (programOf (now (now (image .entry))))
+        (chain (programOf (now (now (image .entry)))) (now (store .entry)) (suc base) q base) (now (store .entry)) ⌝ }
+{
+    let mut procedure = q;
+    let mut at = base;
+    loop {
+        if !frame_references(
+            image,
+            plan,
+            t,
+            f,
+            starts,
+            ends,
+            store,
+            top,
+            blocks,
+            procedure,
+            at,
+        ) {
+            return false;
+        }
+        if procedure == 0 {
+            return true;
+        }
+        let caller = unwinding::caller(store, top, at);
+        procedure = caller.procedure;
+        at = caller.base;
+    }
+}
+
+// The same with tables of its own, from the newest frame on: that of procedure q, from base to top.
+pub fn references(
+    image: &&[u8],
+    plan: &Plan,
+    store: &[i64],
+    q: u16,
+    base: u32,
+    top: u32,
+    blocks: &[u32],
+) -> bool
+    requires { ⌜ Ready (now (now image)) (now plan)
+        × Asked (programOf (now (now image))) (now store) q base top (now blocks) ⌝ }
+    ensures { λ x. ⌜ x ≡ referencesPass (programOf (now (now (image .entry))))
+        (chain (programOf (now (now (image .entry)))) (now (store .entry)) (suc base) q base) (now (store .entry)) ⌝ }
+{
+    let t = access::table(*image, plan, 0);
+    let f = access::table(*image, plan, 1);
+    let mut starts = [false; TABLE];
+    let mut ends = [false; TABLE];
+    objects::fill_all(t, f, plan, &mut starts, &mut ends);
+    all_references(
+        image,
+        plan,
+        t,
+        f,
+        &starts,
+        &ends,
+        store,
+        q,
+        base,
+        top,
+        blocks,
+    )
+}
