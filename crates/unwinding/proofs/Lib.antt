@@ -2,5 +2,5 @@ pub mod Links
 pub mod Walking
 pub mod Going
 mod Seeking
-mod Bodies
+pub mod Bodies
 mod Along
