@@ -150,11 +150,11 @@ module _ (g : Program) where
 -- ---- procedure 0
 
 -- no call names it: its frame has no caller
-pub first-alone : {image plan : List ℕ} → Planned image plan → {qs : List ℕ} {store : List ℤ} {b e : ℕ}
-    → Walked (programOf image) (0 ∷ qs) store b e → qs ≡ []
+pub first-alone : {image plan : List ℕ} → Planned image plan → {q : ℕ} {qs : List ℕ} {store : List ℤ} {b e : ℕ} → q ≡ 0
+    → Walked (programOf image) (q ∷ qs) store b e → qs ≡ []
 unfolding callKept
-first-alone {image} p {qs = []} w = refl
-first-alone {image} p {qs = c ∷ qs} {store} {b} w =
+first-alone {image} p {qs = []} first w = refl
+first-alone {image} p {q} {qs = c ∷ qs} {store} {b} first w =
     let g = programOf image in
     let ok = program-accepted image (p .checked .accepted) in
     let n = walked-newer g w in
@@ -163,7 +163,7 @@ first-alone {image} p {qs = c ∷ qs} {store} {b} w =
     let (this, c₃) = also-true _ _ c₂ in
     let row = naturalOf (getD store (b + 1) (pos 0)) - 1 in
     let call : rowAt (g .statements) row .kind ≡ 1 = eqb-true _ _ kind in
-    let named : rowAt (g .statements) row .a ≡ 0 = eqb-true _ _ this in
+    let named : rowAt (g .statements) row .a ≡ q = eqb-true _ _ this in
     let here = row-there (g .statements) row (omega (arith, call)) in
     let other = call-is (g .nodes) (g .procedures) (g .statements) (ok .questions .statements) row here call .other in
     absurd (omega (arith, named, other))

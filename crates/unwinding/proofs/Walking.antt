@@ -216,3 +216,16 @@ module _ (g : Program) where
       (also-yes called
       (also-yes (is-number _ _ (n .is-caller))
       (also-yes (is-number _ _ (n .is-back ∙ ap pos (sym there))) (is-number _ _ (n .is-base ∙ ap pos (walked-base w))))))
+
+  -- ---- the frames that the links lead to
+
+  module _ (store : List ℤ) where
+    -- the older frames of one of procedure q at b, of which there are at most n
+    unfoldable pub tailOf : ℕ → ℕ → ℕ → List ℕ
+    tailOf n q b =
+        choose (eqb q 0) [] (chain g store n (naturalOf (getD store b (pos 0))) (naturalOf (getD store (b + 2) (pos 0))))
+
+    -- the newest is the one that they lead from
+    pub chain-is : (n q b : ℕ) → chain g store (suc n) q b ≡ q ∷ tailOf n q b
+    unfolding chain tailOf
+    chain-is n q b = refl
