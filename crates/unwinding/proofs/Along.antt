@@ -2,14 +2,14 @@
 use mathlib.Core.Path.{_≡_, refl, sym, _∙_, ap}
 use mathlib.Core.Bool.{Bool, true, false}
 use mathlib.Core.List.{List, [], _∷_}
-use Prim.Native.Nat.{ℕ, zero, suc, _+_, _-_, _*_, _/_, _≤_, _<_}
+use Prim.Native.Nat.{ℕ, suc, _+_, _-_, _*_, _/_, _≤_, _<_}
 use native.Mathlib.Omega.{arith}
 use native.Mathlib.Decide.{decLt}
 use borrow.Author.Tests.{ltb-true, eqb-true, lt-ltb, eq-eqb, ne-eqb}
-use lib.Dec.{ltb, eqb}
+use lib.Dec.{eqb}
 use lib.IntN.{ℤ, pos}
 use lib.ListN.{length, getD}
-use Rattle.prelude.specs.Choice.{choose, _also_}
+use Rattle.prelude.specs.Choice.{_also_}
 use Rattle.prelude.specs.Cells.{Filled}
 use Rattle.prelude.proofs.Choice.{choose-yes, choose-no, also-true, also-yes, clash}
 use Rattle.prelude.proofs.Cells.{filled-at}
@@ -27,7 +27,7 @@ use Rattle.unwinding.specs.Blocks.{BLOCKS, BLOCK, blockEnd, Blocks}
 use Rattle.unwinding.proofs.Links.{same-truth, not-yes, link-is, link-back}
 use Rattle.unwinding.proofs.Blocks.{block-begun, block-before, block-within, block-all}
 use Rattle.unwinding.proofs.Walking.{frame, frame-links, natural, walked-base, walked-end, walked-links}
-use Rattle.unwinding.proofs.Walking.{walked-procedure, Oldest, walked-oldest, oldest-walked, Newer, walked-newer}
+use Rattle.unwinding.proofs.Walking.{walked-procedure, walked-oldest, oldest-walked, Newer, walked-newer}
 use Rattle.unwinding.proofs.Walking.{walked-older, newer-walked, tailOf, chain-is}
 use Rattle.unwinding.proofs.Going.{other-called, below-here, below-older, caller-is}
 use Rattle.unwinding.proofs.Bodies.{call-low}

@@ -1,5 +1,5 @@
 -- Laws of blocks: which of them an address, or a frame that begins there, is of.
-use Prim.Native.Nat.{ℕ, _+_, _-_, _*_, _/_, _≤_, _<_}
+use Prim.Native.Nat.{ℕ, _+_, _-_, _/_, _≤_, _<_}
 use native.Mathlib.Omega.{arith}
 use native.Mathlib.Nat.{mul-div-le, lt-div-mul-add, div-lt-iff-lt-mul}
 use Rattle.unwinding.specs.Blocks.{BLOCKS, BLOCK, blockEnd}

@@ -1,15 +1,14 @@
 -- Loops over the frames: they begin at the newest, go on by `caller`, and are through at procedure 0's.
 use mathlib.Core.Path.{_≡_, refl, sym, _∙_, ap}
-use mathlib.Core.Bool.{Bool, true, false}
+use mathlib.Core.Bool.{true}
 use mathlib.Core.List.{List, [], _∷_}
-use Prim.Native.Nat.{ℕ, zero, suc, _+_, _-_, _*_, _≤_, _<_}
+use Prim.Native.Nat.{ℕ, suc, _+_, _-_, _*_, _≤_, _<_}
 use native.Mathlib.Omega.{arith}
 use native.Mathlib.Decide.{decLt}
-use borrow.Author.Tests.{ltb-true, lt-ltb, le-ltb, eqb-true}
-use lib.Dec.{ltb, eqb}
+use borrow.Author.Tests.{lt-ltb, le-ltb, eqb-true}
 use lib.IntN.{ℤ, pos}
-use lib.ListN.{length, getD}
-use Rattle.prelude.specs.Choice.{choose, _also_}
+use lib.ListN.{getD}
+use Rattle.prelude.specs.Choice.{_also_}
 use Rattle.prelude.proofs.Choice.{choose-yes, choose-no, also-true, clash}
 use Rattle.image.specs.Rows.{rowAt, rowsOf}
 use Rattle.image.proofs.Bytes.{row-there}
@@ -22,11 +21,11 @@ use Rattle.asking.specs.State.{naturalOf, chain, callKept, endsAt}
 use Rattle.asking.specs.Passes.{linked, Walked, newestBelow}
 use Rattle.access.specs.Ready.{Planned}
 use Rattle.unwinding.specs.declared.Spot.{Spot}
-use Rattle.unwinding.specs.Links.{linkAt, callerOf, spotOf}
+use Rattle.unwinding.specs.Links.{callerOf, spotOf}
 use Rattle.unwinding.specs.Going.{Going, Newest}
 use Rattle.unwinding.proofs.Links.{link-is, spot-is}
-use Rattle.unwinding.proofs.Walking.{room-more, room-least, frame-links, walked-base, walked-room, walked-links}
-use Rattle.unwinding.proofs.Walking.{walked-procedure, walked-oldest, Newer, walked-newer, walked-older}
+use Rattle.unwinding.proofs.Walking.{walked-base, walked-links}
+use Rattle.unwinding.proofs.Walking.{walked-procedure, walked-oldest, walked-newer, walked-older}
 
 module _ (g : Program) where
   -- ---- from a frame to its caller's
@@ -90,7 +89,7 @@ module _ (g : Program) where
   unfolding newestBelow
   below-older q qs at h = choose-no _ _ _ (le-ltb _ _ h)
 
-  object-older : (w q : ℕ) (qs : List ℕ) (at : ℕ) → at ≤ roomOf g qs → objectAt g w (q ∷ qs) at ≡ objectAt g w qs at
+  pub object-older : (w q : ℕ) (qs : List ℕ) (at : ℕ) → at ≤ roomOf g qs → objectAt g w (q ∷ qs) at ≡ objectAt g w qs at
   unfolding objectAt
   object-older w q qs at h = choose-no _ _ _ (le-ltb (roomOf g qs) at h)
 

@@ -1,7 +1,7 @@
 -- Seeking a frame by address, from that of its block on.
-use mathlib.Core.Path.{_≡_, refl, sym, _∙_, ap}
-use mathlib.Core.List.{List, [], _∷_}
-use Prim.Native.Nat.{ℕ, _+_, _-_, _*_, _/_, _%_, _≤_, _<_}
+use mathlib.Core.Path.{_≡_, _∙_, ap}
+use mathlib.Core.List.{List, []}
+use Prim.Native.Nat.{ℕ, _-_, _/_, _%_, _≤_, _<_}
 use native.Mathlib.Omega.{arith}
 use lib.IntN.{ℤ}
 use lib.ListN.{getD}
@@ -12,7 +12,7 @@ use Rattle.asking.specs.Passes.{Walked, newestBelow}
 use Rattle.unwinding.specs.declared.Spot.{Spot}
 use Rattle.unwinding.specs.Links.{callerOf, spotOf}
 use Rattle.unwinding.specs.Blocks.{BLOCK, blockEnd, Blocks}
-use Rattle.unwinding.specs.Going.{Going, Newest}
+use Rattle.unwinding.specs.Going.{Going}
 use Rattle.unwinding.proofs.Links.{spot-is}
 use Rattle.unwinding.proofs.Blocks.{block-low, block-behind, block-most}
 use Rattle.unwinding.proofs.Walking.{walked-base, walked-links}

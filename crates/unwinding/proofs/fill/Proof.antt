@@ -1,8 +1,7 @@
 -- `unwinding::fill` meets its contract: one cell more in every turn.
 use mathlib.Core.Path.{_≡_, refl}
-use Prim.Native.Nat.{suc, _+_, _-_, _≤_, _<_}
+use Prim.Native.Nat.{suc, _+_, _-_, _≤_}
 use native.Mathlib.Omega.{arith}
-use lib.ListN.{length}
 use borrow.Author.Needs.{needs}
 use Rattle.prelude.specs.Cells.{Filled}
 use Rattle.prelude.proofs.Cells.{filled-none, filled-next}

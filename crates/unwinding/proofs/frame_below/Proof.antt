@@ -1,13 +1,13 @@
 -- `unwinding::frame_below` meets its contract: the frame of the block is no older than the one that is looked for.
-use mathlib.Core.Path.{_≡_, refl, sym, _∙_, ap}
+use mathlib.Core.Path.{sym}
 use mathlib.Core.List.{List, []}
-use Prim.Native.Nat.{ℕ, _+_, _-_, _*_, _/_, _%_, _≤_, _<_}
+use Prim.Native.Nat.{ℕ, _-_, _/_, _≤_, _<_}
 use native.Mathlib.Omega.{arith}
 use native.Mathlib.Nat.{mod-lt, div-lt-iff-lt-mul}
 use Rattle.image.specs.Rows.{rowsOf}
 use Rattle.semantics.specs.Layout.{Program}
 use Rattle.asking.specs.Asking.{roomOf}
-use Rattle.asking.specs.Passes.{Walked, newestBelow}
+use Rattle.asking.specs.Passes.{Walked}
 use Rattle.unwinding.specs.Blocks.{Blocks}
 use Rattle.unwinding.proofs.Blocks.{block-low}
 use Rattle.unwinding.proofs.Seeking.{Seeking, seeking-start, seeking-on, seeking-ends}

@@ -1,6 +1,4 @@
 -- `unwinding::oldest_kept` meets its contract, test by test.
-use mathlib.Core.Path.{_≡_, refl, _∙_}
-use mathlib.Core.List.{[]}
 use Rattle.prelude.specs.Choice.{_also_}
 use Rattle.prelude.proofs.Choice.{tests}
 use Rattle.semantics.specs.Running.{globalRoom}
