@@ -2,15 +2,14 @@
 use mathlib.Core.Path.{_≡_, refl, sym, _∙_, ap}
 use mathlib.Core.Bool.{Bool, true, false}
 use mathlib.Core.List.{List, [], _∷_}
-use Prim.Native.Nat.{ℕ, zero, suc, _+_, _-_, _*_, _/_, _≤_, _<_}
+use Prim.Native.Nat.{ℕ, suc, _+_, _-_, _*_, _/_, _≤_, _<_}
 use native.Mathlib.Omega.{arith}
 use native.Mathlib.Decide.{decLt}
-use native.Mathlib.Nat.{mul-div-le, lt-div-mul-add, div-lt-iff-lt-mul}
 use borrow.Author.Tests.{ltb-true, eqb-true, lt-ltb, eq-eqb, ne-eqb}
-use lib.Dec.{ltb, eqb}
+use lib.Dec.{eqb}
 use lib.IntN.{ℤ, pos}
 use lib.ListN.{length, getD}
-use Rattle.prelude.specs.Choice.{choose, _also_}
+use Rattle.prelude.specs.Choice.{_also_}
 use Rattle.prelude.specs.Cells.{Filled}
 use Rattle.prelude.proofs.Choice.{choose-yes, choose-no, also-true, also-yes, clash}
 use Rattle.prelude.proofs.Cells.{filled-at}
@@ -24,11 +23,12 @@ use Rattle.access.specs.Ready.{Planned}
 use Rattle.access.proofs.Bounds.{procedures-few}
 use Rattle.unwinding.specs.declared.Spot.{Spot}
 use Rattle.unwinding.specs.Links.{linkAt, callerOf, sizeKept, oldestKept}
-use Rattle.unwinding.specs.Blocks.{BLOCKS, BLOCK, Blocks}
+use Rattle.unwinding.specs.Blocks.{BLOCKS, BLOCK, blockEnd, Blocks}
 use Rattle.unwinding.proofs.Links.{same-truth, not-yes, link-is, link-back}
+use Rattle.unwinding.proofs.Blocks.{block-begun, block-before, block-within, block-all}
 use Rattle.unwinding.proofs.Walking.{frame, frame-links, natural, walked-base, walked-end, walked-links}
-use Rattle.unwinding.proofs.Walking.{walked-procedure, Oldest, walked-oldest, oldest-walked, Newer, walked-newer}
-use Rattle.unwinding.proofs.Walking.{walked-older, newer-walked}
+use Rattle.unwinding.proofs.Walking.{walked-procedure, walked-oldest, oldest-walked, Newer, walked-newer}
+use Rattle.unwinding.proofs.Walking.{walked-older, newer-walked, tailOf, chain-is}
 use Rattle.unwinding.proofs.Going.{other-called, below-here, below-older, caller-is}
 use Rattle.unwinding.proofs.Bodies.{call-low}
 
@@ -45,27 +45,18 @@ module _ (g : Program) (store : List ℤ) where
   walked-kept : {qs : List ℕ} {b e : ℕ} → Walked g qs store b e → kept qs b e ≡ true
   walked-kept w = also-yes (w .ends) (w .links)
 
-  -- the older frames of one of procedure q at b, of which there are at most n
-  unfoldable pub tailOf : ℕ → ℕ → ℕ → List ℕ
-  tailOf n q b =
-      choose (eqb q 0) [] (chain g store n (naturalOf (getD store b (pos 0))) (naturalOf (getD store (b + 2) (pos 0))))
-
-  chain-is : (n q b : ℕ) → chain g store (suc n) q b ≡ q ∷ tailOf n q b
-  unfolding chain tailOf
-  chain-is n q b = refl
-
-  tail-first : (n b : ℕ) → tailOf n 0 b ≡ []
+  tail-first : (n b : ℕ) → tailOf g store n 0 b ≡ []
   unfolding tailOf
   tail-first n b = choose-yes _ _ _ (eq-eqb 0 0 refl)
 
   tail-on : (n q b c z : ℕ) → (q ≡ 0 → ⊥) → getD store b (pos 0) ≡ pos c → getD store (b + 2) (pos 0) ≡ pos z → 1 ≤ n
-      → tailOf n q b ≡ c ∷ tailOf (n - 1) c z
+      → tailOf g store n q b ≡ c ∷ tailOf g store (n - 1) c z
   unfolding tailOf
   tail-on n q b c z other x y some =
       let one : n ≡ suc (n - 1) = omega arith in
       choose-no _ _ _ (ne-eqb q 0 other)
       ∙ ap (λ (m : ℕ). chain g store m (naturalOf (getD store b (pos 0))) (naturalOf (getD store (b + 2) (pos 0)))) one
-      ∙ rw (ap naturalOf x ∙ natural c, ap naturalOf y ∙ natural z) (chain-is (n - 1) c z)
+      ∙ rw (ap naturalOf x ∙ natural c, ap naturalOf y ∙ natural z) (chain-is g store (n - 1) c z)
 
   -- a frame ends where its size says
   walked-size : {q : ℕ} {qs : List ℕ} {b e : ℕ} → Walked g (q ∷ qs) store b e → sizeKept g q b e ≡ true
@@ -126,16 +117,16 @@ module _ (g : Program) (store : List ℤ) (all : List ℕ) (base top : ℕ) wher
     pub enough : b ≤ fuel
     pub same : asked ≡ kept g store (q ∷ tailOf g store fuel q b) b e
     pub few : high ≤ BLOCKS
-    pub above : e < high * BLOCK + BLOCK
-    pub done : asked ≡ true → (j : ℕ) → high ≤ j → j < BLOCKS → getD blocks j 0 ≡ newestBelow g all (j * BLOCK + BLOCK)
+    pub above : e < blockEnd high
+    pub done : asked ≡ true → (j : ℕ) → high ≤ j → j < BLOCKS → getD blocks j 0 ≡ newestBelow g all (blockEnd j)
     pub left : asked ≡ true → (j : ℕ) → j < high
-        → newestBelow g all (j * BLOCK + BLOCK) ≡ newestBelow g (q ∷ tailOf g store fuel q b) (j * BLOCK + BLOCK)
+        → newestBelow g all (blockEnd j) ≡ newestBelow g (q ∷ tailOf g store fuel q b) (blockEnd j)
 
   -- the blocks from `low` on are filled, and only this frame's older ones are left for those below
   pub record Past (blocks : List ℕ) (q b low fuel : ℕ) : Type 0 where
-    pub done : asked ≡ true → (j : ℕ) → low ≤ j → j < BLOCKS → getD blocks j 0 ≡ newestBelow g all (j * BLOCK + BLOCK)
+    pub done : asked ≡ true → (j : ℕ) → low ≤ j → j < BLOCKS → getD blocks j 0 ≡ newestBelow g all (blockEnd j)
     pub left : asked ≡ true → (j : ℕ) → j < low
-        → newestBelow g all (j * BLOCK + BLOCK) ≡ newestBelow g (tailOf g store fuel q b) (j * BLOCK + BLOCK)
+        → newestBelow g all (blockEnd j) ≡ newestBelow g (tailOf g store fuel q b) (blockEnd j)
 
 module _ {image plan : List ℕ} (p : Planned image plan) (store : List ℤ) (all : List ℕ) (base top : ℕ)
     (long : top ≤ length store) (most : length store ≤ 65536) where
@@ -160,9 +151,9 @@ module _ {image plan : List ℕ} (p : Planned image plan) (store : List ℤ) (al
         enough = omega arith;
         same = ap (λ (l : List ℕ). kept g store l base top) frames;
         few = omega arith;
-        above = omega arith;
+        above = block-all top (omega arith);
         done = λ said j h k. absurd (omega arith);
-        left = λ said j h. ap (λ (l : List ℕ). newestBelow g l (j * BLOCK + BLOCK)) frames;
+        left = λ said j h. ap (λ (l : List ℕ). newestBelow g l (blockEnd j)) frames;
       }
 
   module _ {blocks : List ℕ} {q b e high : ℕ} (h : Stands blocks q b e high) where
@@ -177,9 +168,7 @@ module _ {image plan : List ℕ} (p : Planned image plan) (store : List ℤ) (al
     pub along-block : sizeKept g q b e ≡ true → b / BLOCK ≤ high
     along-block sized =
         let own = size-links g store q b e sized in
-        let up = h .above in
-        let less = div-lt-iff-lt-mul {k = 64} {x = b} {y = high + 1} (omega arith) .1 (omega arith) in
-        omega arith
+        block-within b high (omega (arith, h .above))
 
     pub along-filled : sizeKept g q b e ≡ true → {new : List ℕ}
         → Filled (b / BLOCK) (high - b / BLOCK) (λ j. q * 65536 + b) blocks new → Done new q b (b / BLOCK) (h .fuel)
@@ -187,16 +176,16 @@ module _ {image plan : List ℕ} (p : Planned image plan) (store : List ℤ) (al
       done = λ said j up few. go said j up few (decLt j high);
       left = λ said j low.
           let base = walked-base g (walked said) in
-          let under = mul-div-le b 64 in
+          let under = block-before b j low in
           h .left said j (omega (arith, along-block sized)) ∙ below-older g q (tailOf g store (h .fuel) q b) _ (omega arith);
     }
       where
         go : wanted ≡ true → (j : ℕ) → b / BLOCK ≤ j → j < BLOCKS → Dec (j < high)
-            → getD new j 0 ≡ newestBelow g all (j * BLOCK + BLOCK)
+            → getD new j 0 ≡ newestBelow g all (blockEnd j)
         go said j up few (yes low) =
             let at : b / BLOCK + (j - b / BLOCK) ≡ j = omega arith in
             let base = walked-base g (walked said) in
-            let end = lt-div-mul-add {a = b} {b = 64} (omega arith) in
+            let begun = block-begun b j up in
             rw at at (filled .cell (j - b / BLOCK) (omega arith))
             ∙ sym (h .left said j low ∙ below-here g q (tailOf g store (h .fuel) q b) _ (omega arith) ∙ rw (← base))
         go said j up few (no far) = filled .above j (omega (arith, along-block sized)) ∙ h .done said j (omega arith) few
@@ -217,7 +206,7 @@ module _ {image plan : List ℕ} (p : Planned image plan) (store : List ℤ) (al
     unfolding newestBelow
     past-first first {half} {new} past filled said = record { each = λ j few. go j few (decLt j (b / BLOCK)) }
       where
-        go : (j : ℕ) → j < BLOCKS → Dec (j < b / BLOCK) → getD new j 0 ≡ newestBelow g all (j * BLOCK + BLOCK)
+        go : (j : ℕ) → j < BLOCKS → Dec (j < b / BLOCK) → getD new j 0 ≡ newestBelow g all (blockEnd j)
         go j few (yes low) =
             let none = tail-first g store (h .fuel) b in
             let rest = rw (first, none) at (past .left said j low) in
@@ -286,14 +275,13 @@ module _ {image plan : List ℕ} (p : Planned image plan) (store : List ℤ) (al
           let up = h .within in
           let room = h .enough in
           let tail = tail-on g store (h .fuel) q b (x .procedure) (x .base) other (n .is-caller) (n .is-base) (omega arith) in
-          let end = lt-div-mul-add {a = b} {b = 64} (omega arith) in
           record {
             within = omega arith;
             fuel = h .fuel - 1;
             enough = omega arith;
             same = h .same ∙ ap (λ (l : List ℕ). kept g store (q ∷ l) b e) tail ∙ next-same n _ own;
             few = omega (arith, along-block sized, h .few);
-            above = omega arith;
+            above = block-begun b (b / BLOCK) (omega arith);
             done = past .done;
-            left = λ said j low. past .left said j low ∙ ap (λ (l : List ℕ). newestBelow g l (j * BLOCK + BLOCK)) tail;
+            left = λ said j low. past .left said j low ∙ ap (λ (l : List ℕ). newestBelow g l (blockEnd j)) tail;
           }

@@ -1,18 +1,17 @@
 -- Bodies of an accepted image, as the code asks for them.
-use mathlib.Core.Path.{_≡_, refl, sym, _∙_, ap}
-use mathlib.Core.Bool.{Bool, true, false}
+use mathlib.Core.Path.{_≡_, sym, _∙_, ap}
+use mathlib.Core.Bool.{true, false}
 use mathlib.Core.List.{List}
-use Prim.Native.Nat.{ℕ, _≤_, _<_}
+use Prim.Native.Nat.{ℕ, _<_}
 use native.Mathlib.Omega.{arith}
 use native.Mathlib.Decide.{decLt}
 use borrow.Author.Tests.{ltb-true, leb-true, eqb-true, lt-ltb, le-leb, eq-eqb}
-use lib.Dec.{ltb, leb, eqb}
+use lib.Dec.{ltb, eqb}
 use Rattle.prelude.specs.Choice.{_also_}
-use Rattle.prelude.proofs.Choice.{also-true, also-yes, clash}
+use Rattle.prelude.proofs.Choice.{also-true, also-yes}
 use Rattle.image.specs.declared.Row.{Row}
 use Rattle.image.specs.Rows.{rowAt, rowsOf}
 use Rattle.image.proofs.Bytes.{row-missing}
-use Rattle.frames.specs.Procedures.{bodyEnd}
 use Rattle.statements.specs.Statements.{procedureAt}
 use Rattle.statements.proofs.Bodies.{InBody, end-within, start-in, body-only}
 use Rattle.statements.proofs.Accepted.{StatementRow, StatementRow.is-assign, StatementRow.is-call}

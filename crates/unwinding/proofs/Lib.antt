@@ -1,4 +1,5 @@
-pub mod Links
+mod Links
+mod Blocks
 pub mod Walking
 pub mod Going
 mod Seeking

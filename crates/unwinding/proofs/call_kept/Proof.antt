@@ -6,50 +6,37 @@ use Rattle.asking.specs.State.{callKept}
 use borrow.Author.Needs.{needs}
 use Rattle.unwinding.proofs.call_kept.Statement.{statement}
 use Rattle.unwinding.proofs.call_kept.Tie as tie
-use Rattle.unwinding.proofs.call_kept.Reads as reads
-use Rattle.unwinding.proofs.call_kept.Lts as lts
-use Rattle.access.proofs.statement_at.Reads as statement-at-reads
-use Rattle.unwinding.proofs.inside.Reads as inside-reads
 
--- src/lib.rt:119:9
 returns : tie.Need-returns
 unfolding callKept _also_
 returns c = search tests
 
--- src/lib.rt:121:16
 cast-call : tie.Need-cast-call
 cast-call c = search needs
 
--- src/lib.rt:122:9
 statement-at-requires : tie.Need-statement-at-requires
 statement-at-requires c κs = search needs
 
--- src/lib.rt:126:9
 returns-2 : tie.Need-returns-2
 unfolding callKept _also_
 returns-2 c = search (tests, ← c .before .statement-at .ensures)
 
--- src/lib.rt:129:9
 returns-3 : tie.Need-returns-3
 unfolding callKept _also_
 returns-3 c = search (tests, ← c .before .before .statement-at .ensures)
 
--- src/lib.rt:131:9
 inside-requires : tie.Need-inside-requires
 inside-requires c κs = search needs
 
--- src/lib.rt:132:9
 returns-4 : tie.Need-returns-4
 unfolding callKept _also_
 returns-4 c =
     let row = c .before .before .before .before .statement-at in
     search (tests, ← row .ensures, ← c .before .inside .ensures, not-true (c .before .inside .result) (c .if4 .taken))
 
--- src/lib.rt:134:5
 inside-requires-2 : tie.Need-inside-requires-2
 inside-requires-2 c κs = search needs
 
--- src/lib.rt:114:1
 returns-5 : tie.Need-returns-5
 unfolding callKept _also_
 returns-5 c =

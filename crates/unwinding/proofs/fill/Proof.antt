@@ -1,15 +1,12 @@
 -- `unwinding::fill` meets its contract: one cell more in every turn.
 use mathlib.Core.Path.{_≡_, refl}
-use Prim.Native.Nat.{suc, _+_, _-_, _≤_, _<_}
+use Prim.Native.Nat.{suc, _+_, _-_, _≤_}
 use native.Mathlib.Omega.{arith}
-use lib.ListN.{length}
 use borrow.Author.Needs.{needs}
 use Rattle.prelude.specs.Cells.{Filled}
 use Rattle.prelude.proofs.Cells.{filled-none, filled-next}
 use Rattle.unwinding.proofs.fill.Statement.{statement}
 use Rattle.unwinding.proofs.fill.Tie as tie
-use Rattle.unwinding.proofs.fill.Reads as reads
-use Rattle.unwinding.proofs.fill.Lts as lts
 
 abbrev Inv-loop : tie.InvT-loop
 Inv-loop blocks₀ from to number i₀ blocks i =
@@ -18,30 +15,24 @@ Inv-loop blocks₀ from to number i₀ blocks i =
 abbrev μ-loop : tie.MeasureT-loop
 μ-loop blocks₀ from to number i₀ blocks i = to - i
 
--- src/lib.rt:178:5
 loop-holds : tie.Need-loop-holds Inv-loop μ-loop
 loop-holds c =
     let none : c .args .from - c .args .from ≡ 0 = omega arith in
     (omega arith, c .pre .0, rw none (filled-none _ _ _))
 
--- src/lib.rt:179:9
 mul-blocks : tie.Need-mul-blocks Inv-loop μ-loop
 mul-blocks c = search needs
 
--- src/lib.rt:179:9
 slice-write-blocks : tie.Need-slice-write-blocks Inv-loop μ-loop
 slice-write-blocks c = let (least, most, filled) = c .before .loop .inv in
     omega (arith, filled .cells, c .before .before .pre .1, c .loop-test .taken)
 
--- src/lib.rt:180:13
 add-i : tie.Need-add-i Inv-loop μ-loop
 add-i c = search needs
 
--- src/lib.rt:178:5
 loop-less : tie.Need-loop-less Inv-loop μ-loop
 loop-less c = let test = c .loop-test .taken in omega arith
 
--- src/lib.rt:178:5
 loop-again : tie.Need-loop-again Inv-loop μ-loop
 loop-again c =
     let l = c .before .loop in
@@ -53,11 +44,9 @@ loop-again c =
     (omega (arith, filled .cells, s .pre .1)) refl in
     (omega arith, omega arith, rw more next)
 
--- src/lib.rt:173:1
 same-length : tie.Need-same-length Inv-loop μ-loop
 same-length c = c .before .loop .inv .2 .cells
 
--- src/lib.rt:173:1
 returns : tie.Need-returns Inv-loop μ-loop
 returns c =
     let l = c .before .loop in

@@ -3,27 +3,19 @@ use Rattle.unwinding.proofs.Bodies.{inside-missing, statement-there, in
 use borrow.Author.Needs.{needs}
 use Rattle.unwinding.proofs.inside.Statement.{statement}
 use Rattle.unwinding.proofs.inside.Tie as tie
-use Rattle.unwinding.proofs.inside.Reads as reads
-use Rattle.unwinding.proofs.inside.Lts as lts
-use Rattle.access.proofs.procedure_of.Reads as procedure-of-reads
-use Rattle.access.proofs.statement_at.Reads as statement-at-reads
 
--- src/lib.rt:94:9
 statement-at-requires : tie.Need-statement-at-requires
 statement-at-requires c κs = search needs
 
--- src/lib.rt:97:9
 returns : tie.Need-returns
 returns c = inside-missing (c .before .before .pre .planned) _ _ (c .before .statement-at .ensures) (c .if1 .taken)
 
--- src/lib.rt:99:9
 procedure-of-requires : tie.Need-procedure-of-requires
 procedure-of-requires c κs = (
   c .before .before .pre,
   statement-there (c .before .before .pre .planned) _ (c .before .statement-at .ensures) (c .if1 .left),
 )
 
--- src/lib.rt:90:1
 returns-2 : tie.Need-returns-2
 returns-2 c =
     let s = c .before .before .before in

@@ -4,24 +4,16 @@ use Rattle.unwinding.proofs.Bodies.{inside-first}
 use borrow.Author.Needs.{needs}
 use Rattle.unwinding.proofs.is_procedure.Statement.{statement}
 use Rattle.unwinding.proofs.is_procedure.Tie as tie
-use Rattle.unwinding.proofs.is_procedure.Reads as reads
-use Rattle.unwinding.proofs.is_procedure.Lts as lts
-use Rattle.access.proofs.procedure_at.Reads as procedure-at-reads
-use Rattle.unwinding.proofs.inside.Reads as inside-reads
 
--- src/lib.rt:108:9
 procedure-at-requires : tie.Need-procedure-at-requires
 procedure-at-requires c κs = search needs
 
--- src/lib.rt:110:28
 cast-inside : tie.Need-cast-inside
 cast-inside c = search needs
 
--- src/lib.rt:110:5
 inside-requires : tie.Need-inside-requires
 inside-requires c κs = search needs
 
--- src/lib.rt:104:1
 returns : tie.Need-returns
 returns c = c .inside .ensures ∙ inside-first (c .before .before .pre .planned) _ (c .before .procedure-at .ensures)
 

@@ -1,6 +1,4 @@
 -- `unwinding::oldest_kept` meets its contract, test by test.
-use mathlib.Core.Path.{_≡_, refl, _∙_}
-use mathlib.Core.List.{[]}
 use Rattle.prelude.specs.Choice.{_also_}
 use Rattle.prelude.proofs.Choice.{tests}
 use Rattle.semantics.specs.Running.{globalRoom}
@@ -9,51 +7,37 @@ use Rattle.unwinding.specs.Links.{oldestKept}
 use borrow.Author.Needs.{needs}
 use Rattle.unwinding.proofs.oldest_kept.Statement.{statement}
 use Rattle.unwinding.proofs.oldest_kept.Tie as tie
-use Rattle.unwinding.proofs.oldest_kept.Reads as reads
-use Rattle.unwinding.proofs.oldest_kept.Lts as lts
-use Rattle.access.proofs.global_room.Reads as global-room-reads
-use Rattle.unwinding.proofs.link.Reads as link-reads
 
--- src/lib.rt:157:9
 global-room-requires : tie.Need-global-room-requires
 global-room-requires c κs = search needs
 
--- src/lib.rt:159:9
 returns : tie.Need-returns
 unfolding oldestKept _also_ roomOf globalRoom
 returns c = search (tests, ← c .before .global-room .ensures)
 
--- src/lib.rt:161:8
 link-requires : tie.Need-link-requires
 link-requires c κs = search needs
 
--- src/lib.rt:162:9
 returns-2 : tie.Need-returns-2
 unfolding oldestKept _also_ roomOf globalRoom
 returns-2 c = search (tests, ← c .before .before .before .global-room .ensures, ← c .before .link .ensures)
 
--- src/lib.rt:164:25
 add-link : tie.Need-add-link
 add-link c = search needs
 
--- src/lib.rt:164:8
 link-requires-2 : tie.Need-link-requires-2
 link-requires-2 c κs = search needs
 
--- src/lib.rt:165:9
 returns-3 : tie.Need-returns-3
 unfolding oldestKept _also_ roomOf globalRoom
 returns-3 c = search (tests, ← c .before .before .before .before .before .global-room .ensures, ← c .before .before .before .link .ensures, ← c .before .link2 .ensures)
 
--- src/lib.rt:167:22
 add-link-2 : tie.Need-add-link-2
 add-link-2 c = search needs
 
--- src/lib.rt:167:5
 link-requires-3 : tie.Need-link-requires-3
 link-requires-3 c κs = search needs
 
--- src/lib.rt:153:1
 returns-4 : tie.Need-returns-4
 unfolding oldestKept _also_ roomOf globalRoom
 returns-4 c = search (tests, ← c .before .before .before .before .before .before .global-room .ensures, ← c .before .before .before .before .link .ensures, ← c .before .before .link2 .ensures, ← c .link3 .ensures)

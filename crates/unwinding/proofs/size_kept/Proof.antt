@@ -8,28 +8,20 @@ use Rattle.unwinding.proofs.Links.{end-short, end-same}
 use borrow.Author.Needs.{needs}
 use Rattle.unwinding.proofs.size_kept.Statement.{statement}
 use Rattle.unwinding.proofs.size_kept.Tie as tie
-use Rattle.unwinding.proofs.size_kept.Reads as reads
-use Rattle.unwinding.proofs.size_kept.Lts as lts
-use Rattle.access.proofs.frame_size.Reads as frame-size-reads
-use Rattle.unwinding.proofs.is_procedure.Reads as is-procedure-reads
 
--- src/lib.rt:142:9
 is-procedure-requires : tie.Need-is-procedure-requires
 is-procedure-requires c κs = search needs
 
--- src/lib.rt:143:9
 returns : tie.Need-returns
 unfolding sizeKept
 returns c = sym (also-left _ (sym (c .before .is-procedure .ensures) ∙ not-true _ (c .if1 .taken)))
 
--- src/lib.rt:145:9
 frame-size-requires : tie.Need-frame-size-requires
 frame-size-requires c κs = (
   c .before .before .pre .planned,
   ltb-true _ _ (sym (c .before .is-procedure .ensures) ∙ not-false _ (c .if1 .left)),
 )
 
--- src/lib.rt:147:9
 returns-2 : tie.Need-returns-2
 unfolding sizeKept
 returns-2 c = sym (also-right _ (end-short _ _ (c .before .frame-size .ensures) (c .if2 .taken)))

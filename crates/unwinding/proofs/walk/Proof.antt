@@ -1,7 +1,7 @@
 -- `unwinding::walk` meets its contract: what is asked of all frames is asked of those that are left.
 use mathlib.Core.Path.{_≡_, refl, sym, _∙_}
-use mathlib.Core.Bool.{true, false}
-use Prim.Native.Nat.{ℕ, suc, _+_, _-_, _*_, _/_, _≤_, _<_}
+use mathlib.Core.Bool.{true}
+use Prim.Native.Nat.{suc, _+_, _-_, _/_, _≤_, _<_}
 use native.Mathlib.Omega.{arith}
 use native.Mathlib.Nat.{div-le-self}
 use borrow.Author.Tests.{not-true, not-false}
@@ -16,14 +16,6 @@ use Rattle.unwinding.proofs.Along.{Along, Past, size-both, size-links, 
 use Rattle.unwinding.proofs.Along.{along-first, past-first, along-uncalled, along-unfallen, along-on}
 use Rattle.unwinding.proofs.walk.Statement.{statement}
 use Rattle.unwinding.proofs.walk.Tie as tie
-use Rattle.unwinding.proofs.walk.Reads as reads
-use Rattle.unwinding.proofs.walk.Lts as lts
-use Rattle.unwinding.proofs.call_kept.Reads as call-kept-reads
-use Rattle.unwinding.proofs.caller.Reads as caller-reads
-use Rattle.unwinding.proofs.fill.Reads as fill-reads
-use Rattle.unwinding.proofs.link.Reads as link-reads
-use Rattle.unwinding.proofs.oldest_kept.Reads as oldest-kept-reads
-use Rattle.unwinding.proofs.size_kept.Reads as size-kept-reads
 
 abbrev Inv-loop : tie.InvT-loop
 Inv-loop image plan store q base top blocks₀ procedure₀ start₀ end₀ high₀ blocks procedure start end high =
@@ -35,19 +27,15 @@ abbrev μ-loop : tie.MeasureT-loop
 μ-loop image plan store q base top blocks₀ procedure₀ start₀ end₀ high₀ blocks procedure start end high =
     start
 
--- src/lib.rt:209:5
 loop-holds : tie.Need-loop-holds Inv-loop μ-loop
 loop-holds c = (refl, along-start (c .before .pre .0 .planned) _ _ _ _ (c .before .pre .1) (c .before .pre .2) _ refl _)
 
--- src/lib.rt:210:13
 size-kept-requires : tie.Need-size-kept-requires Inv-loop μ-loop
 size-kept-requires c κs = c .before .before .pre .0
 
--- src/lib.rt:211:13
 same-length : tie.Need-same-length Inv-loop μ-loop
 same-length c = c .before .before .loop .inv .0
 
--- src/lib.rt:211:13
 returns : tie.Need-returns Inv-loop μ-loop
 returns c =
     let s = c .before .before .before .before in
@@ -85,23 +73,18 @@ filled c =
     along-filled (s .pre .0 .planned) _ _ _ _ (s .pre .1) (s .pre .2) (l .inv .1) (sized (c .before .before))
     (c .fill .ensures)
 
--- src/lib.rt:213:19
 cast-low : tie.Need-cast-low Inv-loop μ-loop
 cast-low c = record { fits = omega (arith, small c, div-le-self (c .before .before .loop .start) 64) }
 
--- src/lib.rt:214:23
 cast-packed : tie.Need-cast-packed Inv-loop μ-loop
 cast-packed c = record { fits = omega (arith, small c) }
 
--- src/lib.rt:214:22
 mul-packed : tie.Need-mul-packed Inv-loop μ-loop
 mul-packed c = record { fits = omega (arith, small c) }
 
--- src/lib.rt:214:22
 add-packed : tie.Need-add-packed Inv-loop μ-loop
 add-packed c = record { fits = omega (arith, small c) }
 
--- src/lib.rt:215:9
 fill-requires : tie.Need-fill-requires Inv-loop μ-loop
 fill-requires c κs =
     let l = c .before .before .before .loop in
@@ -110,7 +93,6 @@ fill-requires c κs =
       omega (arith, l .inv .0, l .inv .1 .few, s .pre .3),
     )
 
--- src/lib.rt:217:13
 fill-requires-2 : tie.Need-fill-requires-2 Inv-loop μ-loop
 fill-requires-2 c κs =
     let f = c .before .before .before .before in
@@ -119,20 +101,17 @@ fill-requires-2 c κs =
     let low = along-block (s .pre .0 .planned) _ _ _ _ (s .pre .1) (s .pre .2) (l .inv .1) (sized (f .before .before)) in
     (omega arith, omega (arith, f .fill .ensures .cells, l .inv .0, l .inv .1 .few, s .pre .3))
 
--- src/lib.rt:218:13
 oldest-kept-requires : tie.Need-oldest-kept-requires Inv-loop μ-loop
 oldest-kept-requires c κs =
     let f = c .before .before .before .before .before .before .before in
     let s = f .before .before .before .before .before .before in
     (s .pre .0, s .pre .1, omega (arith, small (f .before .before)))
 
--- src/lib.rt:218:13
 same-length-2 : tie.Need-same-length-2 Inv-loop μ-loop
 same-length-2 c =
     let f = c .before .before .before .before .before .before .before .before in
     c .before .before .before .fill2 .ensures .cells ∙ f .fill .ensures .cells ∙ f .before .before .before .before .loop .inv .0
 
--- src/lib.rt:218:13
 returns-2 : tie.Need-returns-2 Inv-loop μ-loop
 returns-2 c =
     let f = c .before .before .before .before .before .before .before .before in
@@ -146,32 +125,26 @@ returns-2 c =
           (c .before .before .before .fill2 .ensures) (sym is ∙ said),
     )
 
--- src/lib.rt:220:13
 caller-requires : tie.Need-caller-requires Inv-loop μ-loop
 caller-requires c κs =
     let f = c .before .before .before in
     let s = f .before .before .before .before .before .before in
     (s .pre .1, omega (arith, small (f .before .before)))
 
--- src/lib.rt:223:37
 add-link : tie.Need-add-link Inv-loop μ-loop
 add-link c = record { fits = omega (arith, small (c .before .before .before .before .before .before)) }
 
--- src/lib.rt:223:13
 link-requires : tie.Need-link-requires Inv-loop μ-loop
 link-requires c κs = c .before .before .before .before .before .before .before .before .before .before .pre .1
 
--- src/lib.rt:224:13
 call-kept-requires : tie.Need-call-kept-requires Inv-loop μ-loop
 call-kept-requires c κs = c .before .before .before .before .before .before .before .before .before .before .before .pre .0
 
--- src/lib.rt:225:13
 same-length-3 : tie.Need-same-length-3 Inv-loop μ-loop
 same-length-3 c =
     let f = c .before .before .before .before .before .before .before in
     f .fill .ensures .cells ∙ f .before .before .before .before .loop .inv .0
 
--- src/lib.rt:225:13
 returns-3 : tie.Need-returns-3 Inv-loop μ-loop
 returns-3 c =
     let f = c .before .before .before .before .before .before .before in
@@ -183,28 +156,24 @@ returns-3 c =
       λ e. clash (sym e),
     )
 
--- src/lib.rt:228:13
 same-length-4 : tie.Need-same-length-4 Inv-loop μ-loop
 same-length-4 c =
     let f = c .before .before .before .before .before .before .before .before in
     f .fill .ensures .cells ∙ f .before .before .before .before .loop .inv .0
 
--- src/lib.rt:228:13
 returns-4 : tie.Need-returns-4 Inv-loop μ-loop
 returns-4 c =
     let f = c .before .before .before .before .before .before .before .before in
     let l = f .before .before .before .before .loop in
     let s = f .before .before .before .before .before .before in (
       along-unfallen (s .pre .0 .planned) _ _ _ _ (s .pre .1) (s .pre .2) (l .inv .1) (c .before .before .before .before .before .if2 .left)
-          (c .before .before .before .before .caller .ensures) (c .before .before .before .link .ensures) (c .if4 .taken),
+          (c .before .before .before .before .caller .ensures) (c .before .before .before .link .ensures) (omega (arith, c .if4 .taken)),
       λ e. clash (sym e),
     )
 
--- src/lib.rt:209:5
 loop-less : tie.Need-loop-less Inv-loop μ-loop
 loop-less c = c .if4 .left
 
--- src/lib.rt:209:5
 loop-again : tie.Need-loop-again Inv-loop μ-loop
 loop-again c =
     let f = c .before .before .before .before .before .before .before .before in
