@@ -26,9 +26,6 @@ run-image-requires c κs = search needs
 print-result-requires : tie.Need-print-result-requires
 print-result-requires c κs = search needs
 
-cast-written : tie.Need-cast-written
-cast-written c = search needs
-
 slice-aggregate-print-output : tie.Need-slice-aggregate-print-output
 slice-aggregate-print-output c = search needs
 
@@ -61,7 +58,6 @@ main-spec =
     slice-aggregate-run-image-2
     run-image-requires
     print-result-requires
-    cast-written
     slice-aggregate-print-output
     array-share-prefix-output
     slice-aggregate-print-output-2
