@@ -67,7 +67,7 @@ module _ (image : List ℕ) (test : List ℕ → ℕ → List ℤ → Bool) (all
         → framesPass g test all store ≡ true
     unfolding framesPass
     over-end p first passes =
-        let alone = first-alone p (rw first at (h .going .walked)) in
+        let alone = first-alone p first (h .going .walked) in
         asked ∙ also-pass _ passes ∙ rw alone
 
 -- from the newest on

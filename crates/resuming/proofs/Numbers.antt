@@ -20,9 +20,9 @@ pub zero-told : (z : ℤ) → toZ w32 (ofZ w32 z) ≡ z → eqb (ofZ w32 z) 0 �
 zero-told z back = go (eqb (ofZ w32 z) 0) refl
   where
     go : (b : Bool) → eqb (ofZ w32 z) 0 ≡ b → b ≡ isNumber z 0
-    go true e = sym (number-same z 0 (sym back ∙ ap (toZ w32) (eqb-true _ _ e)))
+    go true e = sym (number-same z 0 (sym back ∙ ap (λ n. toZ w32 n) (eqb-true (ofZ w32 z) 0 e)))
     go false e =
-        sym (not-yes _ (λ is. clash (sym (eq-eqb _ 0 (ap (ofZ w32) (number-is z 0 is))) ∙ e)))
+        sym (not-yes _ (λ is. clash (sym (eq-eqb _ 0 (ap (λ (y : ℤ). ofZ w32 y) (number-is z 0 is))) ∙ e)))
 
 -- steps lent do not exceed what the steps done leave
 pub steps-told : (done steps : ℕ) → done ≤ 4294967295

@@ -16,6 +16,7 @@ use Rattle.image.specs.Rows.{rowsOf}
 use Rattle.image.specs.declared.Verdict.the-variants.{Kept}
 use Rattle.frames.specs.Variables.{globalsOf}
 use Rattle.frames.specs.Procedures.{firstFrom, firstVariable}
+use Rattle.frames.proofs.Claiming.{globals-within}
 use Rattle.places.specs.Places.{roomFrom, globalCells}
 use Rattle.statements.specs.Statements.{procedureAt}
 use Rattle.types.specs.Question.{question4}
@@ -70,6 +71,10 @@ readable-by {image} p rows filled most = record {
 pub globals-first : (g : Program) → firstVariable (g .variables) (g .procedures) 0 ≡ globalsOf (g .variables)
 unfolding firstVariable firstFrom
 globals-first g = refl
+
+pub globals-there : {image plan : List ℕ} → Planned image plan
+    → 0 + globalsOf (programOf image .variables) ≤ rowsOf (programOf image .variables)
+globals-there {image} p = omega (arith, globals-within (programOf image .variables))
 
 -- they lie below top
 pub globals-room : (g : Program) (store : List ℤ) (q base top : ℕ)

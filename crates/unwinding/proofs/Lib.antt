@@ -1,4 +1,4 @@
-mod Links
+pub mod Links
 mod Blocks
 pub mod Walking
 pub mod Going

@@ -49,7 +49,6 @@ references-requires c κs =
         cells = start .pre .1;
         small = start .pre .2;
       },
-      ?,
     )
 
 returns-3 : tie.Need-returns-3

@@ -1,3 +1,6 @@
+use borrow.Author.Needs.{needs}
+use mir.Syntax.{w32}
+use mir.Val.{toZ, ofZ}
 use Rattle.resuming.proofs.Numbers.{zero-told}
 use mathlib.Core.Path.{_≡_, sym, _∙_, refl}
 use borrow.Author.Tests.{eq-eqb, ne-eqb}
@@ -31,7 +34,11 @@ returns-5 c =
     let three = four .before .before in
     let two = three .before .before in
     let one = two .before .before in
-    zero-told _ (c .struct-told .given) ∙ sym (also-pass _ (eq-eqb _ 0 (one .if1 .left)) ∙ also-pass _ (eq-eqb _ 0 (two .if2 .left)) ∙ also-pass _ (eq-eqb _ 0 (three .if3 .left)) ∙ also-pass _ (eq-eqb _ 0 (four .if4 .left)))
+    let start = one .before .before in
+    let back : toZ w32 (ofZ w32 (start .args .r .halt)) ≡ start .args .r .halt = search needs in
+    zero-told (start .args .r .halt) back
+    ∙ sym (also-pass _ (eq-eqb _ 0 (one .if1 .left)) ∙ also-pass _ (eq-eqb _ 0 (two .if2 .left))
+    ∙ also-pass _ (eq-eqb _ 0 (three .if3 .left)) ∙ also-pass _ (eq-eqb _ 0 (four .if4 .left)))
 
 pub is-unfinished-spec : {M : Type 1} → statement M
 is-unfinished-spec = tie.close (tie.spec returns returns-2 returns-3 returns-4 returns-5)

@@ -24,7 +24,7 @@ sub-result c = search needs
 returns-3 : tie.Need-returns-3
 unfolding withinLent
 returns-3 c =
-    steps-told _ _ (omega arith) ∙ sym (also-pass _ (le-leb _ _ (c .before .before .before .if1 .left)) ∙ also-pass _ (le-leb _ _ (c .before .if2 .left)))
+    (let start = c .before .before .before .before .before .before in steps-told (start .args .r .steps) (start .args .steps) (omega (arith, start .good))) ∙ sym (also-pass _ (le-leb _ _ (c .before .before .before .if1 .left)) ∙ also-pass _ (le-leb _ _ (c .before .if2 .left)))
 
 pub is-within-spec : {M : Type 1} → statement M
 is-within-spec = tie.close (tie.spec returns returns-2 sub-result returns-3)

@@ -5,10 +5,9 @@ use borrow.Author.Tests.{not-true, not-false}
 use Rattle.prelude.specs.Choice.{choose}
 use Rattle.access.specs.Ready.{tableOf}
 use Rattle.access.proofs.Bounds.{types-few, procedures-some}
-use Rattle.frames.proofs.Claiming.{globals-within}
 use Rattle.prelude.proofs.Choice.{also-left, also-pass}
 use Rattle.asking.specs.Passes.{valuesPass}
-use Rattle.resuming.proofs.Passing.{types-kept, readable-by, globals-first, globals-room}
+use Rattle.resuming.proofs.Passing.{types-kept, readable-by, globals-first, globals-there, globals-room}
 use borrow.Author.Needs.{needs}
 use Rattle.resuming.proofs.values_hold.Statement.{statement}
 use Rattle.resuming.proofs.values_hold.Tie as tie
@@ -51,7 +50,7 @@ variables-hold-requires c κs =
     let start = filled .before .before .before .before .before .before .before .before in
     let evens = rw (filled .before .before .table2 .ensures, filled .before .before .before .before .before .table .ensures) at (filled .fill-even .ensures) in
     rw (c .before .first-variable .ensures, globals-first _)
-    (readable-by (start .pre .0 .planned) (types-few (start .pre .0 .planned)) evens (start .pre .2), omega (arith, globals-within _), omega (arith, globals-room _ _ _ _ _ (start .pre .3), start .pre .1))
+    (readable-by (start .pre .0 .planned) (types-few (start .pre .0 .planned)) evens (start .pre .2), globals-there (start .pre .0 .planned), omega (arith, globals-room _ _ _ _ _ (start .pre .3), start .pre .1))
 
 returns : tie.Need-returns
 unfolding valuesPass
