@@ -1,6 +1,6 @@
 -- What the cells of a type are: all of one kind, none, or those of a row with several parts.
 use Prim.Native.Nat.{ℕ, _+_}
-use mathlib.Core.List.{List, [], _∷_}
+use mathlib.Core.List.{List, [], _∷_, map}
 use lib.Dec.{ltb, eqb}
 use lib.IntN.{ℤ, pos, negsuc}
 use Rattle.prelude.specs.Choice.{choose}
@@ -27,10 +27,10 @@ unfoldable pub joint : ℕ → ℕ → ℕ
 joint k j =
     choose (eqb k EMPTY) j (choose (eqb j EMPTY) k (choose (eqb k j) (choose (ltb k EMPTY) k MIXED) MIXED))
 
--- cells k and then objects of these types
-unfoldable pub jointFrom : (ℕ → ℕ) → ℕ → List ℕ → ℕ
-jointFrom even k [] = k
-jointFrom even k (u ∷ l) = jointFrom even (joint k (even u)) l
+-- cells k and then these
+unfoldable pub jointFrom : ℕ → List ℕ → ℕ
+jointFrom k [] = k
+jointFrom k (j ∷ l) = jointFrom (joint k j) l
 
 -- n times cells k, which are those of type row r
 unfoldable pub repeated : ℕ → ℕ → ℕ → ℕ
@@ -45,7 +45,7 @@ unfoldable pub evenBy : List ℕ → (ℕ → ℕ) → ℕ → Form → ℕ
 evenBy f even r (scalar kind) = kind
 evenBy f even r (array element n) = repeated r n (even element)
 evenBy f even r (recordOf base first count) =
-    owned r (jointFrom even (ofBase EMPTY even base) (ownTypes f first count))
+    owned r (jointFrom (ofBase EMPTY even base) (map even (ownTypes f first count)))
 evenBy f even r noForm = EMPTY
 
 unfoldable pub evenOf : List ℕ → List ℕ → ℕ → ℕ

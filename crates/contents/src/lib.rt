@@ -73,7 +73,7 @@ fn base_kind(even: &[u8], a: u16) -> u8
 
 // Cells `before` and then n fields from row k on.
 fn own_kind(f: &[u8], even: &[u8], before: u8, k: u16, n: u16) -> u8
-    ensures { λ x. ⌜ x ≡ jointFrom (λ u. getD (now (even .entry)) u 0) before (ownTypes (now (f .entry)) k n) ⌝ }
+    ensures { λ x. ⌜ x ≡ jointFrom before (map (λ u. getD (now (even .entry)) u 0) (ownTypes (now (f .entry)) k n)) ⌝ }
 {
     let end = (k as usize) + (n as usize);
     let mut j = k as usize;

@@ -1,24 +1,27 @@
+-- `contents::field_type` meets its contract: a row that is there has all of its bytes.
+use native.Mathlib.Omega.{arith}
+use borrow.Author.Needs.{needs}
+use borrow.Author.Tests.{lt-ltb}
+use Rattle.prelude.specs.Choice.{choose}
+use Rattle.image.specs.Rows.{rowAt, rowsOf}
 use Rattle.contents.proofs.field_type.Statement.{statement}
 use Rattle.contents.proofs.field_type.Tie as tie
-use Rattle.contents.proofs.field_type.Reads as reads
-use Rattle.contents.proofs.field_type.Lts as lts
-use Rattle.image.proofs.number_at.Reads as number-at-reads
 
--- src/lib.rt:216:25
 mul-number-at : tie.Need-mul-number-at
-mul-number-at c = ?
+unfolding rowsOf
+mul-number-at c = search needs
 
--- src/lib.rt:216:25
 add-number-at : tie.Need-add-number-at
-add-number-at c = ?
+unfolding rowsOf
+add-number-at c = search needs
 
--- src/lib.rt:216:5
 number-at-requires : tie.Need-number-at-requires
-number-at-requires c κs = ?
+unfolding rowsOf
+number-at-requires c κs = search needs
 
--- src/lib.rt:212:1
 returns : tie.Need-returns
-returns c = ?
+unfolding rowAt choose
+returns c = rw (lt-ltb _ _ (c .before .before .pre)) (c .number-at .ensures)
 
 pub field-type-spec : {M : Type 1} → statement M
 field-type-spec = tie.close (tie.spec mul-number-at add-number-at number-at-requires returns)

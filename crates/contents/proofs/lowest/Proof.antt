@@ -1,15 +1,17 @@
+-- `contents::lowest` meets its contract.
+use borrow.Author.Tests.{eq-eqb, ne-eqb}
+use Rattle.prelude.specs.Choice.{choose}
+use Rattle.contents.specs.Kinds.{lowest}
 use Rattle.contents.proofs.lowest.Statement.{statement}
 use Rattle.contents.proofs.lowest.Tie as tie
-use Rattle.contents.proofs.lowest.Reads as reads
-use Rattle.contents.proofs.lowest.Lts as lts
 
--- src/lib.rt:163:9
 returns : tie.Need-returns
-returns c = ?
+unfolding lowest choose
+returns c = rw (eq-eqb _ 1 (c .if1 .taken))
 
--- src/lib.rt:159:1
 returns-2 : tie.Need-returns-2
-returns-2 c = ?
+unfolding lowest choose
+returns-2 c = rw (ne-eqb _ 1 (c .if1 .left))
 
 pub lowest-spec : {M : Type 1} → statement M
 lowest-spec = tie.close (tie.spec returns returns-2)

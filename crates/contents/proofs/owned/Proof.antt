@@ -1,20 +1,21 @@
+-- `contents::owned` meets its contract: the test is that of the definition.
 use borrow.Author.Needs.{needs}
+use borrow.Author.Tests.{eq-eqb, ne-eqb}
+use Rattle.prelude.specs.Choice.{choose}
+use Rattle.contents.specs.Kinds.{owned}
 use Rattle.contents.proofs.owned.Statement.{statement}
 use Rattle.contents.proofs.owned.Tie as tie
-use Rattle.contents.proofs.owned.Reads as reads
-use Rattle.contents.proofs.owned.Lts as lts
 
--- src/lib.rt:111:16
 add-result : tie.Need-add-result
 add-result c = search needs
 
--- src/lib.rt:111:9
 returns : tie.Need-returns
-returns c = ?
+unfolding owned choose
+returns c = rw (eq-eqb _ 255 (c .if1 .taken))
 
--- src/lib.rt:106:1
 returns-2 : tie.Need-returns-2
-returns-2 c = ?
+unfolding owned choose
+returns-2 c = rw (ne-eqb _ 255 (c .if1 .left))
 
 pub owned-spec : {M : Type 1} → statement M
 owned-spec = tie.close (tie.spec add-result returns returns-2)

@@ -1,24 +1,25 @@
+-- `contents::repeated` meets its contract: the tests are those of the definition.
 use borrow.Author.Needs.{needs}
+use borrow.Author.Tests.{eq-eqb, ne-eqb, lt-ltb, le-ltb}
+use Rattle.prelude.specs.Choice.{choose}
+use Rattle.contents.specs.Kinds.{repeated}
 use Rattle.contents.proofs.repeated.Statement.{statement}
 use Rattle.contents.proofs.repeated.Tie as tie
-use Rattle.contents.proofs.repeated.Reads as reads
-use Rattle.contents.proofs.repeated.Lts as lts
 
--- src/lib.rt:97:9
 returns : tie.Need-returns
-returns c = ?
+unfolding repeated choose
+returns c = rw (eq-eqb _ 1 (c .if1 .taken))
 
--- src/lib.rt:100:9
 returns-2 : tie.Need-returns-2
-returns-2 c = ?
+unfolding repeated choose
+returns-2 c = rw (ne-eqb _ 1 (c .before .if1 .left), lt-ltb _ 4 (c .if2 .taken))
 
--- src/lib.rt:102:5
 add-result : tie.Need-add-result
 add-result c = search needs
 
--- src/lib.rt:92:1
 returns-3 : tie.Need-returns-3
-returns-3 c = ?
+unfolding repeated choose
+returns-3 c = rw (ne-eqb _ 1 (c .before .if1 .left), le-ltb _ 4 (c .if2 .left))
 
 pub repeated-spec : {M : Type 1} → statement M
 repeated-spec = tie.close (tie.spec returns returns-2 add-result returns-3)

@@ -1,67 +1,92 @@
+-- `contents::run` meets its contract: at each turn the cells from `at` on are left.
+use denote.Ref.{now}
+use mathlib.Core.Path.{_≡_, refl, sym, _∙_, ap}
+use Prim.Native.Nat.{_+_, _-_, _≤_}
+use native.Mathlib.Nat.{add-sub-cancel-left}
+use native.Mathlib.Omega.{arith}
+use borrow.Author.Needs.{needs}
+use lib.IntN.{pos}
+use lib.ListN.{getD, drop, replicate}
+use Rattle.prelude.proofs.Choice.{also-left, also-pass}
+use Rattle.asking.specs.State.{valuesKept}
+use Rattle.contents.proofs.Keeping.{compared, too-low, too-high, in-range, run-step, run-end}
 use Rattle.contents.proofs.run.Statement.{statement}
 use Rattle.contents.proofs.run.Tie as tie
-use Rattle.contents.proofs.run.Reads as reads
-use Rattle.contents.proofs.run.Lts as lts
-use Rattle.contents.proofs.highest.Reads as highest-reads
-use Rattle.contents.proofs.lowest.Reads as lowest-reads
 
 abbrev Inv-loop : tie.InvT-loop
-Inv-loop store kind a n low high end at₀ at = ?
+Inv-loop store kind a n low high end at₀ at = (a ≤ at) × (at ≤ end)
+    × (valuesKept (replicate n kind) (drop a (now store)) ≡ valuesKept (replicate (end - at) kind) (drop at (now store)))
 
 abbrev μ-loop : tie.MeasureT-loop
-μ-loop store kind a n low high end at₀ at = ?
+μ-loop store kind a n low high end at₀ at = end - at
 
--- src/lib.rt:184:9
 lowest-requires : tie.Need-lowest-requires Inv-loop μ-loop
-lowest-requires c κs = ?
+lowest-requires c κs = search needs
 
--- src/lib.rt:185:9
 highest-requires : tie.Need-highest-requires Inv-loop μ-loop
-highest-requires c κs = ?
+highest-requires c κs = search needs
 
--- src/lib.rt:186:15
 add-end : tie.Need-add-end Inv-loop μ-loop
-add-end c = ?
+add-end c = let p = c .before .before .pre in omega (arith, p .0, p .2)
 
--- src/lib.rt:188:5
 loop-holds : tie.Need-loop-holds Inv-loop μ-loop
-loop-holds c = ?
+loop-holds c = let a = c .before .before .args in
+    (omega arith, omega arith, rw (add-sub-cancel-left (a .a) (a .n)))
 
--- src/lib.rt:189:26
 cast-z : tie.Need-cast-z Inv-loop μ-loop
-cast-z c = ?
+cast-z c = search needs
 
--- src/lib.rt:189:17
 mul-z : tie.Need-mul-z Inv-loop μ-loop
-mul-z c = ?
+mul-z c = let p = c .before .before .before .before .pre in omega (arith, p .0, p .2)
 
--- src/lib.rt:189:17
 index-1-z : tie.Need-index-1-z Inv-loop μ-loop
-index-1-z c = ?
+index-1-z c = let p = c .before .before .before .before .pre in omega (arith, p .0, p .2)
 
--- src/lib.rt:191:13
 returns : tie.Need-returns Inv-loop μ-loop
-returns c = ?
+returns c =
+    let s = c .before .before .before .before .before .before in
+    let l = c .before .before .before .loop in
+    let low = c .before .before .before .before .before .lowest in
+    let z = getD (now (now (s .args .store))) (l .at) (pos 0) in
+    let less = compared z _ (record { sfits = c .before .z .given }) (record { sfits = low .ok }) (c .if1 .taken) in
+    sym (l .inv .2 ∙ run-step _ _ (l .at) _ (c .before .before .loop-test .taken) (s .pre .2)
+    ∙ also-left _ (too-low _ z (s .pre .1) (rw (low .ensures) at less)))
 
--- src/lib.rt:194:13
 returns-2 : tie.Need-returns-2 Inv-loop μ-loop
-returns-2 c = ?
+returns-2 c =
+    let s = c .before .before .before .before .before .before .before in
+    let l = c .before .before .before .before .loop in
+    let low = c .before .before .before .before .before .before .lowest in
+    let high = c .before .before .before .before .before .highest in
+    let z = getD (now (now (s .args .store))) (l .at) (pos 0) in
+    let fits = record { sfits = c .before .before .z .given } in
+    let less = compared z _ fits (record { sfits = low .ok }) (c .before .if1 .left) in
+    let more = compared _ z (record { sfits = high .ok }) fits (c .if2 .taken) in
+    sym (l .inv .2 ∙ run-step _ _ (l .at) _ (c .before .before .before .loop-test .taken) (s .pre .2)
+    ∙ also-left _ (too-high _ z (s .pre .1) (rw (low .ensures) at less) (rw (high .ensures) at more)))
 
--- src/lib.rt:196:14
 add-at : tie.Need-add-at Inv-loop μ-loop
-add-at c = ?
+add-at c = omega arith
 
--- src/lib.rt:188:5
 loop-less : tie.Need-loop-less Inv-loop μ-loop
-loop-less c = ?
+loop-less c = omega arith
 
--- src/lib.rt:188:5
 loop-again : tie.Need-loop-again Inv-loop μ-loop
-loop-again c = ?
+loop-again c =
+    let s = c .before .before .before .before .before .before .before in
+    let l = c .before .before .before .before .loop in
+    let low = c .before .before .before .before .before .before .lowest in
+    let high = c .before .before .before .before .before .highest in
+    let z = getD (now (now (s .args .store))) (l .at) (pos 0) in
+    let fits = record { sfits = c .before .before .z .given } in
+    let less = compared z _ fits (record { sfits = low .ok }) (c .before .if1 .left) in
+    let more = compared _ z (record { sfits = high .ok }) fits (c .if2 .left) in
+    (omega arith, omega arith, l .inv .2
+    ∙ run-step _ _ (l .at) _ (c .before .before .before .loop-test .taken) (s .pre .2)
+    ∙ also-pass _ (in-range _ z (s .pre .1) (rw (low .ensures) at less) (rw (high .ensures) at more)))
 
--- src/lib.rt:180:1
 returns-3 : tie.Need-returns-3 Inv-loop μ-loop
-returns-3 c = ?
+returns-3 c = let l = c .before .loop in sym (l .inv .2 ∙ run-end _ _ (l .at) _ (c .loop-test .left))
 
 pub run-spec : {M : Type 1} → statement M
 run-spec =
