@@ -7,6 +7,8 @@ use native.Mathlib.Omega.{arith}
 use borrow.Author.Needs.{needs}
 use lib.IntN.{pos}
 use lib.ListN.{getD, drop, replicate}
+use mir.Syntax.{w64}
+use mir.Val.{SFits}
 use Rattle.prelude.proofs.Choice.{also-left, also-pass}
 use Rattle.asking.specs.State.{valuesKept}
 use Rattle.contents.proofs.Keeping.{compared, too-low, too-high, in-range, run-step, run-end}
@@ -48,7 +50,7 @@ returns c =
     let l = c .before .before .before .loop in
     let low = c .before .before .before .before .before .lowest in
     let z = getD (now (now (s .args .store))) (l .at) (pos 0) in
-    let less = compared z _ (record { sfits = c .before .z .given }) (record { sfits = low .ok }) (c .if1 .taken) in
+    let less = compared z (low .result) (record { sfits = c .before .z .given }) (record { sfits = low .ok }) (c .if1 .taken) in
     sym (l .inv .2 ∙ run-step _ _ (l .at) _ (c .before .before .loop-test .taken) (s .pre .2)
     ∙ also-left _ (too-low _ z (s .pre .1) (rw (low .ensures) at less)))
 
@@ -59,9 +61,9 @@ returns-2 c =
     let low = c .before .before .before .before .before .before .lowest in
     let high = c .before .before .before .before .before .highest in
     let z = getD (now (now (s .args .store))) (l .at) (pos 0) in
-    let fits = record { sfits = c .before .before .z .given } in
-    let less = compared z _ fits (record { sfits = low .ok }) (c .before .if1 .left) in
-    let more = compared _ z (record { sfits = high .ok }) fits (c .if2 .taken) in
+    let fits : SFits w64 z = record { sfits = c .before .before .z .given } in
+    let less = compared z (low .result) fits (record { sfits = low .ok }) (c .before .if1 .left) in
+    let more = compared (high .result) z (record { sfits = high .ok }) fits (c .if2 .taken) in
     sym (l .inv .2 ∙ run-step _ _ (l .at) _ (c .before .before .before .loop-test .taken) (s .pre .2)
     ∙ also-left _ (too-high _ z (s .pre .1) (rw (low .ensures) at less) (rw (high .ensures) at more)))
 
@@ -78,9 +80,9 @@ loop-again c =
     let low = c .before .before .before .before .before .before .lowest in
     let high = c .before .before .before .before .before .highest in
     let z = getD (now (now (s .args .store))) (l .at) (pos 0) in
-    let fits = record { sfits = c .before .before .z .given } in
-    let less = compared z _ fits (record { sfits = low .ok }) (c .before .if1 .left) in
-    let more = compared _ z (record { sfits = high .ok }) fits (c .if2 .left) in
+    let fits : SFits w64 z = record { sfits = c .before .before .z .given } in
+    let less = compared z (low .result) fits (record { sfits = low .ok }) (c .before .if1 .left) in
+    let more = compared (high .result) z (record { sfits = high .ok }) fits (c .if2 .left) in
     (omega arith, omega arith, l .inv .2
     ∙ run-step _ _ (l .at) _ (c .before .before .before .loop-test .taken) (s .pre .2)
     ∙ also-pass _ (in-range _ z (s .pre .1) (rw (low .ensures) at less) (rw (high .ensures) at more)))
