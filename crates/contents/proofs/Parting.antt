@@ -99,11 +99,11 @@ module _ {t f plan even : List ℕ} {store : List ℤ} (ok : Readable t f plan e
     run-room e = let is = size-held (inside .row) e in let room = inside .room in omega (arith, is)
 
     -- its cells are of one kind
-    pub held-run : {size kind : ℕ} → size ≡ getD plan r 0 → kind ≡ getD even r 0 → kind < EMPTY
-        → Held (replicate size kind) a ≡ Held (layoutOf t f r) a
-    held-run e k low =
+    pub held-run : {size kind : ℕ} {x : Bool} → size ≡ getD plan r 0 → kind ≡ getD even r 0 → kind < EMPTY
+        → x ≡ Held (replicate size kind) a → x ≡ Held (layoutOf t f r) a
+    held-run e k low held =
         let is = kind-held (inside .row) k in
-        ap (λ (l : List ℕ). Held l a) (rw (size-held (inside .row) e, is)
+        held ∙ ap (λ (l : List ℕ). Held l a) (rw (size-held (inside .row) e, is)
         (sym (even-run t f (ok .typed .few) types r (inside .row) (rw is at low))))
 
     -- it has none
@@ -129,6 +129,10 @@ module _ {t f plan even : List ℕ} {store : List ℤ} (ok : Readable t f plan e
           own = core .own;
           layout = core .layout;
         })
+
+    pub held-core : {s : ℕ} {x : Bool} → Stands t f store r s a → x ≡ Held (layoutOf t f s) a
+        → x ≡ Held (layoutOf t f r) a
+    held-core c held = held ∙ ap (λ (l : List ℕ). Held l a) (sym (c .layout))
 
     -- ---- an array
 
@@ -252,6 +256,18 @@ module _ {t f plan even : List ℕ} {store : List ℤ} (ok : Readable t f plan e
         let on : Based t r (row .a) = rw this (is .on) in
         e ∙ base-agree {r = r} 0 (λ u. getD plan u 0) (sizeOf t f) on (λ b low. held-size (ok .typed) b (omega arith))
 
+    module _ {row : Row} {x : Bool} (this : row ≡ rowAt t r) (kind : row .kind ≡ 4)
+        (base : x ≡ Held (ofBase [] (layoutOf t f) (row .a)) a) where
+      pub record-fails : x ≡ false → false ≡ Held (layoutOf t f r) a
+      record-fails fails = sym (record-parts this kind .both ∙ also-left _ (sym base ∙ fails))
+
+      pub record-holds : {before : ℕ} {y : Bool} → x ≡ true → before ≡ ofBase 0 (λ u. getD plan u 0) (row .a)
+          → y ≡ Held (joined (map (layoutOf t f) (ownTypes f (row .b) (row .c)))) (a + before)
+          → y ≡ Held (layoutOf t f r) a
+      record-holds holds e held =
+          let own = rw (before-is this kind e) at held in
+          own ∙ sym (record-parts this kind .both ∙ also-pass _ (sym base ∙ holds))
+
   -- ---- a record's base
 
   pub base-inside : {b a : ℕ} → 0 < b → b ≤ rowsOf t → a + ofBase 0 (sizeOf t f) b ≤ length store
@@ -260,6 +276,14 @@ module _ {t f plan even : List ℕ} {store : List ℤ} (ok : Readable t f plan e
     row = omega arith;
     room = omega (arith, of-base 0 (sizeOf t f) b some);
   }
+
+  pub base-none : {b : ℕ} (a : ℕ) → b ≡ 0 → true ≡ Held (ofBase [] (layoutOf t f) b) a
+  unfolding ofBase valuesKept
+  base-none a none = rw none
+
+  pub base-some : {b : ℕ} (a : ℕ) {x : Bool} → 0 < b → x ≡ Held (layoutOf t f (b - 1)) a
+      → x ≡ Held (ofBase [] (layoutOf t f) b) a
+  base-some {b} a some is = is ∙ ap (λ (l : List ℕ). Held l a) (sym (of-base [] (layoutOf t f) b some))
 
   -- ---- own fields of the record in row r
 

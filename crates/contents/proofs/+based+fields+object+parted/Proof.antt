@@ -1,4 +1,14 @@
-use Prim.Native.Nat.{ℕ, _<_}
+-- The functions that test the cells of a type meet their contracts: they call each other for lower rows.
+use denote.Ref.{now}
+use native.Mathlib.Omega.{arith}
+use borrow.Author.Needs.{needs}
+use borrow.Author.Tests.{not-true, not-false}
+use Rattle.contents.proofs.Parting.{Elements, Fields, in-even, run-room, held-run, held-none, held-core, stands}
+use Rattle.contents.proofs.Parting.{element-there, element-parts, elements-first, element-inside, element-fails}
+use Rattle.contents.proofs.Parting.{elements-next, elements-end, record-parts, before-is, base-inside, base-none}
+use Rattle.contents.proofs.Parting.{base-some, fields-first, field-below, field-inside, field-fails, fields-next}
+use Rattle.contents.proofs.Parting.{fields-skip, fields-end, record-fails, record-holds}
+use Prim.Native.Nat.{ℕ, _+_, _-_, _*_, _<_}
 use borrow.Fn.Kinds.{In}
 use borrow.Fn.PlainCycle.{Measures, is, falls, and}
 use Rattle.contents.proofs.based.Reads as based
@@ -23,16 +33,16 @@ use Rattle.contents.proofs.+based+fields+object+parted.{statement}
 use Rattle.contents.proofs.+based+fields+object+parted.Tie.{close}
 
 abbrev μ-based : Measures 10 based-kinds.ps ℕ
-μ-based κs a = ?
+μ-based κs a = 3 * a .1 .1 .1 .1 .1 .0
 
 abbrev μ-fields : Measures 10 fields-kinds.ps ℕ
-μ-fields κs a = ?
+μ-fields κs a = 3 * a .1 .1 .1 .1 .1 .0
 
 abbrev μ-object : Measures 10 object-kinds.ps ℕ
-μ-object κs a = ?
+μ-object κs a = 3 * a .1 .1 .1 .1 .1 .0 + 2
 
 abbrev μ-parted : Measures 10 parted-kinds.ps ℕ
-μ-parted κs a = ?
+μ-parted κs a = 3 * a .1 .1 .1 .1 .1 .0 + 1
 
 abbrev based-at : ℕ → In 10 based-kinds.ps
 based-at t = and 10 based-kinds.ps (is 10 based-kinds.ps μ-based t) based.Pre
@@ -58,729 +68,273 @@ parted-at t = and 10 parted-kinds.ps (is 10 parted-kinds.ps μ-parted t) parted.
 abbrev parted-below : ℕ → In 10 parted-kinds.ps
 parted-below t = and 10 parted-kinds.ps (falls 10 parted-kinds.ps _<_ μ-parted t) parted.Pre
 
--- src/lib.rt:282:9
+abbrev fields-claims : ℕ → fields-lts.Claims
+fields-claims t = (field-type-reads.Asked, field-type-reads.Learnt, told-reads.Asked, told-reads.Learnt, object-below t, object.Post, cell-reads.Asked, cell-reads.Learnt)
+
+abbrev object-claims : ℕ → object-lts.Claims
+object-claims t = (told-reads.Asked, told-reads.Learnt, cell-reads.Asked, cell-reads.Learnt, run-reads.Asked, run-reads.Learnt, parted-below t, parted.Post)
+
+abbrev parted-claims : ℕ → parted-lts.Claims
+parted-claims t = (row-at-reads.Asked, row-at-reads.Learnt, based-below t, based.Post, base-size-reads.Asked, base-size-reads.Learnt, fields-below t, fields.Post, cell-reads.Asked, cell-reads.Learnt, told-reads.Asked, told-reads.Learnt, parted-below t, parted.Post)
+
 based-returns :
     (t : ℕ) → based-lts.Need-returns (object-below t, object.Post) (based-at t) based.Post
-based-returns t c = ?
+based-returns t c = base-none (c .before .pre .1 .0) (c .before .args .a) (c .if1 .taken)
 
--- src/lib.rt:284:16
 based-sub-base :
     (t : ℕ) → based-lts.Need-sub-base (object-below t, object.Post) (based-at t) based.Post
-based-sub-base t c = ?
+based-sub-base t c = search needs
 
--- src/lib.rt:285:5
 based-object-requires :
     (t : ℕ) → based-lts.Need-object-requires (object-below t, object.Post) (based-at t) based.Post
-based-object-requires t c κs = ?
+based-object-requires t c κs =
+    let p = c .before .pre in
+    (omega (arith, p .0), (p .1 .0, base-inside (p .1 .0) (omega arith) (p .1 .1) (p .1 .2)))
 
--- src/lib.rt:274:1
 based-returns-2 :
     (t : ℕ) → based-lts.Need-returns-2 (object-below t, object.Post) (based-at t) based.Post
-based-returns-2 t c = ?
+based-returns-2 t c = base-some (c .before .before .pre .1 .0) (c .before .before .args .a) (omega arith) (c .object .ensures)
 
 abbrev fields-Inv-loop : fields-lts.InvT-loop
-fields-Inv-loop t f plan even store r k n a end j₀ at₀ j at = ?
+fields-Inv-loop t f plan even store r k n a end j₀ at₀ j at = Fields (now t) (now f) (now store) k n a j at
 
 abbrev fields-μ-loop : fields-lts.MeasureT-loop
-fields-μ-loop t f plan even store r k n a end j₀ at₀ j at = ?
+fields-μ-loop t f plan even store r k n a end j₀ at₀ j at = end - j
 
--- src/lib.rt:308:15
-fields-add-end : (t : ℕ) → fields-lts.Need-add-end (
-  field-type-reads.Asked,
-  field-type-reads.Learnt,
-  told-reads.Asked,
-  told-reads.Learnt,
-  object-below t,
-  object.Post,
-  cell-reads.Asked,
-  cell-reads.Learnt,
-) (fields-at t) fields.Post fields-Inv-loop fields-μ-loop
-fields-add-end t c = ?
+fields-add-end : (t : ℕ) → fields-lts.Need-add-end (fields-claims t) (fields-at t) fields.Post fields-Inv-loop fields-μ-loop
+fields-add-end t c = search needs
 
--- src/lib.rt:311:5
-fields-loop-holds : (t : ℕ) → fields-lts.Need-loop-holds (
-  field-type-reads.Asked,
-  field-type-reads.Learnt,
-  told-reads.Asked,
-  told-reads.Learnt,
-  object-below t,
-  object.Post,
-  cell-reads.Asked,
-  cell-reads.Learnt,
-) (fields-at t) fields.Post fields-Inv-loop fields-μ-loop
-fields-loop-holds t c = ?
+fields-loop-holds : (t : ℕ) → fields-lts.Need-loop-holds (fields-claims t) (fields-at t) fields.Post fields-Inv-loop fields-μ-loop
+fields-loop-holds t c = fields-first (c .pre .1 .0) (c .args .k) (c .args .n) (c .args .a) (c .pre .1 .4)
 
--- src/lib.rt:312:13
-fields-field-type-requires : (t : ℕ) → fields-lts.Need-field-type-requires (
-  field-type-reads.Asked,
-  field-type-reads.Learnt,
-  told-reads.Asked,
-  told-reads.Learnt,
-  object-below t,
-  object.Post,
-  cell-reads.Asked,
-  cell-reads.Learnt,
-) (fields-at t) fields.Post fields-Inv-loop fields-μ-loop
-fields-field-type-requires t c κs = ?
+fields-field-type-requires : (t : ℕ) → fields-lts.Need-field-type-requires (fields-claims t) (fields-at t) fields.Post fields-Inv-loop fields-μ-loop
+fields-field-type-requires t c κs = omega (arith, c .before .before .before .pre .1 .2)
 
--- src/lib.rt:313:13
-fields-add-j : (t : ℕ) → fields-lts.Need-add-j (
-  field-type-reads.Asked,
-  field-type-reads.Learnt,
-  told-reads.Asked,
-  told-reads.Learnt,
-  object-below t,
-  object.Post,
-  cell-reads.Asked,
-  cell-reads.Learnt,
-) (fields-at t) fields.Post fields-Inv-loop fields-μ-loop
-fields-add-j t c = ?
+fields-add-j : (t : ℕ) → fields-lts.Need-add-j (fields-claims t) (fields-at t) fields.Post fields-Inv-loop fields-μ-loop
+fields-add-j t c = omega (arith, c .before .before .before .before .pre .1 .2)
 
--- src/lib.rt:314:12
-fields-told-requires : (t : ℕ) → fields-lts.Need-told-requires (
-  field-type-reads.Asked,
-  field-type-reads.Learnt,
-  told-reads.Asked,
-  told-reads.Learnt,
-  object-below t,
-  object.Post,
-  cell-reads.Asked,
-  cell-reads.Learnt,
-) (fields-at t) fields.Post fields-Inv-loop fields-μ-loop
-fields-told-requires t c κs = ?
+fields-told-requires : (t : ℕ) → fields-lts.Need-told-requires (fields-claims t) (fields-at t) fields.Post fields-Inv-loop fields-μ-loop
+fields-told-requires t c κs =
+    let p = c .before .before .before .before .before .pre .1 in
+    let l = c .before .before .before .before .loop in
+    let more = c .before .before .before .loop-test .taken in
+    let low = p .1 in
+    let under = field-below (p .0) low (p .3) (l .inv) more (c .before .field-type .ensures) in
+    in-even (p .0) (omega arith)
 
--- src/lib.rt:311:5
-fields-loop-less : (t : ℕ) → fields-lts.Need-loop-less (
-  field-type-reads.Asked,
-  field-type-reads.Learnt,
-  told-reads.Asked,
-  told-reads.Learnt,
-  object-below t,
-  object.Post,
-  cell-reads.Asked,
-  cell-reads.Learnt,
-) (fields-at t) fields.Post fields-Inv-loop fields-μ-loop
-fields-loop-less t c = ?
+fields-loop-less : (t : ℕ) → fields-lts.Need-loop-less (fields-claims t) (fields-at t) fields.Post fields-Inv-loop fields-μ-loop
+fields-loop-less t c = omega arith
 
--- src/lib.rt:311:5
-fields-loop-again : (t : ℕ) → fields-lts.Need-loop-again (
-  field-type-reads.Asked,
-  field-type-reads.Learnt,
-  told-reads.Asked,
-  told-reads.Learnt,
-  object-below t,
-  object.Post,
-  cell-reads.Asked,
-  cell-reads.Learnt,
-) (fields-at t) fields.Post fields-Inv-loop fields-μ-loop
-fields-loop-again t c = ?
+fields-loop-again : (t : ℕ) → fields-lts.Need-loop-again (fields-claims t) (fields-at t) fields.Post fields-Inv-loop fields-μ-loop
+fields-loop-again t c =
+    let p = c .before .before .before .before .before .before .before .pre .1 in
+    let l = c .before .before .before .before .before .before .loop in
+    let more = c .before .before .before .before .before .loop-test .taken in
+    fields-skip (p .0) (p .1) (p .3) (l .inv) more (c .before .before .before .field-type .ensures)
+    (c .before .told .ensures) (c .if1 .taken)
 
--- src/lib.rt:317:13
-fields-object-requires : (t : ℕ) → fields-lts.Need-object-requires (
-  field-type-reads.Asked,
-  field-type-reads.Learnt,
-  told-reads.Asked,
-  told-reads.Learnt,
-  object-below t,
-  object.Post,
-  cell-reads.Asked,
-  cell-reads.Learnt,
-) (fields-at t) fields.Post fields-Inv-loop fields-μ-loop
-fields-object-requires t c κs = ?
+fields-object-requires : (t : ℕ) → fields-lts.Need-object-requires (fields-claims t) (fields-at t) fields.Post fields-Inv-loop fields-μ-loop
+fields-object-requires t c κs =
+    let p = c .before .before .before .before .before .before .before .pre .1 in
+    let l = c .before .before .before .before .before .before .loop in
+    let more = c .before .before .before .before .before .loop-test .taken in
+    let this = c .before .before .before .field-type .ensures in
+    let under = field-below (p .0) (p .1) (p .3) (l .inv) more this in
+    (omega (arith, c .before .before .before .before .before .before .before .pre .0), (p .0, field-inside (p .0) (p .1) (p .3) (l .inv) more this))
 
--- src/lib.rt:318:13
-fields-returns : (t : ℕ) → fields-lts.Need-returns (
-  field-type-reads.Asked,
-  field-type-reads.Learnt,
-  told-reads.Asked,
-  told-reads.Learnt,
-  object-below t,
-  object.Post,
-  cell-reads.Asked,
-  cell-reads.Learnt,
-) (fields-at t) fields.Post fields-Inv-loop fields-μ-loop
-fields-returns t c = ?
+fields-returns : (t : ℕ) → fields-lts.Need-returns (fields-claims t) (fields-at t) fields.Post fields-Inv-loop fields-μ-loop
+fields-returns t c =
+    let p = c .before .before .before .before .before .before .before .before .before .pre .1 in
+    let l = c .before .before .before .before .before .before .before .before .loop in
+    let more = c .before .before .before .before .before .before .before .loop-test .taken in
+    field-fails (p .0) (p .1) (p .3) (l .inv) more (c .before .before .before .before .before .field-type .ensures)
+    (c .before .object .ensures) (not-true _ (c .if2 .taken))
 
--- src/lib.rt:320:39
-fields-cast-cell : (t : ℕ) → fields-lts.Need-cast-cell (
-  field-type-reads.Asked,
-  field-type-reads.Learnt,
-  told-reads.Asked,
-  told-reads.Learnt,
-  object-below t,
-  object.Post,
-  cell-reads.Asked,
-  cell-reads.Learnt,
-) (fields-at t) fields.Post fields-Inv-loop fields-μ-loop
-fields-cast-cell t c = ?
+fields-cast-cell : (t : ℕ) → fields-lts.Need-cast-cell (fields-claims t) (fields-at t) fields.Post fields-Inv-loop fields-μ-loop
+fields-cast-cell t c = search needs
 
--- src/lib.rt:320:13
-fields-cell-requires : (t : ℕ) → fields-lts.Need-cell-requires (
-  field-type-reads.Asked,
-  field-type-reads.Learnt,
-  told-reads.Asked,
-  told-reads.Learnt,
-  object-below t,
-  object.Post,
-  cell-reads.Asked,
-  cell-reads.Learnt,
-) (fields-at t) fields.Post fields-Inv-loop fields-μ-loop
-fields-cell-requires t c κs = ?
+fields-cell-requires : (t : ℕ) → fields-lts.Need-cell-requires (fields-claims t) (fields-at t) fields.Post fields-Inv-loop fields-μ-loop
+fields-cell-requires t c κs = search needs
 
--- src/lib.rt:321:14
-fields-add-at : (t : ℕ) → fields-lts.Need-add-at (
-  field-type-reads.Asked,
-  field-type-reads.Learnt,
-  told-reads.Asked,
-  told-reads.Learnt,
-  object-below t,
-  object.Post,
-  cell-reads.Asked,
-  cell-reads.Learnt,
-) (fields-at t) fields.Post fields-Inv-loop fields-μ-loop
-fields-add-at t c = ?
+fields-add-at : (t : ℕ) → fields-lts.Need-add-at (fields-claims t) (fields-at t) fields.Post fields-Inv-loop fields-μ-loop
+fields-add-at t c =
+    let p = c .before .before .before .before .before .before .before .before .before .before .before .pre .1 in
+    let l = c .before .before .before .before .before .before .before .before .before .before .loop in
+    let more = c .before .before .before .before .before .before .before .before .before .loop-test .taken in
+    let this = c .before .before .before .before .before .before .before .field-type .ensures in
+    let room = run-room (p .0) (field-inside (p .0) (p .1) (p .3) (l .inv) more this) (c .cell .ensures) in
+    omega (arith, p .0 .most)
 
--- src/lib.rt:311:5
-fields-loop-less-2 : (t : ℕ) → fields-lts.Need-loop-less-2 (
-  field-type-reads.Asked,
-  field-type-reads.Learnt,
-  told-reads.Asked,
-  told-reads.Learnt,
-  object-below t,
-  object.Post,
-  cell-reads.Asked,
-  cell-reads.Learnt,
-) (fields-at t) fields.Post fields-Inv-loop fields-μ-loop
-fields-loop-less-2 t c = ?
+fields-loop-less-2 : (t : ℕ) → fields-lts.Need-loop-less-2 (fields-claims t) (fields-at t) fields.Post fields-Inv-loop fields-μ-loop
+fields-loop-less-2 t c = omega arith
 
--- src/lib.rt:311:5
-fields-loop-again-2 : (t : ℕ) → fields-lts.Need-loop-again-2 (
-  field-type-reads.Asked,
-  field-type-reads.Learnt,
-  told-reads.Asked,
-  told-reads.Learnt,
-  object-below t,
-  object.Post,
-  cell-reads.Asked,
-  cell-reads.Learnt,
-) (fields-at t) fields.Post fields-Inv-loop fields-μ-loop
-fields-loop-again-2 t c = ?
+fields-loop-again-2 : (t : ℕ) → fields-lts.Need-loop-again-2 (fields-claims t) (fields-at t) fields.Post fields-Inv-loop fields-μ-loop
+fields-loop-again-2 t c =
+    let p = c .before .before .before .before .before .before .before .before .before .before .before .pre .1 in
+    let l = c .before .before .before .before .before .before .before .before .before .before .loop in
+    let more = c .before .before .before .before .before .before .before .before .before .loop-test .taken in
+    fields-next (p .0) (p .1) (p .3) (l .inv) more
+    (c .before .before .before .before .before .before .before .field-type .ensures) (c .cell .ensures)
+    (c .before .before .before .object .ensures) (not-false _ (c .before .before .if2 .left))
 
--- src/lib.rt:289:1
-fields-returns-2 : (t : ℕ) → fields-lts.Need-returns-2 (
-  field-type-reads.Asked,
-  field-type-reads.Learnt,
-  told-reads.Asked,
-  told-reads.Learnt,
-  object-below t,
-  object.Post,
-  cell-reads.Asked,
-  cell-reads.Learnt,
-) (fields-at t) fields.Post fields-Inv-loop fields-μ-loop
-fields-returns-2 t c = ?
+fields-returns-2 : (t : ℕ) → fields-lts.Need-returns-2 (fields-claims t) (fields-at t) fields.Post fields-Inv-loop fields-μ-loop
+fields-returns-2 t c = fields-end (c .before .before .pre .1 .0) (c .before .loop .inv) (c .loop-test .left)
 
--- src/lib.rt:226:9
-object-told-requires : (t : ℕ) → object-lts.Need-told-requires (
-  told-reads.Asked,
-  told-reads.Learnt,
-  cell-reads.Asked,
-  cell-reads.Learnt,
-  run-reads.Asked,
-  run-reads.Learnt,
-  parted-below t,
-  parted.Post,
-) (object-at t) object.Post
-object-told-requires t c κs = ?
+object-told-requires : (t : ℕ) → object-lts.Need-told-requires (object-claims t) (object-at t) object.Post
+object-told-requires t c κs = let p = c .before .pre .1 in in-even (p .0) (p .1 .row)
 
--- src/lib.rt:228:13
-object-cell-requires : (t : ℕ) → object-lts.Need-cell-requires (
-  told-reads.Asked,
-  told-reads.Learnt,
-  cell-reads.Asked,
-  cell-reads.Learnt,
-  run-reads.Asked,
-  run-reads.Learnt,
-  parted-below t,
-  parted.Post,
-) (object-at t) object.Post
-object-cell-requires t c κs = ?
+object-cell-requires : (t : ℕ) → object-lts.Need-cell-requires (object-claims t) (object-at t) object.Post
+object-cell-requires t c κs = search needs
 
--- src/lib.rt:229:9
-object-run-requires : (t : ℕ) → object-lts.Need-run-requires (
-  told-reads.Asked,
-  told-reads.Learnt,
-  cell-reads.Asked,
-  cell-reads.Learnt,
-  run-reads.Asked,
-  run-reads.Learnt,
-  parted-below t,
-  parted.Post,
-) (object-at t) object.Post
-object-run-requires t c κs = ?
+object-run-requires : (t : ℕ) → object-lts.Need-run-requires (object-claims t) (object-at t) object.Post
+object-run-requires t c κs =
+    let p = c .before .before .before .before .before .pre .1 in
+    (p .0 .most, c .before .before .if1 .taken, run-room (p .0) (p .1) (c .cell .ensures))
 
--- src/lib.rt:229:9
-object-returns : (t : ℕ) → object-lts.Need-returns (
-  told-reads.Asked,
-  told-reads.Learnt,
-  cell-reads.Asked,
-  cell-reads.Learnt,
-  run-reads.Asked,
-  run-reads.Learnt,
-  parted-below t,
-  parted.Post,
-) (object-at t) object.Post
-object-returns t c = ?
+object-returns : (t : ℕ) → object-lts.Need-returns (object-claims t) (object-at t) object.Post
+object-returns t c =
+    let p = c .before .before .before .before .before .before .pre .1 in
+    held-run (p .0) (p .1) (c .before .cell .ensures) (c .before .before .before .before .told .ensures)
+    (c .before .before .before .if1 .taken) (c .run .ensures)
 
--- src/lib.rt:232:9
-object-returns-2 : (t : ℕ) → object-lts.Need-returns-2 (
-  told-reads.Asked,
-  told-reads.Learnt,
-  cell-reads.Asked,
-  cell-reads.Learnt,
-  run-reads.Asked,
-  run-reads.Learnt,
-  parted-below t,
-  parted.Post,
-) (object-at t) object.Post
-object-returns-2 t c = ?
+object-returns-2 : (t : ℕ) → object-lts.Need-returns-2 (object-claims t) (object-at t) object.Post
+object-returns-2 t c =
+    let p = c .before .before .before .before .pre .1 in
+    held-none (p .0) (p .1) (c .before .before .told .ensures) (c .if2 .taken)
 
--- src/lib.rt:234:17
-object-sub-core : (t : ℕ) → object-lts.Need-sub-core (
-  told-reads.Asked,
-  told-reads.Learnt,
-  cell-reads.Asked,
-  cell-reads.Learnt,
-  run-reads.Asked,
-  run-reads.Learnt,
-  parted-below t,
-  parted.Post,
-) (object-at t) object.Post
-object-sub-core t c = ?
+object-sub-core : (t : ℕ) → object-lts.Need-sub-core (object-claims t) (object-at t) object.Post
+object-sub-core t c = omega arith
 
--- src/lib.rt:234:16
-object-cast-core : (t : ℕ) → object-lts.Need-cast-core (
-  told-reads.Asked,
-  told-reads.Learnt,
-  cell-reads.Asked,
-  cell-reads.Learnt,
-  run-reads.Asked,
-  run-reads.Learnt,
-  parted-below t,
-  parted.Post,
-) (object-at t) object.Post
-object-cast-core t c = ?
+object-cast-core : (t : ℕ) → object-lts.Need-cast-core (object-claims t) (object-at t) object.Post
+object-cast-core t c = search needs
 
--- src/lib.rt:235:5
-object-parted-requires : (t : ℕ) → object-lts.Need-parted-requires (
-  told-reads.Asked,
-  told-reads.Learnt,
-  cell-reads.Asked,
-  cell-reads.Learnt,
-  run-reads.Asked,
-  run-reads.Learnt,
-  parted-below t,
-  parted.Post,
-) (object-at t) object.Post
-object-parted-requires t c κs = ?
+object-parted-requires : (t : ℕ) → object-lts.Need-parted-requires (object-claims t) (object-at t) object.Post
+object-parted-requires t c κs =
+    let p = c .before .before .before .before .pre in
+    let s = stands (p .1 .0) (p .1 .1) (c .before .before .told .ensures) (omega arith) in
+    let low = s .low in
+    (omega (arith, p .0), (p .1 .0, s .inside, s .own))
 
--- src/lib.rt:220:1
-object-returns-3 : (t : ℕ) → object-lts.Need-returns-3 (
-  told-reads.Asked,
-  told-reads.Learnt,
-  cell-reads.Asked,
-  cell-reads.Learnt,
-  run-reads.Asked,
-  run-reads.Learnt,
-  parted-below t,
-  parted.Post,
-) (object-at t) object.Post
-object-returns-3 t c = ?
+object-returns-3 : (t : ℕ) → object-lts.Need-returns-3 (object-claims t) (object-at t) object.Post
+object-returns-3 t c =
+    let p = c .before .before .before .before .before .pre .1 in
+    held-core (p .0) (p .1) (stands (p .0) (p .1) (c .before .before .before .told .ensures) (omega arith))
+    (c .parted .ensures)
 
 abbrev parted-Inv-loop : parted-lts.InvT-loop
-parted-Inv-loop t f plan even store r a first second third size kind core left₀ at₀ left at = ?
+parted-Inv-loop t f plan even store r a first second third size kind core left₀ at₀ left at =
+    Elements (now t) (now f) (now store) r a core size left at
 
 abbrev parted-μ-loop : parted-lts.MeasureT-loop
-parted-μ-loop t f plan even store r a first second third size kind core left₀ at₀ left at = ?
+parted-μ-loop t f plan even store r a first second third size kind core left₀ at₀ left at = left
 
--- src/lib.rt:246:9
-parted-row-at-requires : (t : ℕ) → parted-lts.Need-row-at-requires (
-  row-at-reads.Asked,
-  row-at-reads.Learnt,
-  based-below t,
-  based.Post,
-  base-size-reads.Asked,
-  base-size-reads.Learnt,
-  fields-below t,
-  fields.Post,
-  cell-reads.Asked,
-  cell-reads.Learnt,
-  told-reads.Asked,
-  told-reads.Learnt,
-  parted-below t,
-  parted.Post,
-) (parted-at t) parted.Post parted-Inv-loop parted-μ-loop
-parted-row-at-requires t c κs = ?
+parted-row-at-requires : (t : ℕ) → parted-lts.Need-row-at-requires (parted-claims t) (parted-at t) parted.Post parted-Inv-loop parted-μ-loop
+parted-row-at-requires t c κs = search needs
 
--- src/lib.rt:251:12
-parted-based-requires : (t : ℕ) → parted-lts.Need-based-requires (
-  row-at-reads.Asked,
-  row-at-reads.Learnt,
-  based-below t,
-  based.Post,
-  base-size-reads.Asked,
-  base-size-reads.Learnt,
-  fields-below t,
-  fields.Post,
-  cell-reads.Asked,
-  cell-reads.Learnt,
-  told-reads.Asked,
-  told-reads.Learnt,
-  parted-below t,
-  parted.Post,
-) (parted-at t) parted.Post parted-Inv-loop parted-μ-loop
-parted-based-requires t c κs = ?
+parted-based-requires : (t : ℕ) → parted-lts.Need-based-requires (parted-claims t) (parted-at t) parted.Post parted-Inv-loop parted-μ-loop
+parted-based-requires t c κs =
+    let p = c .before .before .before .before .pre in
+    let q = record-parts (p .1 .0) (p .1 .1) (c .before .before .row-at .ensures) (c .if1 .taken) in
+    let most = q .base in
+    let low = p .1 .1 .row in
+    (omega (arith, p .0), (p .1 .0, omega arith, q .base-room))
 
--- src/lib.rt:252:17
-parted-base-size-requires : (t : ℕ) → parted-lts.Need-base-size-requires (
-  row-at-reads.Asked,
-  row-at-reads.Learnt,
-  based-below t,
-  based.Post,
-  base-size-reads.Asked,
-  base-size-reads.Learnt,
-  fields-below t,
-  fields.Post,
-  cell-reads.Asked,
-  cell-reads.Learnt,
-  told-reads.Asked,
-  told-reads.Learnt,
-  parted-below t,
-  parted.Post,
-) (parted-at t) parted.Post parted-Inv-loop parted-μ-loop
-parted-base-size-requires t c κs = ?
+parted-base-size-requires : (t : ℕ) → parted-lts.Need-base-size-requires (parted-claims t) (parted-at t) parted.Post parted-Inv-loop parted-μ-loop
+parted-base-size-requires t c κs = search needs
 
--- src/lib.rt:253:23
-parted-add-own : (t : ℕ) → parted-lts.Need-add-own (
-  row-at-reads.Asked,
-  row-at-reads.Learnt,
-  based-below t,
-  based.Post,
-  base-size-reads.Asked,
-  base-size-reads.Learnt,
-  fields-below t,
-  fields.Post,
-  cell-reads.Asked,
-  cell-reads.Learnt,
-  told-reads.Asked,
-  told-reads.Learnt,
-  parted-below t,
-  parted.Post,
-) (parted-at t) parted.Post parted-Inv-loop parted-μ-loop
-parted-add-own t c = ?
+parted-add-own : (t : ℕ) → parted-lts.Need-add-own (parted-claims t) (parted-at t) parted.Post parted-Inv-loop parted-μ-loop
+parted-add-own t c =
+    let p = c .before .before .before .before .before .before .before .before .pre .1 in
+    let this = c .before .before .before .before .before .before .row-at .ensures in
+    let kind = c .before .before .before .before .if1 .taken in
+    let q = record-parts (p .0) (p .1) this kind in
+    omega (arith, p .0 .most, q .base-room, before-is (p .0) (p .1) this kind (c .base-size .ensures))
 
--- src/lib.rt:254:13
-parted-fields-requires : (t : ℕ) → parted-lts.Need-fields-requires (
-  row-at-reads.Asked,
-  row-at-reads.Learnt,
-  based-below t,
-  based.Post,
-  base-size-reads.Asked,
-  base-size-reads.Learnt,
-  fields-below t,
-  fields.Post,
-  cell-reads.Asked,
-  cell-reads.Learnt,
-  told-reads.Asked,
-  told-reads.Learnt,
-  parted-below t,
-  parted.Post,
-) (parted-at t) parted.Post parted-Inv-loop parted-μ-loop
-parted-fields-requires t c κs = ?
+parted-fields-requires : (t : ℕ) → parted-lts.Need-fields-requires (parted-claims t) (parted-at t) parted.Post parted-Inv-loop parted-μ-loop
+parted-fields-requires t c κs =
+    let p = c .before .before .before .before .before .before .before .before .pre in
+    let this = c .before .before .before .before .before .before .row-at .ensures in
+    let kind = c .before .before .before .before .if1 .taken in
+    let q = record-parts (p .1 .0) (p .1 .1) this kind in
+    let e = before-is (p .1 .0) (p .1 .1) this kind (c .base-size .ensures) in
+    (omega (arith, p .0), (p .1 .0, p .1 .1 .row, q .there, q .lows, rw e (q .own-room)))
 
--- src/lib.rt:254:13
-parted-returns : (t : ℕ) → parted-lts.Need-returns (
-  row-at-reads.Asked,
-  row-at-reads.Learnt,
-  based-below t,
-  based.Post,
-  base-size-reads.Asked,
-  base-size-reads.Learnt,
-  fields-below t,
-  fields.Post,
-  cell-reads.Asked,
-  cell-reads.Learnt,
-  told-reads.Asked,
-  told-reads.Learnt,
-  parted-below t,
-  parted.Post,
-) (parted-at t) parted.Post parted-Inv-loop parted-μ-loop
-parted-returns t c = ?
+parted-returns : (t : ℕ) → parted-lts.Need-returns (parted-claims t) (parted-at t) parted.Post parted-Inv-loop parted-μ-loop
+parted-returns t c =
+    let p = c .before .before .before .before .before .before .before .before .before .pre .1 in
+    record-holds (p .0) (p .1) (c .before .before .before .before .before .before .before .row-at .ensures)
+    (c .before .before .before .before .before .if1 .taken) (c .before .before .before .before .based .ensures)
+    (c .before .before .before .if2 .taken) (c .before .base-size .ensures) (c .fields .ensures)
 
--- src/lib.rt:256:9
-parted-returns-2 : (t : ℕ) → parted-lts.Need-returns-2 (
-  row-at-reads.Asked,
-  row-at-reads.Learnt,
-  based-below t,
-  based.Post,
-  base-size-reads.Asked,
-  base-size-reads.Learnt,
-  fields-below t,
-  fields.Post,
-  cell-reads.Asked,
-  cell-reads.Learnt,
-  told-reads.Asked,
-  told-reads.Learnt,
-  parted-below t,
-  parted.Post,
-) (parted-at t) parted.Post parted-Inv-loop parted-μ-loop
-parted-returns-2 t c = ?
+parted-returns-2 : (t : ℕ) → parted-lts.Need-returns-2 (parted-claims t) (parted-at t) parted.Post parted-Inv-loop parted-μ-loop
+parted-returns-2 t c =
+    let p = c .before .before .before .before .before .before .pre .1 in
+    record-fails (p .0) (p .1) (c .before .before .before .before .row-at .ensures) (c .before .before .if1 .taken)
+    (c .before .based .ensures) (c .if2 .left)
 
--- src/lib.rt:258:35
-parted-cast-cell : (t : ℕ) → parted-lts.Need-cast-cell (
-  row-at-reads.Asked,
-  row-at-reads.Learnt,
-  based-below t,
-  based.Post,
-  base-size-reads.Asked,
-  base-size-reads.Learnt,
-  fields-below t,
-  fields.Post,
-  cell-reads.Asked,
-  cell-reads.Learnt,
-  told-reads.Asked,
-  told-reads.Learnt,
-  parted-below t,
-  parted.Post,
-) (parted-at t) parted.Post parted-Inv-loop parted-μ-loop
-parted-cast-cell t c = ?
+parted-cast-cell : (t : ℕ) → parted-lts.Need-cast-cell (parted-claims t) (parted-at t) parted.Post parted-Inv-loop parted-μ-loop
+parted-cast-cell t c = search needs
 
--- src/lib.rt:258:9
-parted-cell-requires : (t : ℕ) → parted-lts.Need-cell-requires (
-  row-at-reads.Asked,
-  row-at-reads.Learnt,
-  based-below t,
-  based.Post,
-  base-size-reads.Asked,
-  base-size-reads.Learnt,
-  fields-below t,
-  fields.Post,
-  cell-reads.Asked,
-  cell-reads.Learnt,
-  told-reads.Asked,
-  told-reads.Learnt,
-  parted-below t,
-  parted.Post,
-) (parted-at t) parted.Post parted-Inv-loop parted-μ-loop
-parted-cell-requires t c κs = ?
+parted-cell-requires : (t : ℕ) → parted-lts.Need-cell-requires (parted-claims t) (parted-at t) parted.Post parted-Inv-loop parted-μ-loop
+parted-cell-requires t c κs = search needs
 
--- src/lib.rt:259:9
-parted-told-requires : (t : ℕ) → parted-lts.Need-told-requires (
-  row-at-reads.Asked,
-  row-at-reads.Learnt,
-  based-below t,
-  based.Post,
-  base-size-reads.Asked,
-  base-size-reads.Learnt,
-  fields-below t,
-  fields.Post,
-  cell-reads.Asked,
-  cell-reads.Learnt,
-  told-reads.Asked,
-  told-reads.Learnt,
-  parted-below t,
-  parted.Post,
-) (parted-at t) parted.Post parted-Inv-loop parted-μ-loop
-parted-told-requires t c κs = ?
+parted-told-requires : (t : ℕ) → parted-lts.Need-told-requires (parted-claims t) (parted-at t) parted.Post parted-Inv-loop parted-μ-loop
+parted-told-requires t c κs =
+    let p = c .before .before .before .before .before .before .before .pre .1 in
+    in-even (p .0) (element-there (p .0) (p .1) (p .2) (c .before .before .before .before .before .row-at .ensures)
+    (c .before .before .before .if1 .left))
 
--- src/lib.rt:260:17
-parted-sub-core : (t : ℕ) → parted-lts.Need-sub-core (
-  row-at-reads.Asked,
-  row-at-reads.Learnt,
-  based-below t,
-  based.Post,
-  base-size-reads.Asked,
-  base-size-reads.Learnt,
-  fields-below t,
-  fields.Post,
-  cell-reads.Asked,
-  cell-reads.Learnt,
-  told-reads.Asked,
-  told-reads.Learnt,
-  parted-below t,
-  parted.Post,
-) (parted-at t) parted.Post parted-Inv-loop parted-μ-loop
-parted-sub-core t c = ?
+parted-sub-core : (t : ℕ) → parted-lts.Need-sub-core (parted-claims t) (parted-at t) parted.Post parted-Inv-loop parted-μ-loop
+parted-sub-core t c =
+    let p = c .before .before .before .before .before .before .before .before .pre .1 in
+    element-parts (p .0) (p .1) (p .2) (c .before .before .before .before .before .before .row-at .ensures)
+    (c .before .before .before .before .if1 .left) (c .told .ensures)
 
--- src/lib.rt:260:16
-parted-cast-core : (t : ℕ) → parted-lts.Need-cast-core (
-  row-at-reads.Asked,
-  row-at-reads.Learnt,
-  based-below t,
-  based.Post,
-  base-size-reads.Asked,
-  base-size-reads.Learnt,
-  fields-below t,
-  fields.Post,
-  cell-reads.Asked,
-  cell-reads.Learnt,
-  told-reads.Asked,
-  told-reads.Learnt,
-  parted-below t,
-  parted.Post,
-) (parted-at t) parted.Post parted-Inv-loop parted-μ-loop
-parted-cast-core t c = ?
+parted-cast-core : (t : ℕ) → parted-lts.Need-cast-core (parted-claims t) (parted-at t) parted.Post parted-Inv-loop parted-μ-loop
+parted-cast-core t c = search needs
 
--- src/lib.rt:263:5
-parted-loop-holds : (t : ℕ) → parted-lts.Need-loop-holds (
-  row-at-reads.Asked,
-  row-at-reads.Learnt,
-  based-below t,
-  based.Post,
-  base-size-reads.Asked,
-  base-size-reads.Learnt,
-  fields-below t,
-  fields.Post,
-  cell-reads.Asked,
-  cell-reads.Learnt,
-  told-reads.Asked,
-  told-reads.Learnt,
-  parted-below t,
-  parted.Post,
-) (parted-at t) parted.Post parted-Inv-loop parted-μ-loop
-parted-loop-holds t c = ?
+parted-loop-holds : (t : ℕ) → parted-lts.Need-loop-holds (parted-claims t) (parted-at t) parted.Post parted-Inv-loop parted-μ-loop
+parted-loop-holds t c =
+    let p = c .before .before .before .before .before .before .before .before .pre .1 in
+    elements-first (p .0) (p .1) (p .2) (c .before .before .before .before .before .before .row-at .ensures)
+    (c .before .before .before .before .if1 .left) (c .before .before .cell .ensures) (c .told .ensures)
 
--- src/lib.rt:264:13
-parted-parted-requires : (t : ℕ) → parted-lts.Need-parted-requires (
-  row-at-reads.Asked,
-  row-at-reads.Learnt,
-  based-below t,
-  based.Post,
-  base-size-reads.Asked,
-  base-size-reads.Learnt,
-  fields-below t,
-  fields.Post,
-  cell-reads.Asked,
-  cell-reads.Learnt,
-  told-reads.Asked,
-  told-reads.Learnt,
-  parted-below t,
-  parted.Post,
-) (parted-at t) parted.Post parted-Inv-loop parted-μ-loop
-parted-parted-requires t c κs = ?
+parted-parted-requires : (t : ℕ) → parted-lts.Need-parted-requires (parted-claims t) (parted-at t) parted.Post parted-Inv-loop parted-μ-loop
+parted-parted-requires t c κs =
+    let p = c .before .before .before .before .before .before .before .before .before .before .pre in
+    let l = c .before .loop .inv in
+    let low = l .low in
+    (omega (arith, p .0), (p .1 .0, element-inside (p .1 .0) (p .1 .1) l (c .loop-test .taken), l .own))
 
--- src/lib.rt:265:13
-parted-returns-3 : (t : ℕ) → parted-lts.Need-returns-3 (
-  row-at-reads.Asked,
-  row-at-reads.Learnt,
-  based-below t,
-  based.Post,
-  base-size-reads.Asked,
-  base-size-reads.Learnt,
-  fields-below t,
-  fields.Post,
-  cell-reads.Asked,
-  cell-reads.Learnt,
-  told-reads.Asked,
-  told-reads.Learnt,
-  parted-below t,
-  parted.Post,
-) (parted-at t) parted.Post parted-Inv-loop parted-μ-loop
-parted-returns-3 t c = ?
+parted-returns-3 : (t : ℕ) → parted-lts.Need-returns-3 (parted-claims t) (parted-at t) parted.Post parted-Inv-loop parted-μ-loop
+parted-returns-3 t c =
+    let p = c .before .before .before .before .before .before .before .before .before .before .before .before .pre .1 in
+    element-fails (p .0) (p .1) (c .before .before .before .loop .inv) (c .before .before .loop-test .taken)
+    (c .before .parted .ensures) (not-true _ (c .if3 .taken))
 
--- src/lib.rt:267:14
-parted-add-at : (t : ℕ) → parted-lts.Need-add-at (
-  row-at-reads.Asked,
-  row-at-reads.Learnt,
-  based-below t,
-  based.Post,
-  base-size-reads.Asked,
-  base-size-reads.Learnt,
-  fields-below t,
-  fields.Post,
-  cell-reads.Asked,
-  cell-reads.Learnt,
-  told-reads.Asked,
-  told-reads.Learnt,
-  parted-below t,
-  parted.Post,
-) (parted-at t) parted.Post parted-Inv-loop parted-μ-loop
-parted-add-at t c = ?
+parted-add-at : (t : ℕ) → parted-lts.Need-add-at (parted-claims t) (parted-at t) parted.Post parted-Inv-loop parted-μ-loop
+parted-add-at t c =
+    let p = c .before .before .before .before .before .before .before .before .before .before .before .before .pre .1 in
+    let l = c .before .before .before .loop .inv in
+    let room = element-inside (p .0) (p .1) l (c .before .before .loop-test .taken) .room in
+    omega (arith, p .0 .most, l .sized)
 
--- src/lib.rt:268:16
-parted-sub-left : (t : ℕ) → parted-lts.Need-sub-left (
-  row-at-reads.Asked,
-  row-at-reads.Learnt,
-  based-below t,
-  based.Post,
-  base-size-reads.Asked,
-  base-size-reads.Learnt,
-  fields-below t,
-  fields.Post,
-  cell-reads.Asked,
-  cell-reads.Learnt,
-  told-reads.Asked,
-  told-reads.Learnt,
-  parted-below t,
-  parted.Post,
-) (parted-at t) parted.Post parted-Inv-loop parted-μ-loop
-parted-sub-left t c = ?
+parted-sub-left : (t : ℕ) → parted-lts.Need-sub-left (parted-claims t) (parted-at t) parted.Post parted-Inv-loop parted-μ-loop
+parted-sub-left t c = omega arith
 
--- src/lib.rt:263:5
-parted-loop-less : (t : ℕ) → parted-lts.Need-loop-less (
-  row-at-reads.Asked,
-  row-at-reads.Learnt,
-  based-below t,
-  based.Post,
-  base-size-reads.Asked,
-  base-size-reads.Learnt,
-  fields-below t,
-  fields.Post,
-  cell-reads.Asked,
-  cell-reads.Learnt,
-  told-reads.Asked,
-  told-reads.Learnt,
-  parted-below t,
-  parted.Post,
-) (parted-at t) parted.Post parted-Inv-loop parted-μ-loop
-parted-loop-less t c = ?
+parted-loop-less : (t : ℕ) → parted-lts.Need-loop-less (parted-claims t) (parted-at t) parted.Post parted-Inv-loop parted-μ-loop
+parted-loop-less t c = omega arith
 
--- src/lib.rt:263:5
-parted-loop-again : (t : ℕ) → parted-lts.Need-loop-again (
-  row-at-reads.Asked,
-  row-at-reads.Learnt,
-  based-below t,
-  based.Post,
-  base-size-reads.Asked,
-  base-size-reads.Learnt,
-  fields-below t,
-  fields.Post,
-  cell-reads.Asked,
-  cell-reads.Learnt,
-  told-reads.Asked,
-  told-reads.Learnt,
-  parted-below t,
-  parted.Post,
-) (parted-at t) parted.Post parted-Inv-loop parted-μ-loop
-parted-loop-again t c = ?
+parted-loop-again : (t : ℕ) → parted-lts.Need-loop-again (parted-claims t) (parted-at t) parted.Post parted-Inv-loop parted-μ-loop
+parted-loop-again t c =
+    let p = c .before .before .before .before .before .before .before .before .before .before .before .before .pre .1 in
+    elements-next (p .0) (p .1) (c .before .before .before .loop .inv) (c .before .before .loop-test .taken)
+    (c .before .parted .ensures) (not-false _ (c .if3 .left))
 
--- src/lib.rt:239:1
-parted-returns-4 : (t : ℕ) → parted-lts.Need-returns-4 (
-  row-at-reads.Asked,
-  row-at-reads.Learnt,
-  based-below t,
-  based.Post,
-  base-size-reads.Asked,
-  base-size-reads.Learnt,
-  fields-below t,
-  fields.Post,
-  cell-reads.Asked,
-  cell-reads.Learnt,
-  told-reads.Asked,
-  told-reads.Learnt,
-  parted-below t,
-  parted.Post,
-) (parted-at t) parted.Post parted-Inv-loop parted-μ-loop
-parted-returns-4 t c = ?
+parted-returns-4 : (t : ℕ) → parted-lts.Need-returns-4 (parted-claims t) (parted-at t) parted.Post parted-Inv-loop parted-μ-loop
+parted-returns-4 t c =
+    let p = c .before .before .before .before .before .before .before .before .before .before .pre .1 in
+    elements-end (p .0) (p .1) (c .before .loop .inv) (c .loop-test .left)
 
 pub +based+fields+object+parted-spec : {M : Type 1} → statement M
 +based+fields+object+parted-spec = close μ-based μ-fields μ-object μ-parted (λ t. based-lts.spec (
@@ -793,18 +347,7 @@ pub +based+fields+object+parted-spec : {M : Type 1} → statement M
     (based-sub-base t)
     (based-object-requires t)
     (based-returns-2 t))
-    (λ t. fields-lts.spec (
-      field-type-reads.Asked,
-      field-type-reads.Learnt,
-      told-reads.Asked,
-      told-reads.Learnt,
-      object-below t,
-      object.Post,
-      cell-reads.Asked,
-      cell-reads.Learnt,
-    )
-    (fields-at t)
-    fields.Post
+    (λ t. fields-lts.spec (fields-claims t) (fields-at t) fields.Post
     fields-Inv-loop
     fields-μ-loop
     (fields-add-end t)
@@ -822,18 +365,7 @@ pub +based+fields+object+parted-spec : {M : Type 1} → statement M
     (fields-loop-less-2 t)
     (fields-loop-again-2 t)
     (fields-returns-2 t))
-    (λ t. object-lts.spec (
-      told-reads.Asked,
-      told-reads.Learnt,
-      cell-reads.Asked,
-      cell-reads.Learnt,
-      run-reads.Asked,
-      run-reads.Learnt,
-      parted-below t,
-      parted.Post,
-    )
-    (object-at t)
-    object.Post
+    (λ t. object-lts.spec (object-claims t) (object-at t) object.Post
     (object-told-requires t)
     (object-cell-requires t)
     (object-run-requires t)
@@ -843,24 +375,7 @@ pub +based+fields+object+parted-spec : {M : Type 1} → statement M
     (object-cast-core t)
     (object-parted-requires t)
     (object-returns-3 t))
-    λ t. parted-lts.spec (
-      row-at-reads.Asked,
-      row-at-reads.Learnt,
-      based-below t,
-      based.Post,
-      base-size-reads.Asked,
-      base-size-reads.Learnt,
-      fields-below t,
-      fields.Post,
-      cell-reads.Asked,
-      cell-reads.Learnt,
-      told-reads.Asked,
-      told-reads.Learnt,
-      parted-below t,
-      parted.Post,
-    )
-    (parted-at t)
-    parted.Post
+    λ t. parted-lts.spec (parted-claims t) (parted-at t) parted.Post
     parted-Inv-loop
     parted-μ-loop
     (parted-row-at-requires t)
