@@ -1,5 +1,4 @@
 -- `contents::field_type` meets its contract: a row that is there has all of its bytes.
-use native.Mathlib.Omega.{arith}
 use borrow.Author.Needs.{needs}
 use borrow.Author.Tests.{lt-ltb}
 use Rattle.prelude.specs.Choice.{choose}

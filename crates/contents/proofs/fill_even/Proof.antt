@@ -1,12 +1,11 @@
 -- `contents::fill_even` meets its contract: at each turn the rows below r are filled.
 use denote.Ref.{now}
-use mathlib.Core.Path.{_≡_, sym, _∙_, ap}
+use mathlib.Core.Path.{_≡_}
 use Prim.Native.Nat.{_-_, _≤_}
-use native.Mathlib.Numerals.{add-one}
 use native.Mathlib.Omega.{arith}
 use borrow.Author.Needs.{needs}
 use Rattle.prelude.specs.Cells.{Filled}
-use Rattle.prelude.proofs.Cells.{filled-none, filled-next}
+use Rattle.prelude.proofs.Cells.{filled-none}
 use Rattle.image.specs.Rows.{rowsOf}
 use Rattle.contents.specs.Kinds.{evenOf}
 use Rattle.contents.proofs.Evens.{fill-next}
@@ -51,9 +50,11 @@ loop-again c =
     let l = c .before .before .before .before .loop in
     let n = c .before .before .before .before .before in
     let p = n .before .before .before .before .pre in
-    let rows = n .rows-of .ensures in
-    (omega arith, fill-next _ _ _ _ _ _ _ (p .1) (omega (arith, rows)) (omega (arith, rows, p .2)) (l .inv .1)
-    (c .before .before .row-at .ensures) (c .type-kind .ensures))
+    let rows = n .rows-of .ensures in (
+      omega arith,
+      fill-next _ _ _ _ _ _ _ (p .1) (omega (arith, rows)) (omega (arith, rows, p .2)) (l .inv .1)
+          (c .before .before .row-at .ensures) (c .type-kind .ensures),
+    )
 
 same-length : tie.Need-same-length Inv-loop μ-loop
 same-length c = c .before .loop .inv .1 .cells

@@ -1,6 +1,5 @@
 -- `contents::joint` meets its contract: the tests are those of the definition.
 use Rattle.prelude.specs.Choice.{choose}
-use Rattle.prelude.proofs.Choice.{tests}
 use borrow.Author.Tests.{eq-eqb, ne-eqb, lt-ltb, le-ltb}
 use Rattle.contents.specs.Kinds.{joint}
 use Rattle.contents.proofs.joint.Statement.{statement}

@@ -2,7 +2,7 @@
 use denote.Ref.{now}
 use mathlib.Core.Path.{_≡_, sym, _∙_, ap}
 use mathlib.Core.List.{map}
-use Prim.Native.Nat.{_+_, _-_, _≤_}
+use Prim.Native.Nat.{_-_, _≤_}
 use native.Mathlib.Nat.{add-sub-cancel-left}
 use native.Mathlib.Omega.{arith}
 use borrow.Author.Needs.{needs}
@@ -52,10 +52,13 @@ loop-again c =
     let l = c .before .before .before .before .before .loop in
     let s = c .before .before .before .before .before .before .before .before in
     let told = c .before .kind-at .ensures
-        ∙ ap (λ (x : Row). getD (now (s .args .even)) (x .a) 0) (c .before .before .before .row-at .ensures) in
-    (omega arith, omega arith, l .inv .2
-    ∙ joint-step _ _ (l .j) _ (l .kind) (c .before .before .before .before .loop-test .taken)
-    (c .joint .ensures ∙ ap (joint (l .kind)) told))
+    ∙ ap (λ (x : Row). getD (now (s .args .even)) (x .a) 0) (c .before .before .before .row-at .ensures) in (
+      omega arith,
+      omega arith,
+      l .inv .2
+          ∙ joint-step _ _ (l .j) _ (l .kind) (c .before .before .before .before .loop-test .taken)
+          (c .joint .ensures ∙ ap (joint (l .kind)) told),
+    )
 
 returns : tie.Need-returns Inv-loop μ-loop
 returns c =

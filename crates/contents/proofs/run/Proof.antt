@@ -1,7 +1,7 @@
 -- `contents::run` meets its contract: at each turn the cells from `at` on are left.
 use denote.Ref.{now}
-use mathlib.Core.Path.{_≡_, refl, sym, _∙_, ap}
-use Prim.Native.Nat.{_+_, _-_, _≤_}
+use mathlib.Core.Path.{_≡_, sym, _∙_}
+use Prim.Native.Nat.{_-_, _≤_}
 use native.Mathlib.Nat.{add-sub-cancel-left}
 use native.Mathlib.Omega.{arith}
 use borrow.Author.Needs.{needs}
@@ -82,10 +82,13 @@ loop-again c =
     let z = getD (now (now (s .args .store))) (l .at) (pos 0) in
     let fits : SFits w64 z = record { sfits = c .before .before .z .given } in
     let less = compared z (low .result) fits (record { sfits = low .ok }) (c .before .if1 .left) in
-    let more = compared (high .result) z (record { sfits = high .ok }) fits (c .if2 .left) in
-    (omega arith, omega arith, l .inv .2
-    ∙ run-step _ _ (l .at) _ (c .before .before .before .loop-test .taken) (s .pre .2)
-    ∙ also-pass _ (in-range _ z (s .pre .1) (rw (low .ensures) at less) (rw (high .ensures) at more)))
+    let more = compared (high .result) z (record { sfits = high .ok }) fits (c .if2 .left) in (
+      omega arith,
+      omega arith,
+      l .inv .2
+          ∙ run-step _ _ (l .at) _ (c .before .before .before .loop-test .taken) (s .pre .2)
+          ∙ also-pass _ (in-range _ z (s .pre .1) (rw (low .ensures) at less) (rw (high .ensures) at more)),
+    )
 
 returns-3 : tie.Need-returns-3 Inv-loop μ-loop
 returns-3 c = let l = c .before .loop in sym (l .inv .2 ∙ run-end _ _ (l .at) _ (c .loop-test .left))

@@ -5,58 +5,41 @@ use Rattle.contents.specs.Kinds.{evenBy}
 use borrow.Author.Needs.{needs}
 use Rattle.contents.proofs.type_kind.Statement.{statement}
 use Rattle.contents.proofs.type_kind.Tie as tie
-use Rattle.contents.proofs.type_kind.Reads as reads
-use Rattle.contents.proofs.type_kind.Lts as lts
-use Rattle.contents.proofs.base_kind.Reads as base-kind-reads
-use Rattle.contents.proofs.kind_at.Reads as kind-at-reads
-use Rattle.contents.proofs.own_kind.Reads as own-kind-reads
-use Rattle.contents.proofs.owned.Reads as owned-reads
-use Rattle.contents.proofs.repeated.Reads as repeated-reads
 
--- src/lib.rt:128:41
 cast-kind-at : tie.Need-cast-kind-at
 cast-kind-at c = search needs
 
--- src/lib.rt:128:17
 kind-at-requires : tie.Need-kind-at-requires
 kind-at-requires c κs = search needs
 
--- src/lib.rt:129:13
 repeated-requires : tie.Need-repeated-requires
 repeated-requires c κs = search needs
 
--- src/lib.rt:132:17
 base-kind-requires : tie.Need-base-kind-requires
 base-kind-requires c κs = search needs
 
--- src/lib.rt:133:17
 own-kind-requires : tie.Need-own-kind-requires
 own-kind-requires c κs = search needs
 
--- src/lib.rt:134:13
 owned-requires : tie.Need-owned-requires
 owned-requires c κs = search needs
 
--- src/lib.rt:117:1
 returns : tie.Need-returns
 unfolding evenBy
 returns c =
     rw (form-array (c .before .before .before .before .before .args .row) (c .before .before .match .keys1), ← c .before .kind-at .ensures)
     (c .repeated .ensures)
 
--- src/lib.rt:117:1
 returns-2 : tie.Need-returns-2
 unfolding evenBy
 returns-2 c =
     rw (form-record (c .before .before .before .before .before .before .args .row) (c .before .before .before .match .keys2), ← c .before .before .base-kind .ensures, ← c .before .own-kind .ensures)
     (c .owned .ensures)
 
--- src/lib.rt:117:1
 returns-3 : tie.Need-returns-3
 unfolding evenBy
 returns-3 c = rw (form-scalar (c .before .before .before .before .args .row) (omega arith))
 
--- src/lib.rt:117:1
 returns-4 : tie.Need-returns-4
 unfolding evenBy
 returns-4 c = let m = c .before .match .rest in
