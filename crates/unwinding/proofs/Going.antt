@@ -1,15 +1,14 @@
 -- Loops over the frames: they begin at the newest, go on by `caller`, and are through at procedure 0's.
 use mathlib.Core.Path.{_≡_, refl, sym, _∙_, ap}
-use mathlib.Core.Bool.{Bool, true, false}
+use mathlib.Core.Bool.{true}
 use mathlib.Core.List.{List, [], _∷_}
-use Prim.Native.Nat.{ℕ, zero, suc, _+_, _-_, _*_, _≤_, _<_}
+use Prim.Native.Nat.{ℕ, suc, _+_, _-_, _*_, _≤_, _<_}
 use native.Mathlib.Omega.{arith}
 use native.Mathlib.Decide.{decLt}
-use borrow.Author.Tests.{ltb-true, lt-ltb, le-ltb, eqb-true}
-use lib.Dec.{ltb, eqb}
+use borrow.Author.Tests.{lt-ltb, le-ltb, eqb-true}
 use lib.IntN.{ℤ, pos}
-use lib.ListN.{length, getD}
-use Rattle.prelude.specs.Choice.{choose, _also_}
+use lib.ListN.{getD}
+use Rattle.prelude.specs.Choice.{_also_}
 use Rattle.prelude.proofs.Choice.{choose-yes, choose-no, also-true, clash}
 use Rattle.image.specs.Rows.{rowAt, rowsOf}
 use Rattle.image.proofs.Bytes.{row-there}
@@ -22,11 +21,11 @@ use Rattle.asking.specs.State.{naturalOf, chain, callKept, endsAt}
 use Rattle.asking.specs.Passes.{linked, Walked, newestBelow}
 use Rattle.access.specs.Ready.{Planned}
 use Rattle.unwinding.specs.declared.Spot.{Spot}
-use Rattle.unwinding.specs.Links.{linkAt, callerOf, spotOf}
+use Rattle.unwinding.specs.Links.{callerOf, spotOf}
 use Rattle.unwinding.specs.Going.{Going, Newest}
 use Rattle.unwinding.proofs.Links.{link-is, spot-is}
-use Rattle.unwinding.proofs.Walking.{room-more, room-least, frame-links, walked-base, walked-room, walked-links}
-use Rattle.unwinding.proofs.Walking.{walked-procedure, walked-oldest, Newer, walked-newer, walked-older}
+use Rattle.unwinding.proofs.Walking.{walked-base, walked-links}
+use Rattle.unwinding.proofs.Walking.{walked-procedure, walked-oldest, walked-newer, walked-older}
 
 module _ (g : Program) where
   -- ---- from a frame to its caller's
@@ -90,7 +89,7 @@ module _ (g : Program) where
   unfolding newestBelow
   below-older q qs at h = choose-no _ _ _ (le-ltb _ _ h)
 
-  object-older : (w q : ℕ) (qs : List ℕ) (at : ℕ) → at ≤ roomOf g qs → objectAt g w (q ∷ qs) at ≡ objectAt g w qs at
+  pub object-older : (w q : ℕ) (qs : List ℕ) (at : ℕ) → at ≤ roomOf g qs → objectAt g w (q ∷ qs) at ≡ objectAt g w qs at
   unfolding objectAt
   object-older w q qs at h = choose-no _ _ _ (le-ltb (roomOf g qs) at h)
 
@@ -150,11 +149,11 @@ module _ (g : Program) where
 -- ---- procedure 0
 
 -- no call names it: its frame has no caller
-pub first-alone : {image plan : List ℕ} → Planned image plan → {qs : List ℕ} {store : List ℤ} {b e : ℕ}
-    → Walked (programOf image) (0 ∷ qs) store b e → qs ≡ []
+pub first-alone : {image plan : List ℕ} → Planned image plan → {q : ℕ} {qs : List ℕ} {store : List ℤ} {b e : ℕ} → q ≡ 0
+    → Walked (programOf image) (q ∷ qs) store b e → qs ≡ []
 unfolding callKept
-first-alone {image} p {qs = []} w = refl
-first-alone {image} p {qs = c ∷ qs} {store} {b} w =
+first-alone {image} p {qs = []} first w = refl
+first-alone {image} p {q} {qs = c ∷ qs} {store} {b} first w =
     let g = programOf image in
     let ok = program-accepted image (p .checked .accepted) in
     let n = walked-newer g w in
@@ -163,7 +162,7 @@ first-alone {image} p {qs = c ∷ qs} {store} {b} w =
     let (this, c₃) = also-true _ _ c₂ in
     let row = naturalOf (getD store (b + 1) (pos 0)) - 1 in
     let call : rowAt (g .statements) row .kind ≡ 1 = eqb-true _ _ kind in
-    let named : rowAt (g .statements) row .a ≡ 0 = eqb-true _ _ this in
+    let named : rowAt (g .statements) row .a ≡ q = eqb-true _ _ this in
     let here = row-there (g .statements) row (omega (arith, call)) in
     let other = call-is (g .nodes) (g .procedures) (g .statements) (ok .questions .statements) row here call .other in
     absurd (omega (arith, named, other))

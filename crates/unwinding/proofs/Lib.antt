@@ -1,4 +1,7 @@
-pub mod Links
+mod Links
+mod Blocks
 pub mod Walking
 pub mod Going
 mod Seeking
+mod Bodies
+mod Along

@@ -2,21 +2,28 @@
 use mathlib.Core.Path.{_≡_, refl, sym, _∙_, ap}
 use mathlib.Core.Bool.{Bool, true, false}
 use mathlib.Core.List.{List}
-use mathlib.Core.Logic.{_⊎_, inl, inr}
-use Prim.Native.Nat.{ℕ, _+_, _*_, _/_, _%_, _<_}
+use Prim.Native.Nat.{ℕ, _+_, _-_, _*_, _/_, _%_, _≤_, _<_}
 use native.Mathlib.Omega.{arith}
-use native.Mathlib.Nat.{mul-add-div-right, mul-add-mod-self-right, div-add-mod', div-eq-of-lt, mod-eq-of-lt}
-use borrow.Author.Tests.{ltb-true, lt-ltb}
-use lib.Dec.{ltb}
+use native.Mathlib.Nat.{mul-add-div-right, mul-add-mod-self-right, div-eq-of-lt, mod-eq-of-lt}
+use borrow.Author.Tests.{lt-ltb, eqb-true, eq-eqb, ne-eqb}
+use lib.Dec.{ltb, eqb}
 use lib.IntN.{ℤ, pos, negsuc}
 use lib.ListN.{getD}
 use Rattle.prelude.specs.Choice.{choose}
 use Rattle.prelude.proofs.Choice.{choose-yes}
-use Rattle.semantics.specs.declared.Mark.{Mark}
 use Rattle.semantics.specs.declared.Mark.the-variants.{Number, Nothing}
-use Rattle.semantics.specs.Memory.{LINK, markOf, bare, cellAt, markAt}
-use Rattle.unwinding.specs.declared.Spot.{Spot}
+use Rattle.semantics.specs.Memory.{markOf, bare, cellAt, markAt}
 use Rattle.unwinding.specs.Links.{markNumber, linkAt, spotOf}
+
+-- two tests that are true together are the same
+pub same-truth : (a b : Bool) → (a ≡ true → b ≡ true) → (b ≡ true → a ≡ true) → a ≡ b
+same-truth true b f h = sym (f refl)
+same-truth false true f h = h refl
+same-truth false false f h = refl
+
+pub not-yes : (a : Bool) → (a ≡ true → ⊥) → a ≡ false
+not-yes true h = absurd (h refl)
+not-yes false h = refl
 
 -- a number of 16 bits is read as it is
 pub link-is : (top : ℕ) (store : List ℤ) (a n : ℕ) → a < top → getD store a (pos 0) ≡ pos n → n < 65536
@@ -51,3 +58,14 @@ spot-is q b low =
     let front : (q * 65536 + b) / 65536 ≡ q = mul-add-div-right (omega arith) q b ∙ rw (div-eq-of-lt low) (omega arith) in
     let back : (q * 65536 + b) % 65536 ≡ b = mul-add-mod-self-right q 65536 b ∙ mod-eq-of-lt low in
     rw (front, back)
+
+-- ---- where a frame ends
+
+pub end-short : (b e : ℕ) {size frame : ℕ} → size ≡ frame → e < size → eqb e (b + frame) ≡ false
+end-short b e {size} {frame} is short = ne-eqb _ _ (λ (same : e ≡ b + frame). absurd (omega arith))
+
+pub end-same : (b e : ℕ) {size frame : ℕ} → size ≡ frame → size ≤ e → eqb b (e - size) ≡ eqb e (b + frame)
+end-same b e {size} {frame} is most =
+    same-truth _ _
+    (λ x. let y = eqb-true b (e - size) x in eq-eqb e (b + frame) (omega arith))
+    (λ x. let y = eqb-true e (b + frame) x in eq-eqb b (e - size) (omega arith))

@@ -1,9 +1,8 @@
 -- Seeking a frame by address, from that of its block on.
-use mathlib.Core.Path.{_≡_, refl, sym, _∙_, ap}
-use mathlib.Core.List.{List, [], _∷_}
-use Prim.Native.Nat.{ℕ, _+_, _-_, _*_, _/_, _%_, _≤_, _<_}
+use mathlib.Core.Path.{_≡_, _∙_, ap}
+use mathlib.Core.List.{List, []}
+use Prim.Native.Nat.{ℕ, _-_, _/_, _%_, _≤_, _<_}
 use native.Mathlib.Omega.{arith}
-use native.Mathlib.Nat.{div-add-mod', lt-div-mul-add, div-lt-iff-lt-mul}
 use lib.IntN.{ℤ}
 use lib.ListN.{getD}
 use Rattle.image.specs.Rows.{rowsOf}
@@ -12,19 +11,12 @@ use Rattle.asking.specs.Asking.{roomOf}
 use Rattle.asking.specs.Passes.{Walked, newestBelow}
 use Rattle.unwinding.specs.declared.Spot.{Spot}
 use Rattle.unwinding.specs.Links.{callerOf, spotOf}
-use Rattle.unwinding.specs.Blocks.{BLOCK, Blocks}
-use Rattle.unwinding.specs.Going.{Going, Newest}
+use Rattle.unwinding.specs.Blocks.{BLOCK, blockEnd, Blocks}
+use Rattle.unwinding.specs.Going.{Going}
 use Rattle.unwinding.proofs.Links.{spot-is}
+use Rattle.unwinding.proofs.Blocks.{block-low, block-behind, block-most}
 use Rattle.unwinding.proofs.Walking.{walked-base, walked-links}
 use Rattle.unwinding.proofs.Going.{above-called, going-on, below-here, below-older, newest-is}
-
--- an address's block is one of the table's
-pub block-low : (at : ℕ) → at ≤ 65536 → (at - 1) / 64 < 1024
-block-low at most = div-lt-iff-lt-mul {k = 64} {x = at - 1} {y = 1024} (omega arith) .1 (omega arith)
-
--- and ends behind it
-block-end : (at : ℕ) → at ≤ (at - 1) / BLOCK * BLOCK + BLOCK
-block-end at = let h = lt-div-mul-add {a = at - 1} {b = 64} (omega arith) in omega arith
 
 -- the loop stands at this frame, and seeks among it and its older ones
 pub record Seeking (g : Program) (qs : List ℕ) (store : List ℤ) (top at q b : ℕ) : Type 0 where
@@ -36,14 +28,13 @@ module _ {g : Program} {qs : List ℕ} {store : List ℤ} {top at : ℕ} where
   -- at the frame of the address's block
   pub seeking-start : {b e : ℕ} {blocks : List ℕ} → Walked g qs store b e → e ≤ top → Blocks g qs blocks
       → roomOf g [] < at → at ≤ 65536
-      → let packed = getD blocks ((at - 1) / 64) 0 in Seeking g qs store top at (packed / 65536) (packed % 65536)
+      → let packed = getD blocks ((at - 1) / BLOCK) 0 in Seeking g qs store top at (packed / 65536) (packed % 65536)
   unfolding spotOf
   seeking-start w within table above most =
-      let block = (at - 1) / 64 in
-      let low = block-low at most in
-      let more = block-end at in
-      let n = newest-is g qs (block * 64 + 64) w (omega arith) (omega arith) in
-      let is = table .each block low in
+      let block = (at - 1) / BLOCK in
+      let more = block-behind at in
+      let n = newest-is g qs (blockEnd block) w (omega arith) (block-most at most) in
+      let is = table .each block (block-low at most) in
       rw is (record {
         end = n .end;
         within = omega (arith, n .within);

@@ -1,11 +1,11 @@
 -- Frames one by one: what the links of each say, and that what they say is all that is asked.
 use mathlib.Core.Path.{_≡_, refl, sym, _∙_, ap}
-use mathlib.Core.Bool.{Bool, true, false}
+use mathlib.Core.Bool.{true}
 use mathlib.Core.List.{List, [], _∷_}
-use Prim.Native.Nat.{ℕ, zero, suc, _+_, _-_, _≤_, _<_}
+use Prim.Native.Nat.{ℕ, suc, _+_, _-_, _≤_, _<_}
 use native.Mathlib.Omega.{arith}
 use borrow.Author.Tests.{ltb-true, eqb-true, lt-ltb, eq-eqb}
-use lib.Dec.{ltb, eqb}
+use lib.Dec.{eqb}
 use lib.IntN.{ℤ, pos, negsuc}
 use lib.ListN.{length, getD, drop, length-drop}
 use lib.Seq.{getD-drop}
@@ -28,16 +28,23 @@ is-number : (z : ℤ) (n : ℕ) → z ≡ pos n → isNumber z n ≡ true
 unfolding isNumber
 is-number z n e = rw e (eq-eqb n n refl)
 
-natural : (m : ℕ) → naturalOf (pos m) ≡ m
+pub natural : (m : ℕ) → naturalOf (pos m) ≡ m
 unfolding naturalOf
 natural m = refl
 
--- the cells behind a place
-cell-is : (store l : List ℤ) (b i : ℕ) → drop b store ≡ l → getD store (b + i) (pos 0) ≡ getD l i (pos 0)
-cell-is store l b i e = sym (getD-drop b store i (pos 0)) ∙ ap (λ (r : List ℤ). getD r i (pos 0)) e
+-- the first three cells from a place on
+cells-are : (store l : List ℤ) (x y z : ℤ) (b : ℕ) → drop b store ≡ x ∷ y ∷ z ∷ l
+    → (getD store b (pos 0) ≡ x) × (getD store (b + 1) (pos 0) ≡ y) × (getD store (b + 2) (pos 0) ≡ z)
+cells-are store l x y z b e = (rw none at (cell 0), cell 1, cell 2)
+  where
+    none : b + 0 ≡ b
+    none = omega arith
+
+    cell : (i : ℕ) → getD store (b + i) (pos 0) ≡ getD (x ∷ y ∷ z ∷ l) i (pos 0)
+    cell i = sym (getD-drop b store i (pos 0)) ∙ ap (λ (r : List ℤ). getD r i (pos 0)) e
 
 module _ (g : Program) where
-  abbrev frame : ℕ → ℕ
+  abbrev pub frame : ℕ → ℕ
   frame = frameSize (g .types) (g .fields) (g .variables) (g .procedures)
 
   -- ---- where frames begin and end
@@ -104,10 +111,7 @@ module _ (g : Program) where
   three q qs store (x ∷ y ∷ []) b at e = clash (sym e)
   three q qs store (x ∷ y ∷ z ∷ l) b at e =
       let (low, links) = also-true _ _ e in
-      let none : b + 0 ≡ b = omega arith in
-      let a₀ : getD store b (pos 0) ≡ x = rw none at (cell-is store (x ∷ y ∷ z ∷ l) b 0 at) in
-      let a₁ : getD store (b + 1) (pos 0) ≡ y = cell-is store (x ∷ y ∷ z ∷ l) b 1 at in
-      let a₂ : getD store (b + 2) (pos 0) ≡ z = cell-is store (x ∷ y ∷ z ∷ l) b 2 at in
+      let (a₀, a₁, a₂) = cells-are store l x y z b at in
       (ltb-true _ _ low, rw (a₀, a₁, a₂) links)
 
   from-three : (q : ℕ) (qs : List ℕ) (store l : List ℤ) (b : ℕ) → drop b store ≡ l → 3 ≤ length l
@@ -119,10 +123,7 @@ module _ (g : Program) where
   from-three q qs store (x ∷ []) b at long low links = absurd (omega arith)
   from-three q qs store (x ∷ y ∷ []) b at long low links = absurd (omega arith)
   from-three q qs store (x ∷ y ∷ z ∷ l) b at long low links =
-      let none : b + 0 ≡ b = omega arith in
-      let a₀ : getD store b (pos 0) ≡ x = rw none at (cell-is store (x ∷ y ∷ z ∷ l) b 0 at) in
-      let a₁ : getD store (b + 1) (pos 0) ≡ y = cell-is store (x ∷ y ∷ z ∷ l) b 1 at in
-      let a₂ : getD store (b + 2) (pos 0) ≡ z = cell-is store (x ∷ y ∷ z ∷ l) b 2 at in
+      let (a₀, a₁, a₂) = cells-are store l x y z b at in
       also-yes (lt-ltb _ _ low) (rw (← a₀, ← a₁, ← a₂) links)
 
   -- a frame's own links, and the others'
@@ -216,3 +217,16 @@ module _ (g : Program) where
       (also-yes called
       (also-yes (is-number _ _ (n .is-caller))
       (also-yes (is-number _ _ (n .is-back ∙ ap pos (sym there))) (is-number _ _ (n .is-base ∙ ap pos (walked-base w))))))
+
+  -- ---- the frames that the links lead to
+
+  module _ (store : List ℤ) where
+    -- the older frames of one of procedure q at b, of which there are at most n
+    unfoldable pub tailOf : ℕ → ℕ → ℕ → List ℕ
+    tailOf n q b =
+        choose (eqb q 0) [] (chain g store n (naturalOf (getD store b (pos 0))) (naturalOf (getD store (b + 2) (pos 0))))
+
+    -- the newest is the one that they lead from
+    pub chain-is : (n q b : ℕ) → chain g store (suc n) q b ≡ q ∷ tailOf n q b
+    unfolding chain tailOf
+    chain-is n q b = refl

@@ -13,6 +13,10 @@ BLOCKS = 1024
 abbrev pub BLOCK : ℕ
 BLOCK = 64
 
+-- where block j ends
+unfoldable pub blockEnd : ℕ → ℕ
+blockEnd j = j * BLOCK + BLOCK
+
 -- of each block the newest frame that begins below the block's end
 pub record Blocks (g : Program) (qs blocks : List ℕ) : Type 0 where
-  pub each : (j : ℕ) → j < BLOCKS → getD blocks j 0 ≡ newestBelow g qs (j * BLOCK + BLOCK)
+  pub each : (j : ℕ) → j < BLOCKS → getD blocks j 0 ≡ newestBelow g qs (blockEnd j)

@@ -4,7 +4,7 @@ use semantics::Mark;
 ghost use mathlib.Core.Path.{_≡_};
 ghost use mathlib.Core.Bool.{true};
 ghost use mathlib.Core.List.{List, []};
-ghost use Prim.Native.Nat.{ℕ, suc, _+_, _≤_, _<_};
+ghost use Prim.Native.Nat.{ℕ, suc, _-_, _≤_, _<_};
 ghost use lib.Dec.{ltb};
 ghost use lib.ListN.{length};
 ghost use Rattle.prelude.specs.Choice.{_also_};
@@ -81,5 +81,155 @@ pub fn frame_below(store: &[i64], top: u32, blocks: &[u32], at: u32) -> Spot
     Spot {
         procedure: q,
         base: b,
+    }
+}
+
+// ---- frames of a program
+
+// Whether statement row r lies in the body of procedure q.
+pub fn inside(image: &&[u8], plan: &Plan, q: u16, r: u32) -> bool
+    requires { ⌜ Ready (now (now image)) (now plan) ⌝ }
+    ensures { λ x. ⌜ x ≡ insideKept (programOf (now (now (image .entry)))) q r ⌝ }
+{
+    let row = access::statement_at(image, plan, r);
+    let kind = row.kind;
+    if kind == 255 {
+        return false;
+    }
+    let owner = access::procedure_of(image, plan, r);
+    owner == q as u32
+}
+
+// Whether there is a procedure q: the first row of its body lies in it.
+fn is_procedure(image: &&[u8], plan: &Plan, q: u16) -> bool
+    requires { ⌜ Ready (now (now image)) (now plan) ⌝ }
+    ensures { λ x. ⌜ x ≡ ltb q (rowsOf (programOf (now (now (image .entry))) .procedures)) ⌝ }
+{
+    let procedure = access::procedure_at(image, plan, q);
+    let first = procedure.a;
+    inside(image, plan, q, first as u32)
+}
+
+// Whether row `back` follows a call of procedure q in the body of procedure c.
+fn call_kept(image: &&[u8], plan: &Plan, q: u16, c: u16, back: u16) -> bool
+    requires { ⌜ Ready (now (now image)) (now plan) ⌝ }
+    ensures { λ x. ⌜ x ≡ callKept (programOf (now (now (image .entry)))) q c back ⌝ }
+{
+    if back < 1 {
+        return false;
+    }
+    let call = (back - 1) as u32;
+    let row = access::statement_at(image, plan, call);
+    let kind = row.kind;
+    let called = row.a;
+    if kind != 1 {
+        return false;
+    }
+    if called != q {
+        return false;
+    }
+    if !inside(image, plan, c, call) {
+        return false;
+    }
+    inside(image, plan, c, back as u32)
+}
+
+// Whether there is a procedure q, whose frame at b ends at e.
+fn size_kept(image: &&[u8], plan: &Plan, q: u16, b: u32, e: u32) -> bool
+    requires { ⌜ Ready (now (now image)) (now plan) ⌝ }
+    ensures { λ x. ⌜ x ≡ sizeKept (programOf (now (now (image .entry)))) q b e ⌝ }
+{
+    if !is_procedure(image, plan, q) {
+        return false;
+    }
+    let size = access::frame_size(image, plan, q);
+    if e < size {
+        return false;
+    }
+    b == e - size
+}
+
+// Whether a frame at b is the oldest.
+fn oldest_kept(image: &&[u8], plan: &Plan, store: &[i64], top: u32, b: u32) -> bool
+    requires { ⌜ Ready (now (now image)) (now plan) × (top ≤ length (now store)) × (b ≤ 65536) ⌝ }
+    ensures { λ x. ⌜ x ≡ oldestKept (programOf (now (now (image .entry)))) top (now (store .entry)) b ⌝ }
+{
+    let globals = access::global_room(image, plan);
+    if b != globals {
+        return false;
+    }
+    if link(store, top, b) != 0 {
+        return false;
+    }
+    if link(store, top, b + 1) != 0 {
+        return false;
+    }
+    link(store, top, b + 2) == 0
+}
+
+// ---- the walk
+
+// Writes one number into the blocks from one on, before another.
+fn fill(blocks: &mut [u32], from: usize, to: usize, number: u32)
+    requires { ⌜ (from ≤ to) × (to ≤ length (now blocks)) ⌝ }
+    ensures { λ x. ⌜ Filled from (to - from) (λ j. number) (now (blocks .entry)) (now (blocks .exit)) ⌝ }
+{
+    let mut i = from;
+    while i < to {
+        blocks[i] = number;
+        i = i + 1;
+    }
+}
+
+// Whether the links lead from the frame of procedure q, from base to top, to procedure 0's; and the frame of each block.
+pub fn walk(
+    image: &&[u8],
+    plan: &Plan,
+    store: &[i64],
+    q: u16,
+    base: u32,
+    top: u32,
+    blocks: &mut [u32],
+) -> bool
+    requires { ⌜ Ready (now (now image)) (now plan) × (top ≤ length (now store)) × (length (now store) ≤ 65536)
+        × (BLOCKS ≤ length (now blocks)) ⌝ }
+    ensures { λ x. ⌜ x ≡ (endsAt (programOf (now (now (image .entry))))
+        (chain (programOf (now (now (image .entry)))) (now (store .entry)) (suc base) q base) base top
+        also linked (programOf (now (now (image .entry))))
+        (chain (programOf (now (now (image .entry)))) (now (store .entry)) (suc base) q base)
+        (now (store .entry))) ⌝ }
+    ensures blocks { λ x. ⌜ (x ≡ true → Blocks (programOf (now (now (image .entry))))
+        (chain (programOf (now (now (image .entry)))) (now (store .entry)) (suc base) q base)
+        (now (blocks .exit))) ⌝ }
+{
+    let mut procedure = q;
+    let mut start = base;
+    let mut end = top;
+    let mut high = BLOCKS;
+    loop {
+        if !size_kept(image, plan, procedure, start, end) {
+            return false;
+        }
+        let low = (start / BLOCK) as usize;
+        let packed = (procedure as u32) * 65536 + start;
+        fill(blocks, low, high, packed);
+        if procedure == 0 {
+            fill(blocks, 0, low, 0);
+            return oldest_kept(image, plan, store, top, start);
+        }
+        let older = caller(store, top, start);
+        let called = older.procedure;
+        let below = older.base;
+        let back = link(store, top, start + 1);
+        if !call_kept(image, plan, procedure, called, back) {
+            return false;
+        }
+        if start <= below {
+            return false;
+        }
+        procedure = called;
+        end = start;
+        start = below;
+        high = low;
     }
 }

@@ -3,27 +3,19 @@ use borrow.Author.Needs.{needs}
 use Rattle.unwinding.specs.Links.{callerOf}
 use Rattle.unwinding.proofs.caller.Statement.{statement}
 use Rattle.unwinding.proofs.caller.Tie as tie
-use Rattle.unwinding.proofs.caller.Reads as reads
-use Rattle.unwinding.proofs.caller.Lts as lts
-use Rattle.unwinding.proofs.link.Reads as link-reads
 
--- src/lib.rt:52:9
 link-requires : tie.Need-link-requires
 link-requires c κs = search needs
 
--- src/lib.rt:53:34
 add-link : tie.Need-add-link
 add-link c = search needs
 
--- src/lib.rt:53:9
 link-requires-2 : tie.Need-link-requires-2
 link-requires-2 c κs = search needs
 
--- src/lib.rt:56:15
 cast-t6 : tie.Need-cast-t6
 cast-t6 c = search needs
 
--- src/lib.rt:48:1
 returns : tie.Need-returns
 unfolding callerOf
 returns c = rw (← c .before .link .ensures, ← c .link2 .ensures)

@@ -1,20 +1,18 @@
 -- `unwinding::frame_below` meets its contract: the frame of the block is no older than the one that is looked for.
-use mathlib.Core.Path.{_≡_, refl, sym, _∙_, ap}
+use mathlib.Core.Path.{sym}
 use mathlib.Core.List.{List, []}
-use Prim.Native.Nat.{ℕ, _+_, _-_, _*_, _/_, _%_, _≤_, _<_}
+use Prim.Native.Nat.{ℕ, _-_, _/_, _≤_, _<_}
 use native.Mathlib.Omega.{arith}
 use native.Mathlib.Nat.{mod-lt, div-lt-iff-lt-mul}
 use Rattle.image.specs.Rows.{rowsOf}
 use Rattle.semantics.specs.Layout.{Program}
 use Rattle.asking.specs.Asking.{roomOf}
-use Rattle.asking.specs.Passes.{Walked, newestBelow}
+use Rattle.asking.specs.Passes.{Walked}
 use Rattle.unwinding.specs.Blocks.{Blocks}
-use Rattle.unwinding.proofs.Seeking.{Seeking, block-low, seeking-start, seeking-on, seeking-ends}
+use Rattle.unwinding.proofs.Blocks.{block-low}
+use Rattle.unwinding.proofs.Seeking.{Seeking, seeking-start, seeking-on, seeking-ends}
 use Rattle.unwinding.proofs.frame_below.Statement.{statement}
 use Rattle.unwinding.proofs.frame_below.Tie as tie
-use Rattle.unwinding.proofs.frame_below.Reads as reads
-use Rattle.unwinding.proofs.frame_below.Lts as lts
-use Rattle.unwinding.proofs.caller.Reads as caller-reads
 
 abbrev Inv-loop : tie.InvT-loop
 Inv-loop store top blocks at block packed q₀ b₀ q b = (b < 65536)
@@ -24,30 +22,24 @@ Inv-loop store top blocks at block packed q₀ b₀ q b = (b < 65536)
 abbrev μ-loop : tie.MeasureT-loop
 μ-loop store top blocks at block packed q₀ b₀ q b = b
 
--- src/lib.rt:67:18
 sub-block : tie.Need-sub-block Inv-loop μ-loop
 sub-block c = c .before .pre .2
 
--- src/lib.rt:68:25
 cast-packed : tie.Need-cast-packed Inv-loop μ-loop
 cast-packed c = record { fits = omega (arith, block-low (c .before .args .at) (c .before .pre .3)) }
 
--- src/lib.rt:68:18
 mul-packed : tie.Need-mul-packed Inv-loop μ-loop
 mul-packed c = record { fits = omega (arith, block-low (c .before .args .at) (c .before .pre .3)) }
 
--- src/lib.rt:68:18
 shared-slice-read-packed : tie.Need-shared-slice-read-packed Inv-loop μ-loop
 shared-slice-read-packed c = omega (arith, block-low (c .before .before .args .at) (c .before .before .pre .3), c .before .before .pre .1)
 
--- src/lib.rt:69:17
 cast-q : tie.Need-cast-q Inv-loop μ-loop
 cast-q c =
     let block = (c .before .before .args .at - 1) / 64 in
     let fits = c .shared-slice-known2 .given block in
     record { fits = div-lt-iff-lt-mul {k = 65536} {y = 65536} (omega arith) .1 (omega arith) }
 
--- src/lib.rt:71:5
 loop-holds : tie.Need-loop-holds Inv-loop μ-loop
 loop-holds c = (
   mod-lt _ (omega arith),
@@ -55,32 +47,29 @@ loop-holds c = (
       seeking-start w within blocks above (c .before .before .pre .3),
 )
 
--- src/lib.rt:72:13
 caller-requires : tie.Need-caller-requires Inv-loop μ-loop
 caller-requires c κs = (c .before .before .before .before .pre .0, omega (arith, c .before .loop .inv .0))
 
--- src/lib.rt:76:13
 returns : tie.Need-returns Inv-loop μ-loop
 returns c = λ g qs start e w within few blocks above.
     let l = c .before .before .before .loop in
-    let (less, next) = seeking-on few above (c .before .before .loop-test .taken) (omega (arith, l .inv .0))
+    let test = c .before .before .loop-test .taken in
+    let (less, next) = seeking-on few above (omega (arith, test)) (omega (arith, l .inv .0))
     (l .inv .1 g qs start e w within few blocks above) (c .before .caller .ensures) in
     absurd (omega arith)
 
--- src/lib.rt:71:5
 loop-less : tie.Need-loop-less Inv-loop μ-loop
 loop-less c = omega arith
 
--- src/lib.rt:71:5
 loop-again : tie.Need-loop-again Inv-loop μ-loop
-loop-again c = let l = c .before .before .before .loop in (
-  omega (arith, l .inv .0),
-  λ g qs start e w within few blocks above.
-      seeking-on few above (c .before .before .loop-test .taken) (omega (arith, l .inv .0))
-      (l .inv .1 g qs start e w within few blocks above) (c .before .caller .ensures) .1,
-)
+loop-again c = let l = c .before .before .before .loop in
+    let test = c .before .before .loop-test .taken in (
+      omega (arith, l .inv .0),
+      λ g qs start e w within few blocks above.
+          seeking-on few above (omega (arith, test)) (omega (arith, l .inv .0))
+          (l .inv .1 g qs start e w within few blocks above) (c .before .caller .ensures) .1,
+    )
 
--- src/lib.rt:61:1
 returns-2 : tie.Need-returns-2 Inv-loop μ-loop
 returns-2 c = let l = c .before .loop in
     λ g qs start e w within few blocks above.

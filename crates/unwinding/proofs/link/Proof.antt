@@ -5,28 +5,20 @@ use Rattle.semantics.specs.Memory.{LINK}
 use Rattle.unwinding.specs.Links.{markNumber, linkAt}
 use Rattle.unwinding.proofs.link.Statement.{statement}
 use Rattle.unwinding.proofs.link.Tie as tie
-use Rattle.unwinding.proofs.link.Reads as reads
-use Rattle.unwinding.proofs.link.Lts as lts
-use Rattle.cells.proofs.mark_at.Reads as mark-at-reads
 
--- src/lib.rt:41:27
 mark-at-requires : tie.Need-mark-at-requires
 mark-at-requires c κs = search needs
 
--- src/lib.rt:41:22
 enum-known-n : tie.Need-enum-known-n
 enum-known-n c = search needs
 
--- src/lib.rt:42:9
 enum-told : tie.Need-enum-told
 enum-told c = search needs
 
--- src/lib.rt:42:9
 returns : tie.Need-returns
 unfolding markNumber linkAt
 returns c = sym (ap markNumber (sym (c .before .before .mark-at .ensures LINK) ∙ c .enum-told .given .1))
 
--- src/lib.rt:37:1
 returns-2 : tie.Need-returns-2
 unfolding markNumber linkAt
 returns-2 c = sym (ap markNumber (sym (c .before .before .before .mark-at .ensures LINK) ∙ c .before .n .given .1))
