@@ -8,14 +8,14 @@ use Rattle.image.specs.Rows.{rowsOf}
 use Rattle.objects.specs.Begins.{beginsAt}
 use Rattle.objects.specs.Looking.{held, Edges}
 
--- how many places a type has, and a table: the constants of the code once more
+-- how many places a table has for each type, and in all: the constants of the code once more
 abbrev pub ROWS : ℕ
 ROWS = 64
 
 abbrev pub TABLE : ℕ
 TABLE = ROWS * ROWS
 
--- the tables say where an object of each type begins at the start and at the end of one of each type
+-- the tables are those of every type
 pub record AllEdges (t f plan : List ℕ) (starts ends : List Bool) : Type 0 where
   pub starting : TABLE ≤ length starts
   pub ending : TABLE ≤ length ends

@@ -1,10 +1,11 @@
-// Where objects begin within others. Two lent tables say of each type whether one declared with the type that is looked
-// for begins at its start, and at its end. So a look at a type's parts settles the answer, or leads to one part: what
-// begins there is the answer. Contracts say it for any test `deeper` of which the tables are the edges.
+// Where objects begin within others. Two lent tables say of each type that is looked for, and each type row, whether one
+// declared with that type begins at the start of that row's objects, and at their end. So a look at a type's parts
+// settles the answer, or leads to one part: what begins there is the answer. Contracts of looks say it for any test
+// `deeper` of which the tables are the edges.
 ghost use mathlib.Core.Path.{_≡_};
 ghost use mathlib.Core.Bool.{Bool, false};
 ghost use mathlib.Core.List.{List};
-ghost use Prim.Native.Nat.{ℕ, _+_, _-_, _*_, _≤_, _<_};
+ghost use Prim.Native.Nat.{ℕ, _-_, _*_, _≤_, _<_};
 ghost use lib.Dec.{leb, eqb};
 ghost use lib.ListN.{length, getD, replicate};
 ghost use Rattle.prelude.specs.Choice.{choose, _also_};
@@ -15,7 +16,7 @@ ghost use Rattle.objects.specs.Begins.{partsOf, among as amongOf, begins
 ghost use Rattle.objects.specs.Looking.{held, Typed, Edges, Beyond, LowTypes, toldBy, settled, Looks};
 ghost use Rattle.objects.specs.Tables.{TABLE, AllEdges, Besides};
 
-// A table says one thing of each type row: of all types together they have a row of places each.
+// How many places a table has for each type that is looked for, and in all.
 const ROWS: usize = 64;
 
 pub const TABLE: usize = ROWS * ROWS;
@@ -308,7 +309,7 @@ fn fill(t: &[u8], f: &[u8], plan: &[u32], w: u16, starts: &mut [bool], ends: &mu
     }
 }
 
-// Fills the tables of every type.
+// Fills the tables: place w * ROWS + r says of type w what begins at the edges of type row r.
 pub fn fill_all(t: &[u8], f: &[u8], plan: &[u32], starts: &mut [bool], ends: &mut [bool])
     requires { ⌜ Typed (now t) (now f) (now plan) × (TABLE ≤ length (now starts)) × (TABLE ≤ length (now ends)) ⌝ }
     ensures { λ x. ⌜ AllEdges (now (t .entry)) (now (f .entry)) (now (plan .entry)) (now (starts .exit))
