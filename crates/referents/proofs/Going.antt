@@ -99,7 +99,7 @@ module _ (image : List ℕ) (store : List ℤ) (q base top : ℕ) where
         pub stands-end : {plan : List ℕ} → Planned image plan → x ≡ true → p ≡ 0 → true ≡ referencesPass g frames store
         unfolding referencesPass framesPass
         stands-end planned e first =
-            let none = first-alone planned (rw first at (h .going .walked)) in
+            let none = first-alone planned first (h .going .walked) in
             sym (here ∙ also-pass _ e ∙ rw none refl)
 
         pub stands-next : {plan : List ℕ} → Planned image plan → x ≡ true → (p ≡ 0 → ⊥) → {s : Spot}
