@@ -1,7 +1,7 @@
 -- Laws of the search for an object at an address, in the globals or in a frame.
-use mathlib.Core.Path.{_≡_, refl, sym, _∙_, ap}
+use mathlib.Core.Path.{_≡_, refl, sym, _∙_}
 use mathlib.Core.Bool.{Bool, true, false}
-use mathlib.Core.List.{List, [], _∷_}
+use mathlib.Core.List.{List, []}
 use Prim.Native.Nat.{ℕ, _+_, _-_, _≤_, _<_}
 use native.Mathlib.Omega.{arith}
 use native.Mathlib.Decide.{decLe}
@@ -9,7 +9,7 @@ use borrow.Author.Tests.{le-leb, lt-leb, eq-eqb}
 use lib.Dec.{leb}
 use lib.IntN.{ℤ}
 use Rattle.prelude.specs.Choice.{choose, _also_}
-use Rattle.prelude.proofs.Choice.{choose-yes, choose-no, also-left, also-pass}
+use Rattle.prelude.proofs.Choice.{also-pass}
 use Rattle.image.specs.Rows.{rowAt, rowsOf}
 use Rattle.frames.specs.Variables.{isGlobal, globalsOf}
 use Rattle.frames.specs.Procedures.{firstVariable, claimedBy}
@@ -20,7 +20,7 @@ use Rattle.semantics.specs.Layout.{Program}
 use Rattle.semantics.specs.Running.{programOf, globalRoom}
 use Rattle.semantics.proofs.Demand3.{program-accepted}
 use Rattle.semantics.proofs.Objects.{global-kind, place-global}
-use Rattle.asking.specs.Asking.{roomOf, objectIn, objectAt}
+use Rattle.asking.specs.Asking.{roomOf, objectAt}
 use Rattle.asking.specs.Passes.{Walked, newestBelow}
 use Rattle.access.specs.Ready.{Planned}
 use Rattle.access.proofs.Bounds.{procedures-few, claimed-there, place-in}
@@ -32,7 +32,7 @@ use Rattle.unwinding.proofs.Walking.{walked-procedure}
 use Rattle.unwinding.proofs.Going.{newest-is}
 use Rattle.referents.specs.Reaching.{Placed, inPlaces}
 use Rattle.referents.specs.Reading.{Framed}
-use Rattle.referents.proofs.Frames.{in-frame, object-global, object-newest}
+use Rattle.referents.proofs.Frames.{object-global, object-newest}
 
 -- a test and its second part, in the two ways of saying it
 also-choose : (a b : Bool) → (a also b) ≡ choose a b false

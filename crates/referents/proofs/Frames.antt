@@ -1,15 +1,14 @@
 -- Laws of the search for an object in frames.
-use mathlib.Core.Path.{_≡_, refl, sym, _∙_, ap}
-use mathlib.Core.Bool.{Bool, true, false}
+use mathlib.Core.Path.{_≡_, refl, _∙_}
+use mathlib.Core.Bool.{Bool, false}
 use mathlib.Core.List.{List, [], _∷_}
-use Prim.Native.Nat.{ℕ, zero, suc, _+_, _-_, _*_, _≤_, _<_}
+use Prim.Native.Nat.{ℕ, _+_, _-_, _≤_, _<_}
 use native.Mathlib.Omega.{arith}
-use native.Mathlib.Decide.{decLt}
-use borrow.Author.Tests.{le-leb, lt-leb, lt-ltb, le-ltb}
-use lib.Dec.{leb, ltb}
+use borrow.Author.Tests.{le-leb, lt-ltb}
+use lib.Dec.{leb}
 use lib.IntN.{ℤ}
-use Rattle.prelude.specs.Choice.{choose, _also_}
-use Rattle.prelude.proofs.Choice.{choose-yes, choose-no}
+use Rattle.prelude.specs.Choice.{choose}
+use Rattle.prelude.proofs.Choice.{choose-yes}
 use Rattle.image.specs.Rows.{rowAt, rowsOf}
 use Rattle.shapes.specs.Sizes.{sizeOf}
 use Rattle.frames.specs.Variables.{globalsOf}

@@ -1,11 +1,11 @@
 -- Laws of the loop over all frames.
-use mathlib.Core.Path.{_≡_, refl, sym, _∙_, ap}
+use mathlib.Core.Path.{_≡_, refl, sym, _∙_}
 use mathlib.Core.Bool.{Bool, true, false}
-use mathlib.Core.List.{List, [], _∷_}
+use mathlib.Core.List.{List, _∷_}
 use Prim.Native.Nat.{ℕ, suc, _+_, _≤_, _<_}
 use native.Mathlib.Omega.{arith}
 use lib.IntN.{ℤ}
-use lib.ListN.{length, drop}
+use lib.ListN.{drop}
 use Rattle.prelude.specs.Choice.{_also_}
 use Rattle.prelude.proofs.Choice.{also-left, also-pass}
 use Rattle.image.specs.Rows.{rowAt, rowsOf}
@@ -15,7 +15,7 @@ use Rattle.semantics.specs.Layout.{Program}
 use Rattle.semantics.specs.Running.{programOf}
 use Rattle.asking.specs.Asking.{roomOf}
 use Rattle.asking.specs.State.{chain}
-use Rattle.asking.specs.Passes.{Walked, variablesPass, framesPass, referenceTest, referencesPass}
+use Rattle.asking.specs.Passes.{variablesPass, framesPass, referenceTest, referencesPass}
 use Rattle.access.specs.Ready.{Planned}
 use Rattle.access.proofs.Bounds.{procedures-few}
 use Rattle.unwinding.specs.declared.Spot.{Spot}

@@ -2,13 +2,12 @@
 use mathlib.Core.Path.{_≡_, refl, sym, _∙_, ap}
 use mathlib.Core.Bool.{Bool, true, false}
 use mathlib.Core.List.{List}
-use mathlib.Core.Logic.{_⊎_, inl, inr}
 use Prim.Native.Nat.{ℕ, zero, suc, _+_, _-_, _≤_, _<_}
 use native.Mathlib.Omega.{arith}
 use native.Mathlib.Decide.{decLe, decLt}
-use borrow.Author.Tests.{leb-true, le-leb, lt-leb}
+use borrow.Author.Tests.{le-leb, lt-leb}
 use lib.Dec.{leb}
-use Rattle.prelude.specs.Choice.{choose, _also_}
+use Rattle.prelude.specs.Choice.{_also_}
 use Rattle.prelude.proofs.Choice.{choose-yes, choose-no, also-left, also-right, also-pass}
 use Rattle.image.specs.Rows.{rowAt}
 use Rattle.places.specs.Places.{widthBy, roomBy}

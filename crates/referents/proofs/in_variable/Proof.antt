@@ -2,7 +2,6 @@ use denote.Ref.{now}
 use Rattle.semantics.specs.Running.{programOf}
 use Rattle.access.proofs.Bounds.{variable-typed}
 use Rattle.referents.proofs.Scanning.{variable-other, variable-plain, variable-low, type-low}
-use borrow.Author.Needs.{needs}
 use Rattle.referents.proofs.in_variable.Statement.{statement}
 use Rattle.referents.proofs.in_variable.Tie as tie
 use Rattle.referents.proofs.in_variable.Reads as reads
