@@ -65,7 +65,7 @@ module _ (t f : List ℕ) (store : List ℤ) where
     pub base : row .a ≤ r
     pub base-room : a + ofBase 0 (sizeOf t f) (row .a) ≤ length store
     pub there : row .b + row .c ≤ rowsOf f
-    pub lows : LowTypes f (row .b) (row .c) r
+    pub lows : LowTypes f (row .b) (row .b + row .c) r
     pub own-room : a + ofBase 0 (sizeOf t f) (row .a) + sum (map (sizeOf t f) (ownTypes f (row .b) (row .c)))
         ≤ length store
     pub both : valuesKept (layoutOf t f r) (drop a store)
@@ -239,7 +239,7 @@ module _ {t f plan even : List ℕ} {store : List ℤ} (ok : Readable t f plan e
           base = base-most (is .on);
           base-room = omega (arith, size);
           there = is .within;
-          lows = record { each = λ j x y. field-low f r j (is .own .each j x y) };
+          lows = record { within = is .within; each = λ j x y. field-low f r j (is .own .each j x y) };
           own-room = omega (arith, size);
           both = ap (λ (l : List ℕ). Held l a) layout
               ∙ kept-then (ofBase [] (layoutOf t f) (rowAt t r .a))
@@ -296,7 +296,7 @@ module _ {t f plan even : List ℕ} {store : List ℤ} (ok : Readable t f plan e
     rest = rw (add-sub-cancel-left k n);
   }
 
-  module _ {r k n a j at u : ℕ} (low : r < rowsOf t) (lows : LowTypes f k n r) (l : Fields t f store k n a j at)
+  module _ {r k n a j at u : ℕ} (low : r < rowsOf t) (lows : LowTypes f k (k + n) r) (l : Fields t f store k n a j at)
       (more : j < k + n) (this : u ≡ rowAt f j .a) where
     pub field-below : u < r
     field-below = rw this (lows .each j (l .first) more)

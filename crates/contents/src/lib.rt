@@ -298,7 +298,7 @@ fn fields(
     a: u32,
 ) -> bool
     requires { ⌜ Readable (now (now t)) (now (now f)) (now (now plan)) (now (now even)) (now (now store))
-        × (r < rowsOf (now (now t))) × (k + n ≤ rowsOf (now (now f))) × LowTypes (now (now f)) k n r
+        × (r < rowsOf (now (now t))) × (k + n ≤ rowsOf (now (now f))) × LowTypes (now (now f)) k (k + n) r
         × (a + sum (map (sizeOf (now (now t)) (now (now f))) (ownTypes (now (now f)) k n))
         ≤ length (now (now store))) ⌝ }
     ensures { λ x. ⌜ x ≡ valuesKept

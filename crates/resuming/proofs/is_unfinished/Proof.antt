@@ -1,4 +1,4 @@
-use borrow.Author.Needs.{needs}
+use mir.Facts.{toZ-ofZ}
 use mir.Syntax.{w32}
 use mir.Val.{toZ, ofZ}
 use Rattle.resuming.proofs.Numbers.{zero-told}
@@ -35,7 +35,8 @@ returns-5 c =
     let two = three .before .before in
     let one = two .before .before in
     let start = one .before .before in
-    let back : toZ w32 (ofZ w32 (start .args .r .halt)) ≡ start .args .r .halt = search needs in
+    let back : toZ w32 (ofZ w32 (start .args .r .halt)) ≡ start .args .r .halt =
+    toZ-ofZ (record { sfits = c .struct-told .given .1 .1 .1 .1 .0 .1 }) in
     zero-told (start .args .r .halt) back
     ∙ sym (also-pass _ (eq-eqb _ 0 (one .if1 .left)) ∙ also-pass _ (eq-eqb _ 0 (two .if2 .left))
     ∙ also-pass _ (eq-eqb _ 0 (three .if3 .left)) ∙ also-pass _ (eq-eqb _ 0 (four .if4 .left)))

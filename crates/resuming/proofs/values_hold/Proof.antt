@@ -33,7 +33,7 @@ unfolding tableOf choose
 fill-even-requires c κs =
     let start = c .before .before .before .before .before .before .before in
     rw (c .before .table2 .ensures, c .before .before .before .before .table .ensures)
-    (types-few (start .pre .0 .planned), types-kept (start .pre .0 .planned), types-few (start .pre .0 .planned), ?)
+    (types-few (start .pre .0 .planned), types-kept (start .pre .0 .planned), types-few (start .pre .0 .planned))
 
 first-variable-requires : tie.Need-first-variable-requires
 first-variable-requires c κs =

@@ -33,7 +33,7 @@ holds-values-requires c κs =
     let start = kinds .before .before .before in
     let row = kinds .before .variable-at .ensures in
     rw (c .before .table2 .ensures, c .before .before .before .before .table .ensures, row)
-    (start .pre .0 .readable, inside-value (start .pre .0 .planned) _ _ (start .pre .1) (rw row at (kinds .if1 .left)) (start .pre .2), ?)
+    (start .pre .0 .readable, inside-value (start .pre .0 .planned) _ _ (start .pre .1) (rw row at (kinds .if1 .left)) (start .pre .2))
 
 returns-2 : tie.Need-returns-2
 unfolding tableOf choose
