@@ -142,7 +142,8 @@ module _ {image plan : List ℕ} (p : Planned image plan) (store : List ℤ) (al
   abbrev Done : List ℕ → ℕ → ℕ → ℕ → ℕ → Type 0
   Done = Past g store all base top
 
-  pub along-start : (q : ℕ) → all ≡ chain g store (suc base) q base → (blocks : List ℕ) → Stands blocks q base top BLOCKS
+  pub along-start : (q : ℕ) → all ≡ chain g store (suc base) q base → (blocks : List ℕ)
+      → Stands blocks q base top BLOCKS
   along-start q is blocks =
       let frames = is ∙ chain-is g store base q base in
       record {
@@ -177,7 +178,8 @@ module _ {image plan : List ℕ} (p : Planned image plan) (store : List ℤ) (al
       left = λ said j low.
           let base = walked-base g (walked said) in
           let under = block-before b j low in
-          h .left said j (omega (arith, along-block sized)) ∙ below-older g q (tailOf g store (h .fuel) q b) _ (omega arith);
+          h .left said j (omega (arith, along-block sized))
+          ∙ below-older g q (tailOf g store (h .fuel) q b) _ (omega arith);
     }
       where
         go : wanted ≡ true → (j : ℕ) → b / BLOCK ≤ j → j < BLOCKS → Dec (j < high)
@@ -188,7 +190,8 @@ module _ {image plan : List ℕ} (p : Planned image plan) (store : List ℤ) (al
             let begun = block-begun b j up in
             rw at at (filled .cell (j - b / BLOCK) (omega arith))
             ∙ sym (h .left said j low ∙ below-here g q (tailOf g store (h .fuel) q b) _ (omega arith) ∙ rw (← base))
-        go said j up few (no far) = filled .above j (omega (arith, along-block sized)) ∙ h .done said j (omega arith) few
+        go said j up few (no far) =
+            filled .above j (omega (arith, along-block sized)) ∙ h .done said j (omega arith) few
 
     -- ---- procedure 0's
 
@@ -274,7 +277,8 @@ module _ {image plan : List ℕ} (p : Planned image plan) (store : List ℤ) (al
           let own = size-links g store q b e sized in
           let up = h .within in
           let room = h .enough in
-          let tail = tail-on g store (h .fuel) q b (x .procedure) (x .base) other (n .is-caller) (n .is-base) (omega arith) in
+          let tail = tail-on g store (h .fuel) q b (x .procedure) (x .base) other (n .is-caller) (n .is-base)
+          (omega arith) in
           record {
             within = omega arith;
             fuel = h .fuel - 1;

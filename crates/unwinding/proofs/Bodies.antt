@@ -75,7 +75,8 @@ module _ {image plan : List ℕ} (p : Planned image plan) where
       (omega (arith, procedures-few p), omega (arith, statements-few p))
 
   -- where there is no row
-  pub inside-missing : (q r : ℕ) {row : Row} → row ≡ rowAt (g .statements) r → row .kind ≡ 255 → false ≡ insideKept g q r
+  pub inside-missing : (q r : ℕ) {row : Row} → row ≡ rowAt (g .statements) r → row .kind ≡ 255
+      → false ≡ insideKept g q r
   inside-missing q r {row} e none = sym (not-yes _ (λ kept.
       let here = kind-low (g .nodes) (g .procedures) (g .statements) r (ok .statement r (inside-there q r kept .1)) in
       let same = ap (λ (x : Row). x .kind) e in

@@ -54,24 +54,25 @@ module _ (g : Program) where
 
   -- ---- loops
 
-  module _ {store : List ℤ} {Told : List ℕ → Type 0} where
+  module _ {store : List ℤ} where
     -- at the newest frame, where the links are as they should be
-    pub going-start : (n q b e : ℕ)
+    pub going-start : (Told : List ℕ → Type 0) (n q b e : ℕ)
         → (endsAt g (chain g store (suc n) q b) b e also linked g (chain g store (suc n) q b) store) ≡ true
         → Told (chain g store (suc n) q b) → Going g store Told q b e
     unfolding chain
-    going-start n q b e kept told =
+    going-start Told n q b e kept told =
         let (ends, links) = also-true _ _ kept in
         record { older = _; walked = record { ends = ends; links = links }; told = told }
 
-    -- one frame on
-    pub going-on : {q b e : ℕ} (h : Going g store Told q b e) → rowsOf (g .procedures) ≤ 64 → (top : ℕ) → e ≤ top
-        → b ≤ 65536 → (Walked g (q ∷ []) store b e → ⊥) → (Told (q ∷ h .older) → Told (h .older))
-        → {x : Spot} → x ≡ callerOf top store b → (x .base < b) × Going g store Told (x .procedure) (x .base) b
-    going-on {q} {b} {e} h few top within low some next {x} is = go (h .older) (h .walked) (next (h .told))
+    -- one frame on, where `Next` is known of the older ones
+    pub going-on : {Told : List ℕ → Type 0} (Next : List ℕ → Type 0) {q b e : ℕ} (h : Going g store Told q b e)
+        → rowsOf (g .procedures) ≤ 64 → (top : ℕ) → e ≤ top → b ≤ 65536 → (Walked g (q ∷ []) store b e → ⊥)
+        → (Told (q ∷ h .older) → Next (h .older))
+        → {x : Spot} → x ≡ callerOf top store b → (x .base < b) × Going g store Next (x .procedure) (x .base) b
+    going-on Next {q} {b} {e} h few top within low some next {x} is = go (h .older) (h .walked) (next (h .told))
       where
-        go : (qs : List ℕ) → Walked g (q ∷ qs) store b e → Told qs
-            → (x .base < b) × Going g store Told (x .procedure) (x .base) b
+        go : (qs : List ℕ) → Walked g (q ∷ qs) store b e → Next qs
+            → (x .base < b) × Going g store Next (x .procedure) (x .base) b
         go [] w told = absurd (some w)
         go (c ∷ qs) w told =
             let there = is ∙ caller-is w few top within low in
@@ -81,7 +82,8 @@ module _ (g : Program) where
 
   -- ---- by address
 
-  pub below-here : (q : ℕ) (qs : List ℕ) (at : ℕ) → roomOf g qs < at → newestBelow g (q ∷ qs) at ≡ q * 65536 + roomOf g qs
+  pub below-here : (q : ℕ) (qs : List ℕ) (at : ℕ) → roomOf g qs < at
+      → newestBelow g (q ∷ qs) at ≡ q * 65536 + roomOf g qs
   unfolding newestBelow
   below-here q qs at h = choose-yes _ _ _ (lt-ltb _ _ h)
 

@@ -30,7 +30,8 @@ pub link-is : (top : ℕ) (store : List ℤ) (a n : ℕ) → a < top → getD st
     → linkAt top store a ≡ n
 unfolding linkAt markAt bare cellAt markOf markNumber
 link-is top store a n low e small =
-    ap markNumber (choose-yes (ltb a top) _ _ (lt-ltb a top low) ∙ ap markOf e ∙ choose-yes _ _ _ (lt-ltb n 65536 small))
+    ap markNumber
+    (choose-yes (ltb a top) _ _ (lt-ltb a top low) ∙ ap markOf e ∙ choose-yes _ _ _ (lt-ltb n 65536 small))
 
 number-back : (z : ℤ) (n : ℕ) → markNumber (markOf z) ≡ n → n < 65535 → z ≡ pos n
 unfolding markNumber markOf choose
@@ -55,7 +56,8 @@ link-back top store a n e low = go (ltb a top) e
 pub spot-is : (q b : ℕ) → b < 65536 → spotOf (q * 65536 + b) ≡ record { procedure = q; base = b }
 unfolding spotOf
 spot-is q b low =
-    let front : (q * 65536 + b) / 65536 ≡ q = mul-add-div-right (omega arith) q b ∙ rw (div-eq-of-lt low) (omega arith) in
+    let front : (q * 65536 + b) / 65536 ≡ q =
+    mul-add-div-right (omega arith) q b ∙ rw (div-eq-of-lt low) (omega arith) in
     let back : (q * 65536 + b) % 65536 ≡ b = mul-add-mod-self-right q 65536 b ∙ mod-eq-of-lt low in
     rw (front, back)
 

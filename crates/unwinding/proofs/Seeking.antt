@@ -49,7 +49,8 @@ module _ {g : Program} {qs : List ℕ} {store : List ℤ} {top at : ℕ} where
       let h = s .going in
       let base = walked-base g (h .walked) in
       let own = walked-links g (h .walked) in
-      let (less, next) = going-on g h few top (s .within) low (above-called g (omega arith))
+      let (less, next) = going-on g (λ rest. newestBelow g qs at ≡ newestBelow g rest at) h few top (s .within) low
+      (above-called g (omega arith))
       (λ told. told ∙ below-older g q (h .older) at (omega arith)) is in
       (less, record { end = b; within = omega (arith, s .within); going = next })
 

@@ -216,7 +216,8 @@ module _ (g : Program) where
       whole q (c ∷ qs) store b e (sym (walked-room w)) (n .size) long (n .procedure) (w .links)
       (also-yes called
       (also-yes (is-number _ _ (n .is-caller))
-      (also-yes (is-number _ _ (n .is-back ∙ ap pos (sym there))) (is-number _ _ (n .is-base ∙ ap pos (walked-base w))))))
+      (also-yes (is-number _ _ (n .is-back ∙ ap pos (sym there)))
+      (is-number _ _ (n .is-base ∙ ap pos (walked-base w))))))
 
   -- ---- the frames that the links lead to
 
@@ -224,7 +225,8 @@ module _ (g : Program) where
     -- the older frames of one of procedure q at b, of which there are at most n
     unfoldable pub tailOf : ℕ → ℕ → ℕ → List ℕ
     tailOf n q b =
-        choose (eqb q 0) [] (chain g store n (naturalOf (getD store b (pos 0))) (naturalOf (getD store (b + 2) (pos 0))))
+        choose (eqb q 0) []
+        (chain g store n (naturalOf (getD store b (pos 0))) (naturalOf (getD store (b + 2) (pos 0))))
 
     -- the newest is the one that they lead from
     pub chain-is : (n q b : ℕ) → chain g store (suc n) q b ≡ q ∷ tailOf n q b

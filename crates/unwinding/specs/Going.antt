@@ -8,15 +8,15 @@ use Rattle.asking.specs.Asking.{objectAt}
 use Rattle.asking.specs.Passes.{Walked, newestBelow}
 use Rattle.unwinding.specs.declared.Spot.{Spot}
 
--- a loop over the frames stands at that of procedure q, from b to e; `Told` is what it knows of this frame and all older
--- ones
+-- a loop over the frames stands at that of procedure q, from b to e; `Told` is what it knows of this frame and all
+-- older ones
 pub record Going (g : Program) (store : List ℤ) (Told : List ℕ → Type 0) (q b e : ℕ) : Type 0 where
   pub older : List ℕ
   pub walked : Walked g (q ∷ older) store b e
   pub told : Told (q ∷ older)
 
--- of frames `all`, which end at e, the newest that begins below an address, with its older ones: what is asked of all of
--- them at an address that is no higher is answered by these
+-- of frames `all`, which end at e, the newest that begins below an address, with its older ones: what is asked of all
+-- of them at an address that is no higher is answered by these
 pub record Newest (g : Program) (all : List ℕ) (store : List ℤ) (e at : ℕ) (s : Spot) : Type 0 where
   pub older : List ℕ
   pub end : ℕ

@@ -181,7 +181,8 @@ fn fill(blocks: &mut [u32], from: usize, to: usize, number: u32)
     }
 }
 
-// Whether the links lead from the frame of procedure q, from base to top, to procedure 0's; and the frame of each block.
+// Whether the links lead from the frame of procedure q, from base to top, to procedure 0's; if so, the frame of each
+// block is noted.
 pub fn walk(
     image: &&[u8],
     plan: &Plan,

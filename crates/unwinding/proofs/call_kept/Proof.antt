@@ -42,7 +42,8 @@ unfolding callKept _also_
 returns-5 c =
     let row = c .before .before .before .before .before .statement-at in
     let first = c .before .before .inside in
-    search (tests, ← row .ensures, ← first .ensures, ← c .inside2 .ensures, not-false (first .result) (c .before .if4 .left))
+    let there = not-false (first .result) (c .before .if4 .left) in
+    search (tests, ← row .ensures, ← first .ensures, ← c .inside2 .ensures, there)
 
 pub call-kept-spec : {M : Type 1} → statement M
 call-kept-spec =

@@ -32,7 +32,9 @@ mul-packed : tie.Need-mul-packed Inv-loop μ-loop
 mul-packed c = record { fits = omega (arith, block-low (c .before .args .at) (c .before .pre .3)) }
 
 shared-slice-read-packed : tie.Need-shared-slice-read-packed Inv-loop μ-loop
-shared-slice-read-packed c = omega (arith, block-low (c .before .before .args .at) (c .before .before .pre .3), c .before .before .pre .1)
+shared-slice-read-packed c =
+    let s = c .before .before in
+    omega (arith, block-low (s .args .at) (s .pre .3), s .pre .1)
 
 cast-q : tie.Need-cast-q Inv-loop μ-loop
 cast-q c =

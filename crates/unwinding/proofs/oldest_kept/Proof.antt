@@ -30,7 +30,10 @@ link-requires-2 c κs = search needs
 
 returns-3 : tie.Need-returns-3
 unfolding oldestKept _also_ roomOf globalRoom
-returns-3 c = search (tests, ← c .before .before .before .before .before .global-room .ensures, ← c .before .before .before .link .ensures, ← c .before .link2 .ensures)
+returns-3 c =
+    let room = c .before .before .before .before .before .global-room in
+    let first = c .before .before .before .link in
+    search (tests, ← room .ensures, ← first .ensures, ← c .before .link2 .ensures)
 
 add-link-2 : tie.Need-add-link-2
 add-link-2 c = search needs
@@ -40,7 +43,10 @@ link-requires-3 c κs = search needs
 
 returns-4 : tie.Need-returns-4
 unfolding oldestKept _also_ roomOf globalRoom
-returns-4 c = search (tests, ← c .before .before .before .before .before .before .global-room .ensures, ← c .before .before .before .before .link .ensures, ← c .before .before .link2 .ensures, ← c .link3 .ensures)
+returns-4 c =
+    let room = c .before .before .before .before .before .before .global-room in
+    let first = c .before .before .before .before .link in
+    search (tests, ← room .ensures, ← first .ensures, ← c .before .before .link2 .ensures, ← c .link3 .ensures)
 
 pub oldest-kept-spec : {M : Type 1} → statement M
 oldest-kept-spec =

@@ -12,16 +12,16 @@ use Rattle.semantics.specs.Running.{programOf}
 use Rattle.asking.specs.State.{chain}
 use Rattle.access.proofs.Bounds.{procedures-few}
 use Rattle.unwinding.specs.Links.{sizeKept}
-use Rattle.unwinding.proofs.Along.{Along, Past, size-both, size-links, along-start, along-unsized, along-block, along-filled}
-use Rattle.unwinding.proofs.Along.{along-first, past-first, along-uncalled, along-unfallen, along-on}
+use Rattle.unwinding.proofs.Along.{Along, Past, size-both, size-links, along-start, along-unsized, along-block}
+use Rattle.unwinding.proofs.Along.{along-filled, along-first, past-first, along-uncalled, along-unfallen, along-on}
 use Rattle.unwinding.proofs.walk.Statement.{statement}
 use Rattle.unwinding.proofs.walk.Tie as tie
 
 abbrev Inv-loop : tie.InvT-loop
 Inv-loop image plan store q base top blocks₀ procedure₀ start₀ end₀ high₀ blocks procedure start end high =
     (length blocks ≡ length blocks₀)
-    × Along (programOf (now image)) store (chain (programOf (now image)) store (suc base) q base) base top blocks procedure
-    start end high
+    × Along (programOf (now image)) store (chain (programOf (now image)) store (suc base) q base) base top blocks
+    procedure start end high
 
 abbrev μ-loop : tie.MeasureT-loop
 μ-loop image plan store q base top blocks₀ procedure₀ start₀ end₀ high₀ blocks procedure start end high =
@@ -98,7 +98,8 @@ fill-requires-2 c κs =
     let f = c .before .before .before .before in
     let l = f .before .before .before .before .loop in
     let s = f .before .before .before .before .before .before in
-    let low = along-block (s .pre .0 .planned) _ _ _ _ (s .pre .1) (s .pre .2) (l .inv .1) (sized (f .before .before)) in
+    let low = along-block (s .pre .0 .planned) _ _ _ _ (s .pre .1) (s .pre .2) (l .inv .1)
+    (sized (f .before .before)) in
     (omega arith, omega (arith, f .fill .ensures .cells, l .inv .0, l .inv .1 .few, s .pre .3))
 
 oldest-kept-requires : tie.Need-oldest-kept-requires Inv-loop μ-loop
@@ -110,7 +111,9 @@ oldest-kept-requires c κs =
 same-length-2 : tie.Need-same-length-2 Inv-loop μ-loop
 same-length-2 c =
     let f = c .before .before .before .before .before .before .before .before in
-    c .before .before .before .fill2 .ensures .cells ∙ f .fill .ensures .cells ∙ f .before .before .before .before .loop .inv .0
+    c .before .before .before .fill2 .ensures .cells
+    ∙ f .fill .ensures .cells
+    ∙ f .before .before .before .before .loop .inv .0
 
 returns-2 : tie.Need-returns-2 Inv-loop μ-loop
 returns-2 c =
@@ -118,7 +121,8 @@ returns-2 c =
     let l = f .before .before .before .before .loop in
     let s = f .before .before .before .before .before .before in
     let first = c .before .before .before .before .before .if2 .taken in
-    let is = c .oldest-kept .ensures ∙ along-first (s .pre .0 .planned) _ _ _ _ (s .pre .1) (s .pre .2) (l .inv .1) first
+    let is = c .oldest-kept .ensures
+    ∙ along-first (s .pre .0 .planned) _ _ _ _ (s .pre .1) (s .pre .2) (l .inv .1) first
     (sized (f .before .before)) in (
       is,
       λ said. past-first (s .pre .0 .planned) _ _ _ _ (s .pre .1) (s .pre .2) (l .inv .1) first (filled f)
@@ -138,7 +142,8 @@ link-requires : tie.Need-link-requires Inv-loop μ-loop
 link-requires c κs = c .before .before .before .before .before .before .before .before .before .before .pre .1
 
 call-kept-requires : tie.Need-call-kept-requires Inv-loop μ-loop
-call-kept-requires c κs = c .before .before .before .before .before .before .before .before .before .before .before .pre .0
+call-kept-requires c κs =
+    c .before .before .before .before .before .before .before .before .before .before .before .pre .0
 
 same-length-3 : tie.Need-same-length-3 Inv-loop μ-loop
 same-length-3 c =
@@ -151,7 +156,8 @@ returns-3 c =
     let l = f .before .before .before .before .loop in
     let s = f .before .before .before .before .before .before in
     let no = sym (c .before .call-kept .ensures) ∙ not-true _ (c .if3 .taken) in (
-      along-uncalled (s .pre .0 .planned) _ _ _ _ (s .pre .1) (s .pre .2) (l .inv .1) (c .before .before .before .before .if2 .left)
+      along-uncalled (s .pre .0 .planned) _ _ _ _ (s .pre .1) (s .pre .2) (l .inv .1)
+          (c .before .before .before .before .if2 .left)
           (c .before .before .before .caller .ensures) (c .before .before .link .ensures) no,
       λ e. clash (sym e),
     )
@@ -166,8 +172,10 @@ returns-4 c =
     let f = c .before .before .before .before .before .before .before .before in
     let l = f .before .before .before .before .loop in
     let s = f .before .before .before .before .before .before in (
-      along-unfallen (s .pre .0 .planned) _ _ _ _ (s .pre .1) (s .pre .2) (l .inv .1) (c .before .before .before .before .before .if2 .left)
-          (c .before .before .before .before .caller .ensures) (c .before .before .before .link .ensures) (omega (arith, c .if4 .taken)),
+      along-unfallen (s .pre .0 .planned) _ _ _ _ (s .pre .1) (s .pre .2) (l .inv .1)
+          (c .before .before .before .before .before .if2 .left)
+          (c .before .before .before .before .caller .ensures) (c .before .before .before .link .ensures)
+          (omega (arith, c .if4 .taken)),
       λ e. clash (sym e),
     )
 
@@ -181,8 +189,10 @@ loop-again c =
     let s = f .before .before .before .before .before .before in
     let called = sym (c .before .before .call-kept .ensures) ∙ not-false _ (c .before .if3 .left) in (
       f .fill .ensures .cells ∙ l .inv .0,
-      along-on (s .pre .0 .planned) _ _ _ _ (s .pre .1) (s .pre .2) (l .inv .1) (c .before .before .before .before .before .if2 .left)
-          (c .before .before .before .before .caller .ensures) (c .before .before .before .link .ensures) (sized (f .before .before)) called (c .if4 .left) (filled f),
+      along-on (s .pre .0 .planned) _ _ _ _ (s .pre .1) (s .pre .2) (l .inv .1)
+          (c .before .before .before .before .before .if2 .left)
+          (c .before .before .before .before .caller .ensures) (c .before .before .before .link .ensures)
+          (sized (f .before .before)) called (c .if4 .left) (filled f),
     )
 
 pub walk-spec : {M : Type 1} → statement M
