@@ -23,7 +23,7 @@ use Rattle.semantics.proofs.Objects.{global-kind, place-global}
 use Rattle.asking.specs.Asking.{roomOf, objectAt}
 use Rattle.asking.specs.Passes.{Walked, newestBelow}
 use Rattle.access.specs.Ready.{Planned}
-use Rattle.access.proofs.Bounds.{procedures-few, claimed-there, place-in}
+use Rattle.access.proofs.Bounds.{procedures-few, place-in}
 use Rattle.unwinding.specs.declared.Spot.{Spot}
 use Rattle.unwinding.specs.Links.{spotOf}
 use Rattle.unwinding.specs.Blocks.{Blocks}
@@ -32,7 +32,7 @@ use Rattle.unwinding.proofs.Walking.{walked-procedure}
 use Rattle.unwinding.proofs.Going.{newest-is}
 use Rattle.referents.specs.Reaching.{Placed, inPlaces}
 use Rattle.referents.specs.Reading.{Framed}
-use Rattle.referents.proofs.Frames.{object-global, object-newest}
+use Rattle.referents.proofs.Frames.{claimed-there, object-global, object-newest}
 
 -- a test and its second part, in the two ways of saying it
 also-choose : (a b : Bool) → (a also b) ≡ choose a b false
@@ -91,11 +91,6 @@ module _ {image plan : List ℕ} (p : Planned image plan) where
   unfolding claimedBy
   frame-placed q low j h = place-in p q j low h
 
-  frame-there : (q : ℕ) → q < rowsOf (g .procedures)
-      → firstVariable (g .variables) (g .procedures) q + claimedBy (rowAt (g .procedures) q) ≤ rowsOf (g .variables)
-  unfolding claimedBy
-  frame-there q low = claimed-there p q low
-
   -- the frame that is found by the blocks
   pub newest-found : {room at top : ℕ} {store : List ℤ} {blocks qs : List ℕ} {s : Spot} → room ≡ globalRoom g
       → room < at → at ≤ 65536
@@ -111,7 +106,7 @@ module _ {image plan : List ℕ} (p : Planned image plan) where
       (start : first ≡ firstVariable (g .variables) (g .procedures) (s .procedure))
       (count : n ≡ claimedBy (rowAt (g .procedures) (s .procedure))) where
     pub own-there : first + n ≤ rowsOf (g .variables)
-    own-there = rw (start, count) (frame-there _ (walked-procedure g (newest .walked)))
+    own-there = rw (start, count) (claimed-there g ok _ (walked-procedure g (newest .walked)))
 
     pub in-newest : (w : ℕ) {x : Bool}
         → ((lead : ℕ) → Placed g first n lead → x ≡ inPlaces g w first n lead (at - s .base)) → x ≡ objectAt g w qs at

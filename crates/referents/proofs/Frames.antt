@@ -48,13 +48,20 @@ module _ (g : Program) where
   -- ---- where frames end
 
   -- all frames were there later than the globals
-  pub oldest-none : (qs : List ℕ) → Oldest [] qs
+  oldest-none : (qs : List ℕ) → Oldest [] qs
   oldest-none [] = all
   oldest-none (q ∷ qs) = newer (oldest-none qs)
 
-  pub room-oldest : {older qs : List ℕ} → Oldest older qs → roomOf g older ≤ roomOf g qs
+  room-oldest : {older qs : List ℕ} → Oldest older qs → roomOf g older ≤ roomOf g qs
   room-oldest all = omega arith
   room-oldest (newer {q = q} {qs = qs} o) = omega (arith, room-oldest o, room-more g q qs)
+
+  -- a procedure's variables exist
+  pub claimed-there : AcceptedTables (g .types) (g .fields) (g .variables) (g .procedures) (g .nodes) (g .statements)
+      → (q : ℕ) → q < rowsOf (g .procedures)
+      → firstVariable (g .variables) (g .procedures) q + claimedBy (rowAt (g .procedures) q) ≤ rowsOf (g .variables)
+  unfolding claimedBy
+  claimed-there ok q h = ok .procedures .row q h .room
 
   module _ (ok : AcceptedTables (g .types) (g .fields) (g .variables) (g .procedures) (g .nodes) (g .statements))
       (w : ℕ) where
@@ -63,11 +70,6 @@ module _ (g : Program) where
         → Ends (beginsAt (g .types) (g .fields) w) (sizeOf (g .types) (g .fields)) (g .variables) k n
     ends-there k n there j o low high h =
         begins-past (g .types) (g .fields) (ok .types) w _ o (ok .variable j (omega arith) .typed) h
-
-    claimed-there : (q : ℕ) → q < rowsOf (g .procedures)
-        → firstVariable (g .variables) (g .procedures) q + claimedBy (rowAt (g .procedures) q) ≤ rowsOf (g .variables)
-    unfolding claimedBy
-    claimed-there q h = ok .procedures .row q h .room
 
     -- behind the newest frame's end none begins
     pub object-past : {qs : List ℕ} → Existing qs → (at : ℕ) → roomOf g qs < at → objectAt g w qs at ≡ false
@@ -80,7 +82,7 @@ module _ (g : Program) where
         let n = claimedBy (rowAt (g .procedures) q) in
         choose-yes _ _ _ (lt-ltb (roomOf g qs) at (omega arith))
         ∙ choose-yes _ _ _ (le-leb (roomOf g qs + 3) at (omega arith))
-        ∙ search-past _ _ _ n first (at - (roomOf g qs + 3)) (ends-there first n (claimed-there q low)) (omega arith)
+        ∙ search-past _ _ _ n first (at - (roomOf g qs + 3)) (ends-there first n (claimed-there ok q low)) (omega arith)
 
     -- at an address where none of the newer frames begins below, only the older ones can have it
     pub object-oldest : {older qs : List ℕ} → Oldest older qs → (at : ℕ) → at ≤ roomOf g older
@@ -92,7 +94,7 @@ module _ (g : Program) where
     -- ---- in the frame that an address lies in
 
     -- o cells into the variables of procedure q's frame
-    abbrev pub in-frame : ℕ → ℕ → Bool
+    abbrev in-frame : ℕ → ℕ → Bool
     in-frame q o = objectIn g w (firstVariable (g .variables) (g .procedures) q) (claimedBy (rowAt (g .procedures) q)) o
 
     -- at or below the globals' end
