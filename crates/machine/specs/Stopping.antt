@@ -2,11 +2,14 @@
 use Prim.Native.Nat.{ℕ}
 use mathlib.Core.Path.{_≡_}
 use mathlib.Core.List.{List}
+use lib.Dec.{leb}
 use lib.IntN.{ℤ, pos}
+use Rattle.prelude.specs.Choice.{choose}
 use Rattle.values.specs.Values.{trapNumber}
 use Rattle.semantics.specs.declared.Registers.{Registers}
 use Rattle.semantics.specs.declared.RunResult.{RunResult}
-use Rattle.semantics.specs.Running.{Ended, numbersOf}
+use Rattle.semantics.specs.Layout.{Program}
+use Rattle.semantics.specs.Running.{firstTop, Ended, numbersOf}
 use Rattle.calling.specs.declared.Step.{Step}
 use Rattle.calling.specs.declared.Step.the-variants as Steps
 
@@ -28,6 +31,10 @@ stopBy (Steps.Goes q) s k = endedWith 3 0 (pos 0) k s
 stopBy Steps.Finished s k = endedWith 1 0 (pos 0) k s
 stopBy (Steps.Trapped t z) s k = endedWith 2 (trapNumber t) z k s
 stopBy Steps.Stuck s k = endedWith 3 0 (pos 0) k s
+
+-- "12. Has the store at most 65,536 cells? 13. Has it at least G + F0?" The number of the first that is answered no, or 0
+unfoldable pub storeQuestion : Program → ℕ → ℕ
+storeQuestion g cells = choose (leb cells 65536) (choose (leb (firstTop g) cells) 0 13) 12
 
 -- the code's answer, and the cells and outputs that it leaves
 pub record Stops (e : Ended ℤ) (r : RunResult) (cells output : List ℤ) : Type 0 where

@@ -1,4 +1,4 @@
-// The run: the check, the fresh state, and steps until the last.
+// The run and the continuation: the check, the fresh state or an earlier one, and steps until the last.
 use access::Plan;
 use calling::Step;
 use checker::CheckAnswer;
@@ -14,7 +14,8 @@ ghost use Rattle.semantics.specs.Running.{programOf, globalRoom, firstTop, runF
 ghost use Rattle.semantics.specs.Running.{outputAfter};
 ghost use Rattle.access.specs.Ready.{Ready};
 ghost use Rattle.calling.specs.Showing.{stateOf, Stands};
-ghost use Rattle.machine.specs.Stopping.{endedWith, stopBy, Stops};
+ghost use Rattle.asking.specs.Continuing.{continueResult, continuedStore, continuedOutput};
+ghost use Rattle.machine.specs.Stopping.{endedWith, stopBy, Stops, storeQuestion};
 
 // The numbers of a run that was not refused.
 fn ended(outcome: u32, trap: u32, halt: i32, steps: u32, at: Registers) -> RunResult
@@ -114,6 +115,21 @@ fn first_top(image: &&[u8], plan: &Plan) -> u32
     globals + frame
 }
 
+// 12 or 13, where a store of so many cells is too large or too small, else 0.
+fn store_question(image: &&[u8], plan: &Plan, cells: usize) -> u32
+    requires { ⌜ Ready (now (now image)) (now plan) ⌝ }
+    ensures { λ x. ⌜ x ≡ storeQuestion (programOf (now (now (image .entry)))) cells ⌝ }
+{
+    if 65536 < cells {
+        return 12;
+    }
+    let top = first_top(image, plan);
+    if cells < top as usize {
+        return 13;
+    }
+    0
+}
+
 // Checks an image and runs it from the fresh state, with at most `steps` steps.
 pub fn run(
     image: &[u8],
@@ -134,14 +150,12 @@ pub fn run(
     let CheckAnswer::Accepted = answer else {
         return refused_by(answer);
     };
-    if 65536 < store.len() {
-        return refused(12, 0);
+    let question = store_question(&image, &plan, store.len());
+    if question != 0 {
+        return refused(question, 0);
     }
     let base = access::global_room(&image, &plan);
     let top = first_top(&image, &plan);
-    if store.len() < top as usize {
-        return refused(13, 0);
-    }
     cells::zero(store, 0, top);
     let first = Registers {
         row: 0,
@@ -151,4 +165,46 @@ pub fn run(
         written: 0,
     };
     advance(&image, &plan, input, store, output, first, 0, steps)
+}
+
+// ---- the continuation
+
+// Checks an image and goes on from an earlier result and the store that it left, with at most `steps` steps more.
+pub fn resume(
+    image: &[u8],
+    input: &[i32],
+    store: &mut [i64],
+    output: &mut [i32],
+    steps: u32,
+    from: RunResult,
+) -> RunResult
+    ensures { λ x. ⌜ x ≡ continueResult (now (image .entry)) (now (input .entry)) (now (store .entry))
+        (now (output .entry)) from steps ⌝ }
+    ensures store { λ x. ⌜ now (store .exit) ≡ continuedStore (now (image .entry)) (now (input .entry))
+        (now (store .entry)) (now (output .entry)) from steps ⌝ }
+    ensures output { λ x. ⌜ now (output .exit) ≡ continuedOutput (now (image .entry)) (now (input .entry))
+        (now (store .entry)) (now (output .entry)) from steps ⌝ }
+{
+    let mut plan = [0u32; RUN_PLAN];
+    let answer = access::open_image(image, &mut plan);
+    let CheckAnswer::Accepted = answer else {
+        return refused_by(answer);
+    };
+    let question = store_question(&image, &plan, store.len());
+    if question != 0 {
+        return refused(question, 0);
+    }
+    if !resuming::continuable(&image, &plan, input, store, output, from, steps) {
+        return refused(14, 0);
+    }
+    advance(
+        &image,
+        &plan,
+        input,
+        store,
+        output,
+        from.at,
+        from.steps,
+        steps,
+    )
 }

@@ -59,7 +59,7 @@ module _ (image : List ℕ) (test : List ℕ → ℕ → List ℤ → Bool) (all
         → {x : Spot} → x ≡ callerOf top store b → (x .base < b) × Over (x .procedure) (x .base)
     over-on few low other passes is =
         let next = asked ∙ also-pass _ passes in
-        let (less, going) = going-on g (h .going) few top (h .within) low (other-called g other) (λ told. next) is in
+        let (less, going) = going-on g _ (h .going) few top (h .within) low (other-called g other) (λ told. next) is in
         (less, record { end = b; within = omega (arith, walked-links g (h .going .walked), h .within); going = going })
 
     -- procedure 0's is the oldest
@@ -77,5 +77,5 @@ pub over-start : (image : List ℕ) (test : List ℕ → ℕ → List ℤ → Bo
 over-start image test store q base top walked = record {
   end = top;
   within = omega arith;
-  going = going-start (programOf image) base q base top (also-yes (walked .ends) (walked .links)) refl;
+  going = going-start (programOf image) _ base q base top (also-yes (walked .ends) (walked .links)) refl;
 }

@@ -83,7 +83,7 @@ pub globals-room : (g : Program) (store : List ℤ) (q base top : ℕ)
 unfolding roomOf globalCells
 globals-room g store q base top walked =
     let at : Going g store (λ qs. Unit {0}) q base top =
-    going-start g base q base top (also-yes (walked .ends) (walked .links)) tt in
+    going-start g _ base q base top (also-yes (walked .ends) (walked .links)) tt in
     omega (arith, room-least g (at .older), walked-base g (at .walked), walked-links g (at .walked))
 
 -- ---- a sound state
