@@ -105,7 +105,7 @@ module _ (image : List ℕ) (store : List ℤ) (q base top : ℕ) where
         pub stands-next : {plan : List ℕ} → Planned image plan → x ≡ true → (p ≡ 0 → ⊥) → {s : Spot}
             → s ≡ callerOf top store b → (s .base < b) × Stands (s .procedure) (s .base)
         stands-next planned e other is =
-            let (less, going) = going-on g (h .going) (procedures-few planned) top (h .within) base-low
+            let (less, going) = going-on g Left (h .going) (procedures-few planned) top (h .within) base-low
             (other-called g other)
             (λ told. record { oldest = oldest-tail (told .oldest); same = here ∙ also-pass _ e }) is in
             let within = walked-links g (h .going .walked) in
