@@ -27,9 +27,11 @@ use Rattle.semantics.specs.Running.{numbersOf, refusedWith, resultOf, storeAfte
 use Rattle.semantics.proofs.Simulation.{eraseEnded}
 use Rattle.semantics.proofs.Agreeing.{blank-zeros}
 use Rattle.semantics.proofs.Objects.{kinds-room}
-use Rattle.semantics.proofs.Outcomes.{ran-bare}
+use Rattle.semantics.proofs.Outcomes.{refusal-none, ran-bare}
 use Rattle.calling.specs.Showing.{stateOf, Stands}
-use Rattle.machine.specs.Stopping.{Stops}
+use Rattle.semantics.specs.declared.Registers.{Registers}
+use Rattle.asking.proofs.Giving.{Continues, Ranged, continues-refused}
+use Rattle.machine.specs.Stopping.{Stops, storeQuestion}
 
 -- ---- the fresh state
 
@@ -90,10 +92,29 @@ pub record Gives (image : List ℕ) (input store output : List ℤ) (steps : ℕ
   pub left : cells ≡ storeAfter image input store output steps
   pub sent : places ≡ outputAfter image input store output steps
 
+-- ---- what is asked first
+
 -- a refusal's question has a number
 question-some : (image : List ℕ) (q row : ℕ) → checkOf image ≡ Refused q row → 1 ≤ q
 unfolding checkOf
 question-some image q row e = refused-first (questionOf image) 11 1 q row e .least
+
+-- a refusal of the check is the run's
+pub check-refuses : (image : List ℕ) (store : List ℤ) (q row : ℕ) → checkOf image ≡ Refused q row
+    → (refusal image store ≡ q) × (q ≡ 0 → ⊥) × (rowOf (checkOf image) ≡ row)
+unfolding refusal refusalOf rowOf
+check-refuses image store q row this =
+    let some : q ≡ 0 → ⊥ = λ z. absurd (omega (arith, question-some image q row this)) in
+    let number : refusalOf (checkOf image) ≡ q = rw this in
+    (choose-no _ _ _ (ne-eqb _ 0 (λ z. some (sym number ∙ z))) ∙ number, some, rw this)
+
+-- behind the check, 12 and 13 are asked
+pub store-refuses : (image : List ℕ) (store : List ℤ) → checkOf image ≡ Accepted
+    → refusal image store ≡ storeQuestion (programOf image) (length store)
+unfolding refusal refusalOf storeQuestion
+store-refuses image store accepted =
+    let none : refusalOf (checkOf image) ≡ 0 = rw accepted in
+    choose-yes _ _ _ (eq-eqb _ 0 none)
 
 module _ (image : List ℕ) (input store output : List ℤ) (steps : ℕ) where
   -- a refusal
@@ -111,54 +132,60 @@ module _ (image : List ℕ) (input store output : List ℤ) (steps : ℕ) where
   -- by the check
   pub gives-refused : (x : CheckAnswer) (q row : ℕ) → x ≡ Refused q row → x ≡ checkOf image
       → Gives image input store output steps (refusedWith (refusalOf x) (rowOf x)) store output
-  unfolding refusal refusalOf rowOf
+  unfolding refusalOf rowOf
   gives-refused x q row is e =
-      let this : checkOf image ≡ Refused q row = sym e ∙ is in
-      let some : q ≡ 0 → ⊥ = λ z. absurd (omega (arith, question-some image q row this)) in
-      let number : refusalOf (checkOf image) ≡ q = rw this in
-      rw is (gives-no q row (choose-no _ _ _ (ne-eqb _ 0 (λ z. some (sym number ∙ z))) ∙ number) some (rw this))
+      let (number, some, at) = check-refuses image store q row (sym e ∙ is) in
+      rw is (gives-no q row number some at)
 
   module _ (accepted : checkOf image ≡ Accepted) where
-    none : refusalOf (checkOf image) ≡ 0
-    unfolding refusalOf
-    none = rw accepted
+    -- by question 12 or 13
+    pub gives-store : (q : ℕ) → q ≡ storeQuestion (programOf image) (length store) → (q ≡ 0 → ⊥)
+        → Gives image input store output steps (refusedWith q 0) store output
+    unfolding rowOf
+    gives-store q is some = gives-no q 0 (store-refuses image store accepted ∙ sym is) some (rw accepted)
 
-    -- by question 12
-    pub gives-12 : 65536 < length store → Gives image input store output steps (refusedWith 12 0) store output
-    unfolding refusal rowOf
-    gives-12 many = gives-no 12 0
-        (choose-yes _ _ _ (eq-eqb _ 0 none) ∙ choose-no _ _ _ (lt-leb _ 65536 many)) (λ z. absurd (omega arith))
+    -- a run: the tagged machine's, since the code's is the bare one's
+    pub gives-run : Bytes image → storeQuestion (programOf image) (length store) ≡ 0 → {base top : ℕ} {zeroed : List ℤ}
+        → base ≡ globalRoom (programOf image) → top ≡ firstTop (programOf image)
+        → zeroed ≡ overwrite store 0 (replicate top (pos 0)) → {result : RunResult} {cells places : List ℤ}
+        → Stops (runFrom bare (programOf image) input steps 0
+        (stateOf (record { row = 0; base = base; top = top; read = 0; written = 0 }) zeroed output)) result cells places
+        → Gives image input store output steps result cells places
+    unfolding resultOf storeAfter outputAfter numbersOf
+    gives-run bytes passes base-is top-is zeroed-is stops =
+        let none = store-refuses image store accepted ∙ passes in
+        let (here, few, room) = refusal-none image store none in
+        let yes : eqb (refusal image store) 0 ≡ true = eq-eqb _ 0 none in
+        let ran = rw (
+          fresh-is (programOf image) store output base-is top-is zeroed-is,
+          ran-bare image bytes accepted input store output few room steps,
+        ) at stops in
+        record {
+          result = ran .answer ∙ sym (choose-yes _ _ _ yes);
+          left = sym (ran .cells-left) ∙ sym (choose-yes _ _ _ yes);
+          sent = sym (ran .output-left) ∙ sym (choose-yes _ _ _ yes);
+        }
+
+-- ---- a continuation
+
+-- a sound state stands where steps can be taken
+pub ranged-stands : {s : Registers} {store : List ℤ} → Ranged s store → Stands s store
+ranged-stands h = record { row = h .row; base = h .base; top = h .top; few = h .few }
+
+module _ (image : List ℕ) (input store output : List ℤ) (from : RunResult) (steps : ℕ) where
+  -- a refusal by the check
+  pub continues-check : (x : CheckAnswer) (q row : ℕ) → x ≡ Refused q row → x ≡ checkOf image
+      → Continues image input store output from steps (refusedWith (refusalOf x) (rowOf x)) store output
+  unfolding refusalOf rowOf
+  continues-check x q row is e =
+      let (number, some, at) = check-refuses image store q row (sym e ∙ is) in
+      rw is (continues-refused image input store output from steps q row number some at)
+
+  module _ (accepted : checkOf image ≡ Accepted) where
+    -- by question 12 or 13
+    pub continues-store : (q : ℕ) → q ≡ storeQuestion (programOf image) (length store) → (q ≡ 0 → ⊥)
+        → Continues image input store output from steps (refusedWith q 0) store output
+    unfolding rowOf
+    continues-store q is some =
+        continues-refused image input store output from steps q 0 (store-refuses image store accepted ∙ sym is) some
         (rw accepted)
-
-    module _ (few : length store ≤ 65536) where
-      -- by question 13
-      pub gives-13 : length store < firstTop (programOf image)
-          → Gives image input store output steps (refusedWith 13 0) store output
-      unfolding refusal rowOf
-      gives-13 short = gives-no 13 0
-          (choose-yes _ _ _ (eq-eqb _ 0 none) ∙ choose-yes _ _ _ (le-leb _ 65536 few)
-          ∙ choose-no _ _ _ (lt-leb _ _ short)) (λ z. absurd (omega arith)) (rw accepted)
-
-      -- a run: the tagged machine's, since the code's is the bare one's
-      pub gives-run : ((i : ℕ) → getD image i 0 < 256) → {base top : ℕ} {zeroed : List ℤ}
-          → base ≡ globalRoom (programOf image) → top ≡ firstTop (programOf image) → top ≤ length store
-          → zeroed ≡ overwrite store 0 (replicate top (pos 0)) → {result : RunResult} {cells places : List ℤ}
-          → Stops (runFrom bare (programOf image) input steps 0
-          (stateOf (record { row = 0; base = base; top = top; read = 0; written = 0 }) zeroed output)) result cells places
-          → Gives image input store output steps result cells places
-      unfolding refusal resultOf storeAfter outputAfter numbersOf
-      gives-run each base-is top-is within zeroed-is stops =
-          let bytes : Bytes image = record { each = each } in
-          let room : firstTop (programOf image) ≤ length store = omega arith in
-          let yes : eqb (refusal image store) 0 ≡ true =
-          eq-eqb _ 0 (choose-yes _ _ _ (eq-eqb _ 0 none) ∙ choose-yes _ _ _ (le-leb _ 65536 few)
-          ∙ choose-yes _ _ _ (le-leb _ _ room)) in
-          let ran = rw (
-            fresh-is (programOf image) store output base-is top-is zeroed-is,
-            ran-bare image bytes accepted input store output few room steps,
-          ) at stops in
-          record {
-            result = ran .answer ∙ sym (choose-yes _ _ _ yes);
-            left = sym (ran .cells-left) ∙ sym (choose-yes _ _ _ yes);
-            sent = sym (ran .output-left) ∙ sym (choose-yes _ _ _ yes);
-          }
