@@ -1,9 +1,10 @@
-// What C calls: the check and the run, in one library.
+// What C calls: the check, the run and its continuation, in one library.
 use checker::CheckAnswer;
 use semantics::RunResult;
 ghost use mathlib.Core.Path.{_≡_};
 ghost use Rattle.checker.specs.Check.{checkOf, numberOf};
 ghost use Rattle.semantics.specs.Running.{resultOf, storeAfter, outputAfter};
+ghost use Rattle.asking.specs.Continuing.{continueResult, continuedStore, continuedOutput};
 
 // Refusal times 65,536 plus row; 0 is acceptance.
 #[no_mangle]
@@ -33,4 +34,24 @@ pub extern "C" fn door_run(
         (now (store .entry)) (now (output .entry)) steps ⌝ }
 {
     machine::run(image, input, store, output, steps)
+}
+
+// Those of a continuation, from an earlier result that is given by value.
+#[no_mangle]
+pub extern "C" fn door_continue(
+    image: &[u8],
+    input: &[i32],
+    store: &mut [i64],
+    output: &mut [i32],
+    steps: u32,
+    from: RunResult,
+) -> RunResult
+    ensures { λ x. ⌜ x ≡ continueResult (now (image .entry)) (now (input .entry)) (now (store .entry))
+        (now (output .entry)) from steps ⌝ }
+    ensures store { λ x. ⌜ now (store .exit) ≡ continuedStore (now (image .entry)) (now (input .entry))
+        (now (store .entry)) (now (output .entry)) from steps ⌝ }
+    ensures output { λ x. ⌜ now (output .exit) ≡ continuedOutput (now (image .entry)) (now (input .entry))
+        (now (store .entry)) (now (output .entry)) from steps ⌝ }
+{
+    machine::resume(image, input, store, output, steps, from)
 }
