@@ -39,6 +39,12 @@ static bool untouched(size_t from, size_t cells) {
     return true;
 }
 
+/* Goes on, with what the last run was lent and left. */
+static struct door_result go_on(struct lending l, struct door_result from) {
+    return door_continue(beside(image_area, side, l.length), l.length, beside(input_area, side, 4 * l.inputs), l.inputs,
+                         store_of(l.cells), l.cells, beside(output_area, side, 4 * l.places), l.places, l.steps, from);
+}
+
 /* A run on memory at the guard pages; image and input cannot be written. The check is asked too. */
 static struct door_result run(struct lending l) {
     uint8_t *image = beside(image_area, side, l.length);
@@ -75,6 +81,12 @@ static struct door_result trapped(uint32_t trap, uint32_t row, uint32_t steps) {
 }
 static struct door_result finished(uint32_t row, uint32_t steps) {
     return (struct door_result){.outcome = 1, .row = row, .steps = steps};
+}
+/* The same with procedure 0's frame, which has so many cells and comes after so many of the globals. */
+static struct door_result in_frame(uint32_t globals, uint32_t cells, struct door_result r) {
+    r.base = globals;
+    r.top = globals + cells;
+    return r;
 }
 
 /* ---- images */
@@ -154,7 +166,7 @@ static void image_lengths(void) {
                       refusal(2));
     expect_result("the smallest image",
                   run((struct lending){.image = smallest, .length = sizeof smallest, .cells = 3, .steps = 9}),
-                  finished(0, 1));
+                  in_frame(0, 3, finished(0, 1)));
 }
 
 /* A store of so many cells: refused, and untouched, or the globals and the frame zeroed and the rest untouched. */
@@ -164,7 +176,7 @@ static void store_length(unsigned globals, size_t cells, uint32_t expected) {
     bool zeroed = true;
     returning(globals);
     result = run(made(cells, 4, 9));
-    expect_result("a store", result, expected ? refusal(expected) : finished(0, 1));
+    expect_result("a store", result, expected ? refusal(expected) : in_frame(globals, 5, finished(0, 1)));
     expect(untouched(expected ? 0 : needed, cells), "cells that are not the program's");
     for (size_t i = 0; !expected && i < needed; i++)
         zeroed = zeroed && store_of(cells)[i] == 0;
@@ -198,20 +210,20 @@ static void nothing_lent(void) {
     struct lending l;
     one(READ, variable);
     l = made(4, 0, 9);
-    expect_result("a read without input", run(l), trapped(8, 0, 1));
+    expect_result("a read without input", run(l), in_frame(1, 3, trapped(8, 0, 1)));
     l.input = seven;
     l.inputs = 1;
     expect_result("a read of the only input", run(l),
-                  (struct door_result){.outcome = 1, .row = 1, .steps = 2, .read = 1});
+                  (struct door_result){.outcome = 1, .row = 1, .steps = 2, .base = 1, .top = 4, .read = 1});
     expect(store_of(4)[0] == 7, "what was read");
     one(WRITE, variable);
-    expect_result("a write without places", run(made(4, 0, 9)), trapped(9, 0, 1));
+    expect_result("a write without places", run(made(4, 0, 9)), in_frame(1, 3, trapped(9, 0, 1)));
     expect_result("a write to the only place", run(made(4, 1, 9)),
-                  (struct door_result){.outcome = 1, .row = 1, .steps = 2, .written = 1});
-    expect_result("no steps", run(made(4, 1, 0)), used_up(0, 0));
+                  (struct door_result){.outcome = 1, .row = 1, .steps = 2, .base = 1, .top = 4, .written = 1});
+    expect_result("no steps", run(made(4, 1, 0)), in_frame(1, 3, used_up(0, 0)));
     one(HALT, nine);
     expect_result("HALT with all steps", run(made(4, 0, ALL_STEPS)),
-                  (struct door_result){.outcome = 2, .trap = 10, .halt = 9, .steps = 1});
+                  (struct door_result){.outcome = 2, .trap = 10, .halt = 9, .steps = 1, .base = 1, .top = 4});
 }
 
 static double seconds(void) {
@@ -225,13 +237,13 @@ static void loops(uint32_t steps, bool print) {
     const double began = seconds();
     double between, end;
     endless();
-    expect_result("GOTO itself", run(made(3, 0, steps)), used_up(steps, 0));
+    expect_result("GOTO itself", run(made(3, 0, steps)), in_frame(0, 3, used_up(steps, 0)));
     between = seconds();
     counting();
     if (steps == ALL_STEPS) /* the last step is addition 2,147,483,648, the first that overflows */
-        expect_result("counting", run(made(4, 0, steps)), trapped(4, 0, steps));
+        expect_result("counting", run(made(4, 0, steps)), in_frame(1, 3, trapped(4, 0, steps)));
     else
-        expect_result("counting", run(made(4, 0, steps)), used_up(steps, steps % 2));
+        expect_result("counting", run(made(4, 0, steps)), in_frame(1, 3, used_up(steps, steps % 2)));
     expect(store_of(4)[0] == (int64_t)(steps == ALL_STEPS ? INT32_MAX : steps / 2 + steps % 2), "what was counted");
     end = seconds();
     if (print)
@@ -242,9 +254,79 @@ static void loops(uint32_t steps, bool print) {
 static void finishing_early(void) {
     expect_result("RETURN with all steps",
                   run((struct lending){.image = smallest, .length = sizeof smallest, .cells = 3, .steps = ALL_STEPS}),
-                  finished(0, 1));
+                  in_frame(0, 3, finished(0, 1)));
     returning(5);
-    expect_result("RETURN with all steps and cells", run(made(65536, 0, ALL_STEPS)), finished(0, 1));
+    expect_result("RETURN with all steps and cells", run(made(65536, 0, ALL_STEPS)), in_frame(5, 5, finished(0, 1)));
+}
+
+/* Steps done and lent are at most 4,294,967,295 together, whatever was done. */
+static void steps_together(void) {
+    struct door_result from;
+    counting();
+    from = run(made(4, 0, 10));
+    from.steps = ALL_STEPS - 5;
+    expect_result("one step more than there are", go_on(made(4, 0, 6), from), refusal(14));
+    expect_result("all steps more", go_on(made(4, 0, ALL_STEPS), from), refusal(14));
+    expect(store_of(4)[0] == 5, "a refusal leaves the store");
+    expect_result("the last five steps", go_on(made(4, 0, 5), from), in_frame(1, 3, used_up(ALL_STEPS, 1)));
+    expect(store_of(4)[0] == 8, "what was counted");
+    from = in_frame(1, 3, used_up(ALL_STEPS, 1));
+    expect_result("no step after the last", go_on(made(4, 0, 0), from), from);
+    expect_result("a step after the last", go_on(made(4, 0, 1), from), refusal(14));
+}
+
+/* A count may be its list's length, and no more; lists and store may have other lengths than before. */
+static void lists_together(void) {
+    static const int32_t numbers[2] = {7, 8};
+    struct lending l;
+    struct door_result from, next;
+    const unsigned x = with_x();
+    add(&b, STATEMENTS, READ, variable(x), 0, 0);
+    add(&b, STATEMENTS, WRITE, variable(x), 0, 0);
+    add(&b, STATEMENTS, GO, 0, 0, 0);
+    l = made(4, 2, 3);
+    l.input = numbers;
+    l.inputs = 2;
+    from = run(l);
+    next = go_on(l, from);
+    expect_result("the second round", next,
+                  (struct door_result){.steps = 6, .base = 1, .top = 4, .read = 2, .written = 2});
+    l.steps = 9;
+    expect_result("counts at their lists' ends, and a read there", go_on(l, next),
+                  (struct door_result){
+                      .outcome = 2, .trap = 8, .steps = 7, .base = 1, .top = 4, .read = 2, .written = 2});
+    from.read = 3;
+    expect_result("a count beyond the input", go_on(l, from), refusal(14));
+    from.read = (uint64_t)1 << 32;
+    expect_result("a count of 33 bits", go_on(l, from), refusal(14));
+    from.read = 1;
+    from.written = 3;
+    expect_result("a count beyond the output", go_on(l, from), refusal(14));
+    from.written = UINT64_MAX;
+    expect_result("the largest count", go_on(l, from), refusal(14));
+}
+
+/* Question 14 reads no cell from `top` on, and no cell beyond the store where base and top lie there. */
+static void states_beyond(void) {
+    static const uint32_t far[] = {3, 5, 4095, 65535, 65536, 65537, INT32_MAX, 1u << 31, UINT32_MAX - 3, UINT32_MAX};
+    const struct door_result good = {.base = 1, .top = 4};
+    struct door_result from;
+    counting();
+    (void)run(made(4, 0, 0));
+    for (size_t i = 0; i < sizeof far / sizeof far[0]; i++) {
+        from = good;
+        from.base = far[i];
+        expect_result("another base", go_on(made(4, 0, 0), from), refusal(14));
+        from.top = far[i] + 3;
+        expect_result("base and top moved", go_on(made(4, 0, 0), from), refusal(14));
+        from = good;
+        from.top = far[i];
+        expect_result("another top", go_on(made(4, 0, 0), from), refusal(14));
+        from = good;
+        from.row = far[i];
+        expect_result("another row", go_on(made(4, 0, 0), from), refusal(14));
+    }
+    expect_result("the state as it was", go_on(made(4, 0, 0), good), good);
 }
 
 int main(int count, char **words) {
@@ -263,6 +345,9 @@ int main(int count, char **words) {
         store_lengths();
         nothing_lent();
         finishing_early();
+        steps_together();
+        lists_together();
+        states_beyond();
         for (size_t i = 0; i < sizeof few / sizeof few[0]; i++)
             loops(few[i], false);
     }
