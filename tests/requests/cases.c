@@ -43,11 +43,12 @@ static void broken(const char *what) {
 
 /* ---- what a line has */
 
+/* A count may have all 64 bits; it is then negative here. */
 static long long number_of(const char **at) {
     char *end;
     long long number;
     errno = 0;
-    number = strtoll(*at, &end, 10);
+    number = **at == '-' ? strtoll(*at, &end, 10) : (long long)strtoull(*at, &end, 10);
     if (end == *at || errno != 0)
         broken("not a number");
     *at = end;
