@@ -83,16 +83,16 @@ struct door_result __wrap_door_continue(const uint8_t *image, size_t image_lengt
                                   steps, from);
     switch (FAULT) {
     case 12: /* 12: same_result(next, whole->result) */
-        if (result.refusal == 0)
+        if (result.refusal == 0 && given.steps + steps == 1000) /* what the first files lend in all */
             result.steps -= given.steps;
         break;
     case 13: /* 13: is_memory(BEFORE_GUARD, given, from) */
-        if (result.refusal == 14 && store_length > 0)
+        if (result.refusal == 14 && given.outcome == 0 && store_length > 0)
             store[0] = 0;
         break;
     case 14: /* 14: is_memory(BEHIND_GUARD, given, whole) */
-        if (result.refusal == 0 && given.written > 0 && steps > 0)
-            output[0] = 0;
+        if (result.refusal == 0 && given.written > 0 && given.steps + steps == 1000)
+            output[0] ^= 1;
         break;
     case 15: /* 15: SEGV on unknown address */
         if (result.refusal == 0 && given.read > 0)
@@ -103,7 +103,7 @@ struct door_result __wrap_door_continue(const uint8_t *image, size_t image_lengt
             result = (struct door_result){.refusal = 14};
         break;
     case 17: /* 17: passes(given, left) */
-        if (result.refusal == 0 && given.steps + steps > 1000) /* more than the first files lend in all */
+        if (result.refusal == 0 && given.steps + steps > 1000)
             result.row = 0;
         break;
     default:

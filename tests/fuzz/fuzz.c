@@ -247,6 +247,12 @@ static void damage(const uint8_t *bytes, const struct lent *given, struct left *
     }
 }
 
+/* As if it had not ended: what a finishing or trapping step leaves is a state too. */
+static void unend(struct door_result *result) {
+    result->outcome = result->trap = 0;
+    result->halt = 0;
+}
+
 /* What is lent to a continue, for another model. */
 static void note_case(const uint8_t *data, size_t head, const struct lent *given, const struct left *from) {
     const uint8_t *image = data + head;
@@ -296,6 +302,7 @@ static void promised_of_foreign(const uint8_t *data, size_t head, const struct l
                                 struct left *left) {
     struct door_result other;
     bool passed;
+    unend(&from->result);
     for (int i = 0; i < DAMAGES; i++)
         damage(data + DAMAGE + 4 * i, given, from);
     note_case(data, head, given, from);
@@ -317,9 +324,7 @@ static void promised_of_foreign(const uint8_t *data, size_t head, const struct l
         return;
     }
     promised_of_continue(data + head, given, from, left);
-    /* what it has left is a state too, also behind the end and behind a trap */
-    left->result.outcome = left->result.trap = 0;
-    left->result.halt = 0;
+    unend(&left->result);
     PROMISED(passes(given, left));
 }
 

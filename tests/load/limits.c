@@ -295,6 +295,9 @@ static void lists_together(void) {
     expect_result("counts at their lists' ends, and a read there", go_on(l, next),
                   (struct door_result){
                       .outcome = 2, .trap = 8, .steps = 7, .base = 1, .top = 4, .read = 2, .written = 2});
+    next.outcome = 2;
+    next.trap = 8;
+    expect_result("after a trap", go_on(l, next), refusal(14));
     from.read = 3;
     expect_result("a count beyond the input", go_on(l, from), refusal(14));
     from.read = (uint64_t)1 << 32;
