@@ -162,6 +162,18 @@ static void empty_locals(struct state *s, size_t cells) {
     run_full(s, cells);
 }
 
+/* The same, and one that has a cell, behind the others */
+static void one_cell(struct state *s, size_t cells) {
+    unsigned e;
+    begin(&b);
+    e = empty();
+    calling_itself(0, VALUE, 0, 0, e, 255);
+    add(&b, VARIABLES, LOCAL, BOOLEAN, 0, 0);
+    b.rows[PROCEDURES][8 + 6] = 1; /* procedure 1 has 256 locals */
+    b.rows[PROCEDURES][8 + 7] = 0;
+    run_full(s, cells);
+}
+
 /* 18 VAR parameters a frame that name the last of 237 globals, all without cells, which begin at one place */
 static void empty_globals(struct state *s, size_t cells) {
     unsigned e, named;
@@ -330,6 +342,7 @@ static const struct {
     {"arrays", arrays},
     {"empty-fields", empty_fields},
     {"empty-locals", empty_locals},
+    {"one-cell", one_cell},
     {"empty-globals", empty_globals},
     {"empty-below", empty_below},
     {"deep-fields", deep_fields},
