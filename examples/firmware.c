@@ -1,6 +1,6 @@
 /* A door reader's main loop: it keeps an image in force, takes a new one only where the check accepts it and the store
- * suits it, and asks the program about each fob. A program gets its steps in slices; between two of them the reader looks
- * at the latch, and may lose its power. Build it from the top of the repository:
+ * suits it, and asks the program about each fob. A program gets its steps in slices; between two of them the reader
+ * looks at the latch, and may lose its power. Build it from the top of the repository:
  *
  *     gcc -std=c11 -O2 -Wall -Wextra -Wpedantic -Werror -I include -o target/firmware examples/firmware.c \
  *         target/staticlib/libdoor.a
@@ -149,8 +149,8 @@ static void show_refusal(uint32_t refusal, uint32_t row) {
 /* Where the next image is to be put, IMAGE_BYTES at most. */
 static uint8_t *receive_buffer(void) { return images[1U - in_force]; }
 
-/* Whether the store suits an image that the check accepts: 0, 12 or 13. A run of no steps asks it, and runs nothing; but
- * it clears cells of the store, so that no run may be waiting in it. */
+/* Whether the store suits an image that the check accepts: 0, 12 or 13. A run of no steps asks it, and runs nothing;
+ * but it clears cells of the store, so that no run may be waiting in it. */
 static uint32_t store_refusal(const uint8_t *image, size_t length) {
     return door_run(image, length, run.input, 0, run.store, lent_cells, run.output, READER_OUTPUTS, 0).refusal;
 }

@@ -15,7 +15,7 @@ static int64_t store[CELLS];
 static int32_t output[PLACES];
 static int differences;
 
-/* Runs an image in so many cells, and holds its numbers to those expected. */
+/* Runs an image in so many cells, and holds the numbers to those expected. */
 static void run(const char *what, const uint8_t *image, size_t length, const int32_t *input, size_t inputs,
                 size_t cells, uint32_t steps, struct door_result expected) {
     struct door_result got;
@@ -60,10 +60,10 @@ int main(int count, char **words) {
     run("two cells", smallest, 57, none, 0, 2, 100, (struct door_result){.refusal = 13});
     run("version 2", other, 57, none, 0, CELLS, 100, (struct door_result){.refusal = 1});
     run("a member", members, length, member, 2, CELLS, 200,
-        (struct door_result){.outcome = 1, .row = 12, .steps = 43, .base = 23, .top = 26, .read = 2, .written = 1});
+        (struct door_result){.outcome = 1, .steps = 43, .row = 12, .base = 23, .top = 26, .read = 2, .written = 1});
     run("a member, expired", members, length, expired, 2, CELLS, 200,
-        (struct door_result){.outcome = 1, .row = 12, .steps = 36, .base = 23, .top = 26, .read = 2, .written = 1});
+        (struct door_result){.outcome = 1, .steps = 36, .row = 12, .base = 23, .top = 26, .read = 2, .written = 1});
     run("no card", members, length, none, 0, CELLS, 200,
-        (struct door_result){.outcome = 2, .trap = 8, .row = 5, .steps = 26, .base = 23, .top = 26});
+        (struct door_result){.outcome = 2, .trap = 8, .steps = 26, .row = 5, .base = 23, .top = 26});
     return differences ? 1 : 0;
 }

@@ -15,7 +15,7 @@
 extern "C" {
 #endif
 
-/* The version of this interface, one more for each change of a signature or a struct; docs/CHANGES.md has them. */
+/* The interface that this header speaks of: 1 is the base's, and each change of a signature or a struct adds one. */
 #define DOOR_INTERFACE 2
 
 /* The longest image that is accepted, in bytes; the largest store that is taken, in cells. */
@@ -85,8 +85,9 @@ uint32_t door_check(const uint8_t *image, size_t length);
 static inline uint32_t door_refusal(uint32_t answer) { return answer / 65536u; }
 static inline uint32_t door_row(uint32_t answer) { return answer % 65536u; }
 
-/* What a run or a continue came to. `steps`, `read` and `written` count from the fresh state on, over a run and all that
- * continue it. */
+/* The nine numbers of a run, and where its newest frame begins and ends. Of a run that was continued, `steps`, `read`
+ * and `written` are those of all its parts together. Numbers, not bytes, are to be compared: four bytes between `top`
+ * and `read` hold nothing. */
 struct door_result {
     uint32_t refusal; /* DOOR_ACCEPTED, or why nothing was run: DOOR_REFUSED_.. */
     uint32_t fault;   /* the row of refusal */
@@ -95,8 +96,8 @@ struct door_result {
     int32_t halt;     /* HALT's number with DOOR_TRAP_HALT, else 0 */
     uint32_t steps;   /* steps taken; a step that finishes or traps counts */
     uint32_t row;     /* the statement row: of the last step where it finished or trapped, else of the next */
-    uint32_t base;    /* the newest frame's first cell */
-    uint32_t top;     /* the cell after its last */
+    uint32_t base;    /* the cell where the newest frame begins; 0 in a refusal */
+    uint32_t top;     /* the cell where it ends, the first that is not its own; 0 in a refusal */
     uint64_t read;    /* inputs read */
     uint64_t written; /* outputs written */
 };
@@ -117,8 +118,7 @@ struct door_result {
  * overlap each other; `store` and `output` may overlap nothing else of the four. Nobody else writes any of them, or
  * reads store or output, during the call. Nothing else is read or written but the stack.
  *
- * The result is returned by value, so that no fifth memory need be lent. It has bytes between its fields that mean
- * nothing: compare results field by field, not with memcmp.
+ * The result is returned by value, so that no fifth memory need be lent.
  *
  * Stack: DOOR_RUN_STACK bytes. */
 struct door_result door_run(const uint8_t *image, size_t image_length, const int32_t *input, size_t input_length,

@@ -231,7 +231,7 @@ static void empty_below(struct state *s, size_t cells) {
     }
 }
 
-/* 60 types, each with the one before it behind three fields without cells; 254 VAR parameters a frame name a cell in the
+/* 60 types, each with the one before it behind three fields without cells; 250 VAR parameters a frame name a cell of the
  * innermost */
 static void deep_fields(struct state *s, size_t cells) {
     unsigned e, r, g, first;

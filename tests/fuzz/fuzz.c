@@ -194,9 +194,11 @@ static void promised_in_two(const struct lent *given, const struct left *whole, 
 }
 
 static int64_t special_of(unsigned n, struct door_result r) {
-    const int64_t numbers[] = {0,         1,         2,         3,         -1,        INT64_MIN, INT64_MAX,  65535,
-                               65536,     65537,     INT32_MAX, INT32_MIN, UINT32_MAX, 1ll << 31, 1ll << 32,  1ll << 33,
-                               r.base,    r.base + 3, r.top,    r.top - 1, r.row,     r.row + 1, r.read + 1, r.written + 1};
+    const int64_t base = r.base, top = r.top, row = r.row, read = (int64_t)r.read, written = (int64_t)r.written;
+    const int64_t numbers[] = {0,         1,         2,          3,         -1,        INT64_MIN, INT64_MAX, 65535,
+                               65536,     65537,     INT32_MAX,  INT32_MIN, 1ll << 31, 1ll << 32, 1ll << 33, base,
+                               base + 3,  top,       top - 1,    row,       row + 1,   read + 1,  written + 1,
+                               UINT32_MAX};
     return numbers[n % COUNT(numbers)];
 }
 

@@ -42,7 +42,7 @@ fn compare_run(image: &[u8], lent: &Surroundings) -> Result<door::Numbers, Strin
 }
 
 fn same_numbers(model: &model::Numbers, proved: &door::Numbers) -> Result<(), String> {
-    if proved.in_order() == model.in_order() {
+    if (proved.in_order(), proved.base, proved.top) == (model.in_order(), model.base, model.top) {
         return Ok(());
     }
     Err(format!("proved {proved:?}, model {model:?}"))

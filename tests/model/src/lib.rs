@@ -110,7 +110,7 @@ pub fn run_program(
     };
     let watch = watched.then(|| sound::Watch::new(program));
     let last = take_steps(&mut machine, watch.as_ref(), steps)?;
-    let State { cells, row, read, written, steps, .. } = machine.state;
+    let State { cells, row, base, top, read, written, steps } = machine.state;
     for (place, cell) in store.iter_mut().zip(&cells) {
         *place = cell.number;
     }
@@ -119,8 +119,9 @@ pub fn run_program(
         Step::Trapped { trap, halt } => (2, trap, halt),
         _ => (0, 0, 0),
     };
-    let (row, steps, read, written) = (row as u32, steps as u32, read as u32, written as u32);
-    Ok(Numbers { refusal: 0, fault: 0, outcome, trap, halt, row, steps, read, written })
+    let (steps, row, base, top) = (steps as u32, row as u32, base as u32, top as u32);
+    let (read, written) = (read as u64, written as u64);
+    Ok(Numbers { refusal: 0, fault: 0, outcome, trap, halt, steps, row, base, top, read, written })
 }
 
 /// "a refusal leaves store and output untouched, other results 0."
