@@ -1,4 +1,4 @@
-/* Continues and their answers as cases, in the form of vectors/requests/ (vectors/README.md), for another model to be
+/* Continues and their answers as cases, in the form of vectors/requests/, for another model to be
  * held to. Nothing is written until a file is opened. */
 #ifndef CASES_H
 #define CASES_H

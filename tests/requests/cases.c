@@ -1,6 +1,6 @@
 /* Calls of door.h whose answers are stored: cases FILE...
  *
- * vectors/README.md has the form of a file. Each call is made twice, with all that is lent directly behind a page that
+ * vectors/requests/README.txt has the form of a file. Each call is made twice, with all that is lent directly behind a page that
  * cannot be touched and directly before one; image and input cannot be written meanwhile. Every number, cell and output
  * place is compared. */
 #define _GNU_SOURCE
