@@ -1,12 +1,12 @@
-//! What a run returns. The model and the benchmark take this file too, so that the nine numbers are written down once.
+//! What a run returns. The model and the benchmark take this file too, so that the numbers are written down once.
 
 use std::fmt;
 
-/// The nine numbers of a run, in document 01's order: `struct door_result` of `include/door.h`.
+/// What a run or a continuation gives back: `struct door_result` of `include/door.h`, in its order.
 #[repr(C)]
 #[derive(Clone, Copy, Debug, Default, PartialEq, Eq)]
 pub struct Numbers {
-    /// 0, or why nothing was run: 1 to 13.
+    /// 0, or why nothing was run: 1 to 14.
     pub refusal: u32,
     /// The row of refusal.
     pub fault: u32,
@@ -16,23 +16,26 @@ pub struct Numbers {
     pub trap: u32,
     /// HALT's number with trap 10, else 0.
     pub halt: i32,
+    /// Steps taken, in the runs that were continued too.
+    pub steps: u32,
     /// The statement row: of the last step where it finished or trapped, else of the next.
     pub row: u32,
-    /// Steps taken.
-    pub steps: u32,
+    /// The top frame's first cell.
+    pub base: u32,
+    /// The cell after the top frame's last.
+    pub top: u32,
     /// Inputs read.
-    pub read: u32,
+    pub read: u64,
     /// Outputs written.
-    pub written: u32,
+    pub written: u64,
 }
 
 impl Numbers {
-    /// All nine, in that order.
+    /// Document 01's nine, in its order.
     pub fn in_order(&self) -> [i64; 9] {
-        let Numbers { refusal, fault, outcome, trap, halt, row, steps, read, written } = *self;
-        let [refusal, fault, outcome, trap] = [refusal, fault, outcome, trap].map(i64::from);
-        let [row, steps, read, written] = [row, steps, read, written].map(i64::from);
-        [refusal, fault, outcome, trap, halt.into(), row, steps, read, written]
+        let Numbers { refusal, fault, outcome, trap, halt, steps, row, read, written, .. } = *self;
+        let [refusal, fault, outcome, trap, row, steps] = [refusal, fault, outcome, trap, row, steps].map(i64::from);
+        [refusal, fault, outcome, trap, halt.into(), row, steps, read as i64, written as i64]
     }
 }
 

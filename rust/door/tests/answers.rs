@@ -173,7 +173,8 @@ fn the_limits_are_those_of_the_header() {
 #[test]
 fn numbers_are_printed_in_order() {
     let (outcome, trap, halt) = (3, 4, -5);
-    let numbers = Numbers { refusal: 1, fault: 2, outcome, trap, halt, row: 6, steps: 7, read: 8, written: 9 };
+    let numbers =
+        Numbers { refusal: 1, fault: 2, outcome, trap, halt, steps: 7, row: 6, base: 10, top: 11, read: 8, written: 9 };
     assert_eq!(numbers.in_order(), [1, 2, 3, 4, -5, 6, 7, 8, 9]);
     assert_eq!(numbers.to_string(), "1 2 3 4 -5 6 7 8 9");
 }
