@@ -53,12 +53,12 @@ pub struct Fault {
 
 impl Fault {
     /// "a refusal leaves store and output untouched, other results 0."
-    fn numbers(&self) -> Numbers {
+    pub fn numbers(&self) -> Numbers {
         Numbers { refusal: self.refusal, fault: self.row, ..Numbers::default() }
     }
 
     /// The rule, and what breaks it.
-    fn told(&self) -> String {
+    pub fn told(&self) -> String {
         format!("{} {}", self.rule.words, self.detail)
     }
 }
