@@ -27,13 +27,13 @@ impl Damage<'_, '_> {
             0..=4 => self.outcome(),
             5..=9 => self.row(),
             10..=14 => self.base_and_top(),
-            15..=33 => self.link(),
-            34..=61 => self.var_parameter(),
-            62..=73 => self.variable(),
-            74..=81 => self.counts(),
-            82..=84 => self.steps(),
-            85..=91 => self.store_length(),
-            92..=97 => self.older(),
+            15..=34 => self.link(),
+            35..=68 => self.var_parameter(),
+            69..=79 => self.variable(),
+            80..=85 => self.counts(),
+            86..=88 => self.steps(),
+            89..=93 => self.store_length(),
+            94..=98 => self.older(),
             _ => self.any_cell(),
         }
     }
@@ -118,6 +118,9 @@ impl Damage<'_, '_> {
     }
 
     fn link(&mut self) {
+        if self.frames.len() == 1 && self.random.chance(700) {
+            return self.without_calls();
+        }
         let number = self.random.below(self.frames.len());
         let number = if self.random.chance(500) { self.frames.len() - 1 } else { number };
         let Frame { base, .. } = self.frames[number];
@@ -140,8 +143,24 @@ impl Damage<'_, '_> {
         self.put(base + which, new);
     }
 
+    /// What a state has whose only frame is procedure 0's.
+    fn without_calls(&mut self) {
+        match self.random.below(10) {
+            0 => self.outcome(),
+            1 => self.row(),
+            2..=3 => self.base_and_top(),
+            4..=6 => self.variable(),
+            7 => self.counts(),
+            8 => self.steps(),
+            _ => self.store_length(),
+        }
+    }
+
     fn var_parameter(&mut self) {
-        let parameters = self.sight.var_parameters(&self.frames);
+        let mut parameters = self.sight.var_parameters(&self.frames);
+        if self.random.chance(400) && parameters.iter().any(|parameter| parameter.frame + 1 < self.frames.len()) {
+            parameters.retain(|parameter| parameter.frame + 1 < self.frames.len());
+        }
         let Some(parameter) = self.random.any(&parameters) else { return self.link() };
         let VarParameter { t, first, .. } = parameter;
         let everywhere = self.sight.all(&self.frames);
@@ -150,17 +169,17 @@ impl Damage<'_, '_> {
             self.frames[parameter.frame + 1..].iter().flat_map(|frame| self.sight.own(frame)).collect();
         let [address, named] = [self.cell(first), self.cell(first + 1)];
         let row = named.clamp(0, self.sight.program.types.len() as i64 - 1) as usize;
-        let object = match self.random.below(16) {
+        let object = match self.random.below(20) {
             0 | 1 => self.sight.object_for(self.random, &everywhere, t),
             2 | 3 => self.sight.object_for(self.random, &own, t),
-            4 | 5 => self.sight.object_for(self.random, &younger, t),
-            6 => self.sight.any_object(self.random, &everywhere),
-            7 => self.sight.any_object(self.random, &everywhere).map(|(address, _)| (address, row)),
-            8 => self.base_part(t),
-            9 => Some((self.some_end(), row)),
-            10 => return self.put_near(first, address),
-            11 => return self.put_near(first + 1, named),
-            12 => return self.other_type(first + 1, t),
+            4..=7 => self.sight.object_for(self.random, &younger, t),
+            8 => self.sight.any_object(self.random, &everywhere),
+            9 => self.sight.any_object(self.random, &everywhere).map(|(address, _)| (address, row)),
+            10..=12 => self.base_part(t),
+            13 | 14 => Some((self.some_end(), row)),
+            15 => return self.put_near(first, address),
+            16 => return self.put_near(first + 1, named),
+            17 => return self.other_type(first + 1, t),
             _ => None,
         };
         match object {
@@ -182,9 +201,15 @@ impl Damage<'_, '_> {
 
     /// The address of an extension, with a base's type.
     fn base_part(&mut self, t: usize) -> Option<(usize, usize)> {
-        let (address, named) = self.sight.object_for(self.random, &self.sight.all(&self.frames), t)?;
-        let base = self.sight.program.base_of(named).filter(|base| self.sight.program.extends(*base, t));
-        Some((address, base.unwrap_or(named)))
+        let variables = self.sight.all(&self.frames);
+        for _ in 0..5 {
+            let (address, named) = self.sight.object_for(self.random, &variables, t)?;
+            let base = self.sight.program.base_of(named).filter(|base| self.sight.program.extends(*base, t));
+            if let Some(base) = base {
+                return Some((address, base));
+            }
+        }
+        None
     }
 
     /// Where a frame, the globals or a variable ends, or a frame begins.
@@ -215,9 +240,9 @@ impl Damage<'_, '_> {
     /// A variable's cell: around the range of its kind, or within it.
     fn variable(&mut self) {
         let variables = self.sight.all(&self.frames);
-        let Some(variable) = self.random.any(&variables) else { return self.link() };
+        let Some(variable) = self.random.any(&variables) else { return self.row() };
         let cells = self.sight.scalars(&[variable]);
-        let Some((cell, kind)) = self.random.any(&cells) else { return self.link() };
+        let Some((cell, kind)) = self.random.any(&cells) else { return self.row() };
         let old = self.cell(cell);
         let edges = match kind {
             Kind::Boolean => [0, 1, 2, -1],

@@ -1,20 +1,24 @@
 //! States that no run left: random frames along the calls of a program, with random variables and VAR parameters.
 
-use crate::frames::{Frame, Given, Sight};
+use crate::frames::{Frame, Given, Sight, Variable};
 use crate::random::Random;
 use crate::surroundings::Surroundings;
 use model::types::Kind;
 
-/// A frame beyond this cell ends the row of frames.
+/// A frame beyond this cell ends the row of frames: mostly, and in states that fill the largest store.
 const LARGEST: usize = 4000;
+const FULL: usize = 65_536;
+/// So many of the youngest variables are named, and all globals.
+const YOUNGEST: usize = 60;
 
 /// A state that is sound, where nothing is damaged.
 pub fn given(random: &mut Random, sight: &Sight, mut lent: Surroundings) -> Option<Given> {
-    let frames = frames(random, sight)?;
+    let full = random.chance(3);
+    let frames = frames(random, sight, full)?;
     let last = frames.last()?;
     let (base, top) = (last.base, sight.end(last));
-    let cells = top + random.weighted(&[(2, 0), (1, 1), (3, 30), (4, 300)]);
-    lent.store.resize(cells, 3);
+    let more = random.weighted(&[(2, 0), (1, 1), (3, 30), (4, 300)]);
+    lent.store.resize(if full { FULL } else { top + more }, 3);
     write_links(sight, &frames, &mut lent.store, random);
     for (cell, kind) in sight.scalars(&sight.all(&frames)) {
         lent.store[cell] = some_value(random, kind);
@@ -44,26 +48,33 @@ fn count(random: &mut Random, length: usize) -> u64 {
 }
 
 /// Procedure 0's frame, and further ones along calls, the oldest first. None where the globals take too much.
-fn frames(random: &mut Random, sight: &Sight) -> Option<Vec<Frame>> {
+fn frames(random: &mut Random, sight: &Sight, full: bool) -> Option<Vec<Frame>> {
     let mut frames = vec![Frame { procedure: 0, base: sight.program.globals() }];
-    let mut wanted = random.weighted(&[(10, 0), (25, 1), (30, 2), (20, 4), (5, 12)]);
-    while wanted > 0 {
-        wanted -= 1;
+    let mut variables = sight.all(&frames);
+    let largest = if full { FULL } else { LARGEST };
+    let wanted = random.weighted(&[(6, 0), (20, 1), (34, 2), (24, 4), (6, 12)]);
+    for _ in 0..if full { FULL } else { wanted } {
         let last = frames[frames.len() - 1];
         let next = |call: usize| Frame { procedure: sight.program.statements[call].a(), base: sight.end(&last) };
-        let variables = sight.all(&frames);
+        let named = youngest(sight, &variables);
         let good = |call: &usize| {
             let parameters = sight.var_parameters(&[next(*call)]);
-            parameters.iter().all(|parameter| sight.has_object(&variables, parameter.t))
+            let has_object = parameters.iter().all(|parameter| sight.has_object(&named, parameter.t));
+            has_object && sight.end(&next(*call)) <= largest
         };
         let calls: Vec<usize> = sight.calls(last.procedure).into_iter().filter(good).collect();
         let Some(call) = random.any(&calls) else { break };
-        if sight.end(&next(call)) > LARGEST {
-            break;
-        }
         frames.push(next(call));
+        variables.extend(sight.own(&next(call)));
     }
-    frames.last().is_some_and(|last| sight.end(last) <= LARGEST).then_some(frames)
+    frames.last().is_some_and(|last| sight.end(last) <= largest).then_some(frames)
+}
+
+/// The globals and the last of the others.
+fn youngest(sight: &Sight, variables: &[Variable]) -> Vec<Variable> {
+    let globals = sight.program.global_count();
+    let first = variables.len().saturating_sub(YOUNGEST).max(globals);
+    [&variables[..globals], &variables[first..]].concat()
 }
 
 /// The return row follows some call of the frame's procedure in the older one's body.
@@ -80,12 +91,16 @@ fn write_links(sight: &Sight, frames: &[Frame], store: &mut [i64], random: &mut 
 
 /// Each names some object of the globals or the older frames.
 fn write_var_parameters(random: &mut Random, sight: &Sight, frames: &[Frame], store: &mut [i64]) {
-    for parameter in sight.var_parameters(frames) {
-        let older = sight.all(&frames[..parameter.frame]);
-        if let Some((address, named)) = sight.object_for(random, &older, parameter.t) {
-            store[parameter.first] = address as i64;
-            store[parameter.first + 1] = named as i64;
+    let mut variables = sight.globals();
+    for frame in frames {
+        let named = youngest(sight, &variables);
+        for parameter in sight.var_parameters(&[*frame]) {
+            if let Some((address, named)) = sight.object_for(random, &named, parameter.t) {
+                store[parameter.first] = address as i64;
+                store[parameter.first + 1] = named as i64;
+            }
         }
+        variables.extend(sight.own(frame));
     }
 }
 
