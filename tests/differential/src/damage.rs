@@ -123,7 +123,7 @@ impl Damage<'_, '_> {
         }
         let number = self.random.below(self.frames.len());
         let number = if self.random.chance(500) { self.frames.len() - 1 } else { number };
-        let Frame { base, .. } = self.frames[number];
+        let Frame { base, procedure } = self.frames[number];
         let which = self.random.below(3);
         let other = *self.random.pick(&self.frames);
         let procedures = self.sight.program.procedures.len();
@@ -134,7 +134,7 @@ impl Damage<'_, '_> {
             (0, 0) => Some(self.random.below(procedures) as i64),
             (0, 1) => Some((procedures + self.random.below(2)) as i64),
             (1, 0 | 1) => after_call(self.random, self.sight.calls(older)),
-            (1, 2) => Some(self.random.below(self.sight.program.statements.len() + 1) as i64),
+            (1, 2) => after_call(self.random, self.sight.calls_of(procedure)),
             (2, 0) => Some(other.base as i64),
             (2, 1) => Some(self.sight.end(&other) as i64),
             _ => None,

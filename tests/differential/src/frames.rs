@@ -163,6 +163,12 @@ impl<'a> Sight<'a> {
         self.program.body(procedure).filter(|s| self.program.statements[*s].kind == CALL).collect()
     }
 
+    /// Rows of calls of a procedure, in any body.
+    pub fn calls_of(&self, procedure: usize) -> Vec<usize> {
+        let calls = self.program.statements.iter().enumerate();
+        calls.filter(|(_, call)| call.kind == CALL && call.a() == procedure).map(|(s, _)| s).collect()
+    }
+
     /// The cells of variables with their kinds, each scalar of them.
     pub fn scalars(&self, variables: &[Variable]) -> Vec<(usize, Kind)> {
         let cells = |variable: &Variable| {
