@@ -180,6 +180,7 @@ impl Damage<'_, '_> {
             15 => return self.put_near(first, address),
             16 => return self.put_near(first + 1, named),
             17 => return self.other_type(first + 1, t),
+            18 => self.sight.place_in(self.random, &everywhere, row).map(|address| (address, row)),
             _ => None,
         };
         match object {

@@ -150,6 +150,14 @@ impl<'a> Sight<'a> {
         Some(place)
     }
 
+    /// Some place in a variable that has an object of the type, or where the variable ends.
+    pub fn place_in(&self, random: &mut Random, variables: &[Variable], named: usize) -> Option<usize> {
+        let holds = |variable: &&Variable| self.holds[variable.t] >> named & 1 == 1;
+        let around: Vec<Variable> = variables.iter().filter(holds).copied().collect();
+        let variable = random.any(&around)?;
+        Some(variable.first + random.between(0, self.program.size(variable.t)))
+    }
+
     /// Any object, whatever its type: its address and type.
     pub fn any_object(&self, random: &mut Random, variables: &[Variable]) -> Option<(usize, usize)> {
         let variable = random.any(variables)?;
