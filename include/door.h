@@ -14,6 +14,9 @@
 extern "C" {
 #endif
 
+/* The interface that this header speaks of: 1 is the base's, and each change of a signature or a struct adds one. */
+#define DOOR_INTERFACE 2
+
 /* The longest image that is accepted, in bytes; the largest store that is taken, in cells. */
 #define DOOR_IMAGE_MAX 29713
 #define DOOR_STORE_MAX 65536
@@ -80,17 +83,20 @@ uint32_t door_check(const uint8_t *image, size_t length);
 static inline uint32_t door_refusal(uint32_t answer) { return answer / 65536u; }
 static inline uint32_t door_row(uint32_t answer) { return answer % 65536u; }
 
-/* The nine numbers of a run, in document 01's order. */
+/* The nine numbers of a run, and where its newest frame begins and ends. Numbers, not bytes, are to be compared: four
+ * bytes between `top` and `read` hold nothing. */
 struct door_result {
     uint32_t refusal; /* DOOR_ACCEPTED, or why nothing was run: DOOR_REFUSED_.. */
     uint32_t fault;   /* the row of refusal */
     uint32_t outcome; /* DOOR_STEPS_USED_UP, DOOR_FINISHED or DOOR_TRAPPED */
     uint32_t trap;    /* DOOR_TRAP_NONE unless trapped, else DOOR_TRAP_.. */
     int32_t halt;     /* HALT's number with DOOR_TRAP_HALT, else 0 */
-    uint32_t row;     /* the statement row: of the last step where it finished or trapped, else of the next */
     uint32_t steps;   /* steps taken; a step that finishes or traps counts */
-    uint32_t read;    /* inputs read */
-    uint32_t written; /* outputs written */
+    uint32_t row;     /* the statement row: of the last step where it finished or trapped, else of the next */
+    uint32_t base;    /* the cell where the newest frame begins; 0 in a refusal */
+    uint32_t top;     /* the cell where it ends, the first that is not its own; 0 in a refusal */
+    uint64_t read;    /* inputs read */
+    uint64_t written; /* outputs written */
 };
 
 /* Checks an image, and runs it from the fresh state, with at most `steps` steps. A run cannot be continued: the next

@@ -118,7 +118,7 @@ struct Case {
     fill: i64,
     places: usize,
     steps: u32,
-    numbers: Vec<i64>,
+    numbers: Vec<i128>,
     output: Vec<i32>,
     store: Option<Vec<i64>>,
 }
@@ -278,7 +278,7 @@ fn cases(folder: &Path) -> Result<Vec<Case>, Failed> {
             output,
             store: None,
         };
-        if case.numbers.get(8) != Some(&(case.output.len() as i64)) {
+        if case.numbers.get(8) != Some(&(case.output.len() as i128)) {
             return Err(format!("expect.txt: {name} has not as many outputs as it says").into());
         }
         found.push(case);

@@ -64,8 +64,8 @@ struct Registers {
     row: u32,
     base: u32,
     top: u32,
-    read: u32,
-    written: u32,
+    read: u64,
+    written: u64,
 }
 
 /// What a step comes to.
@@ -616,5 +616,6 @@ fn advance(
             }
         }
     }
-    Numbers { refusal: 0, fault: 0, outcome, trap, halt, row: s.row, steps, read: s.read, written: s.written }
+    let Registers { row, base, top, read, written } = s;
+    Numbers { refusal: 0, fault: 0, outcome, trap, halt, steps, row, base, top, read, written }
 }

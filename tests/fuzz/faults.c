@@ -41,14 +41,14 @@ struct door_result __wrap_door_run(const uint8_t *image, size_t image_length, co
         if (result.refusal == 13 && output_length > 0)
             output[output_length - 1] = 0;
         break;
-    case 6: /* 6: memcmp(&before, &less->result, sizeof before) == 0 */
+    case 6: /* 6: same_result(before, less->result) */
         result.steps += result.refusal == 0 && result.outcome == 0;
         break;
-    case 7: /* 7: memcmp(&a->result, &b->result, sizeof a->result) == 0 */
+    case 7: /* 7: same_result(a->result, b->result) */
         if (result.refusal == 0 && held < 0)
             result.row = 0;
         break;
-    case 8: /* 8: memcmp(&before, &less->result, sizeof before) == 0 */
+    case 8: /* 8: same_result(before, less->result) */
         if (result.trap == 3)
             result.row++;
         break;

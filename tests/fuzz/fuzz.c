@@ -13,6 +13,7 @@
 #include "door.h"
 #include "form.h"
 #include "guarded.h"
+#include "same.h"
 
 #define MOST_IMAGE 40000
 #define PLACE 0x55aa55aa
@@ -79,7 +80,7 @@ static uint32_t statements_of(const uint8_t *image) {
 }
 
 static bool only_refusal(struct door_result r) {
-    return r.outcome == 0 && r.trap == 0 && r.halt == 0 && r.row == 0 && r.steps == 0 && r.read == 0 && r.written == 0;
+    return same_result(r, (struct door_result){.refusal = r.refusal, .fault = r.fault});
 }
 
 static void promised_of_refusal(uint32_t check, const struct lent *given, const struct left *left) {
@@ -105,6 +106,7 @@ static void promised_of_run(const uint8_t *image, const struct lent *given, cons
     PROMISED((r.trap != 0) == (r.outcome == 2) && r.trap <= 10);
     PROMISED(r.halt == 0 || r.trap == 10);
     PROMISED(r.row < statements_of(image));
+    PROMISED(r.base + 3 <= r.top && r.top <= given->cells);
     PROMISED(r.steps <= given->steps);
     PROMISED(r.outcome == 0 ? r.steps == given->steps : r.steps >= 1);
     PROMISED(r.read <= given->inputs && r.written <= given->places);
@@ -118,7 +120,7 @@ static void promised_of_run(const uint8_t *image, const struct lent *given, cons
 /* Two runs that differ in place and in what the store held: the same but for the cells that neither wrote. A number
  * that was written is a value, a link, an address or a type. */
 static void promised_of_both(const struct lent *given, const struct left *a, const struct left *b) {
-    PROMISED(memcmp(&a->result, &b->result, sizeof a->result) == 0);
+    PROMISED(same_result(a->result, b->result));
     PROMISED(memcmp(a->output, b->output, 4 * given->places) == 0);
     for (size_t i = 0; i < given->cells; i++) {
         const bool same = a->store[i] == b->store[i];
@@ -135,7 +137,7 @@ static void promised_before_last(const struct lent *given, const struct left *al
     before.outcome = before.trap = 0;
     before.halt = 0;
     before.steps--;
-    PROMISED(memcmp(&before, &less->result, sizeof before) == 0);
+    PROMISED(same_result(before, less->result));
     PROMISED(memcmp(all->output, less->output, 4 * given->places) == 0);
 }
 

@@ -8,6 +8,7 @@
 #include <string.h>
 
 #include "door.h"
+#include "same.h"
 
 static unsigned expectations, differences;
 
@@ -21,12 +22,13 @@ static inline void expect(bool met, const char *what) {
 
 static inline void print_result(const char *which, struct door_result r) {
     printf("  %s: refusal %" PRIu32 ", row %" PRIu32 ", outcome %" PRIu32 ", trap %" PRIu32 ", HALT %" PRId32
-           ", statement %" PRIu32 ", steps %" PRIu32 ", read %" PRIu32 ", written %" PRIu32 "\n",
-           which, r.refusal, r.fault, r.outcome, r.trap, r.halt, r.row, r.steps, r.read, r.written);
+           ", statement %" PRIu32 ", steps %" PRIu32 ", read %" PRIu64 ", written %" PRIu64 ", frame %" PRIu32
+           " to %" PRIu32 "\n",
+           which, r.refusal, r.fault, r.outcome, r.trap, r.halt, r.row, r.steps, r.read, r.written, r.base, r.top);
 }
 
 static inline void expect_result(const char *what, struct door_result got, struct door_result expected) {
-    const bool met = memcmp(&got, &expected, sizeof got) == 0;
+    const bool met = same_result(got, expected);
     expect(met, what);
     if (!met) {
         print_result("got", got);

@@ -76,6 +76,12 @@ static struct door_result trapped(uint32_t trap, uint32_t row, uint32_t steps) {
 static struct door_result finished(uint32_t row, uint32_t steps) {
     return (struct door_result){.outcome = 1, .row = row, .steps = steps};
 }
+/* the same in procedure 0, whose frame has so many cells, behind so many of globals */
+static struct door_result in_body(uint32_t globals, uint32_t frame, struct door_result result) {
+    result.base = globals;
+    result.top = globals + frame;
+    return result;
+}
 
 /* ---- images */
 
@@ -154,7 +160,7 @@ static void image_lengths(void) {
                       refusal(2));
     expect_result("the smallest image",
                   run((struct lending){.image = smallest, .length = sizeof smallest, .cells = 3, .steps = 9}),
-                  finished(0, 1));
+                  in_body(0, 3, finished(0, 1)));
 }
 
 /* A store of so many cells: refused, and untouched, or the globals and the frame zeroed and the rest untouched. */
@@ -164,7 +170,7 @@ static void store_length(unsigned globals, size_t cells, uint32_t expected) {
     bool zeroed = true;
     returning(globals);
     result = run(made(cells, 4, 9));
-    expect_result("a store", result, expected ? refusal(expected) : finished(0, 1));
+    expect_result("a store", result, expected ? refusal(expected) : in_body(globals, 5, finished(0, 1)));
     expect(untouched(expected ? 0 : needed, cells), "cells that are not the program's");
     for (size_t i = 0; !expected && i < needed; i++)
         zeroed = zeroed && store_of(cells)[i] == 0;
@@ -198,20 +204,20 @@ static void nothing_lent(void) {
     struct lending l;
     one(READ, variable);
     l = made(4, 0, 9);
-    expect_result("a read without input", run(l), trapped(8, 0, 1));
+    expect_result("a read without input", run(l), in_body(1, 3, trapped(8, 0, 1)));
     l.input = seven;
     l.inputs = 1;
     expect_result("a read of the only input", run(l),
-                  (struct door_result){.outcome = 1, .row = 1, .steps = 2, .read = 1});
+                  in_body(1, 3, (struct door_result){.outcome = 1, .row = 1, .steps = 2, .read = 1}));
     expect(store_of(4)[0] == 7, "what was read");
     one(WRITE, variable);
-    expect_result("a write without places", run(made(4, 0, 9)), trapped(9, 0, 1));
+    expect_result("a write without places", run(made(4, 0, 9)), in_body(1, 3, trapped(9, 0, 1)));
     expect_result("a write to the only place", run(made(4, 1, 9)),
-                  (struct door_result){.outcome = 1, .row = 1, .steps = 2, .written = 1});
-    expect_result("no steps", run(made(4, 1, 0)), used_up(0, 0));
+                  in_body(1, 3, (struct door_result){.outcome = 1, .row = 1, .steps = 2, .written = 1}));
+    expect_result("no steps", run(made(4, 1, 0)), in_body(1, 3, used_up(0, 0)));
     one(HALT, nine);
     expect_result("HALT with all steps", run(made(4, 0, ALL_STEPS)),
-                  (struct door_result){.outcome = 2, .trap = 10, .halt = 9, .steps = 1});
+                  in_body(1, 3, (struct door_result){.outcome = 2, .trap = 10, .halt = 9, .steps = 1}));
 }
 
 static double seconds(void) {
@@ -225,13 +231,13 @@ static void loops(uint32_t steps, bool print) {
     const double began = seconds();
     double between, end;
     endless();
-    expect_result("GOTO itself", run(made(3, 0, steps)), used_up(steps, 0));
+    expect_result("GOTO itself", run(made(3, 0, steps)), in_body(0, 3, used_up(steps, 0)));
     between = seconds();
     counting();
     if (steps == ALL_STEPS) /* the last step is addition 2,147,483,648, the first that overflows */
-        expect_result("counting", run(made(4, 0, steps)), trapped(4, 0, steps));
+        expect_result("counting", run(made(4, 0, steps)), in_body(1, 3, trapped(4, 0, steps)));
     else
-        expect_result("counting", run(made(4, 0, steps)), used_up(steps, steps % 2));
+        expect_result("counting", run(made(4, 0, steps)), in_body(1, 3, used_up(steps, steps % 2)));
     expect(store_of(4)[0] == (int64_t)(steps == ALL_STEPS ? INT32_MAX : steps / 2 + steps % 2), "what was counted");
     end = seconds();
     if (print)
@@ -242,9 +248,9 @@ static void loops(uint32_t steps, bool print) {
 static void finishing_early(void) {
     expect_result("RETURN with all steps",
                   run((struct lending){.image = smallest, .length = sizeof smallest, .cells = 3, .steps = ALL_STEPS}),
-                  finished(0, 1));
+                  in_body(0, 3, finished(0, 1)));
     returning(5);
-    expect_result("RETURN with all steps and cells", run(made(65536, 0, ALL_STEPS)), finished(0, 1));
+    expect_result("RETURN with all steps and cells", run(made(65536, 0, ALL_STEPS)), in_body(5, 5, finished(0, 1)));
 }
 
 int main(int count, char **words) {

@@ -52,7 +52,7 @@ static void *many(void *given) {
     for (unsigned i = 0; i < thread->rounds; i++) {
         run(thread->program, &thread->left, 3);
         thread->differences += thread->left.answer != alone->answer ||
-                               memcmp(&thread->left.result, &alone->result, sizeof alone->result) != 0 ||
+                               !same_result(thread->left.result, alone->result) ||
                                memcmp(thread->left.store, alone->store, sizeof alone->store) != 0 ||
                                memcmp(thread->left.output, alone->output, sizeof alone->output) != 0;
     }

@@ -47,22 +47,19 @@ use Rattle.calling.proofs.Passing.{the-type as passingType}
 -- ---- finding from here
 
 -- what a step may ask, finding may
-pub standing : {image plan : List ℕ} {s : Registers} {cells : List ℤ} {n : ℕ} → Ready image plan → Stands s cells n
+pub standing : {image plan : List ℕ} {s : Registers} {cells : List ℤ} → Ready image plan → Stands s cells
     → Standing image plan (s .base) (s .top) cells
 standing ready stands = record { planned = ready .planned; low = stands .base; stored = stands .top }
 
 -- ---- other cells, as many
 
 -- from there steps can be taken too
-pub stands-kept : {s : Registers} {old cells : List ℤ} {n : ℕ} → Stands s old n → length cells ≡ length old
-    → Stands s cells n
+pub stands-kept : {s : Registers} {old cells : List ℤ} → Stands s old → length cells ≡ length old → Stands s cells
 stands-kept stands e = record {
   row = stands .row;
   base = stands .base;
   top = rw e (stands .top);
   few = rw e (stands .few);
-  read = stands .read;
-  written = stands .written;
 }
 
 -- there is room in them too

@@ -174,6 +174,4 @@ module _ (g : Program) (q : ℕ) (s : Registers) (cells : List ℤ)
         row = low;
         base = omega arith;
         top = omega arith;
-        read = omega arith;
-        written = omega arith;
       }))

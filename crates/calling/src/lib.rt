@@ -77,7 +77,7 @@ fn pass_object(
     k: u32,
     place: u32,
 ) -> Passing
-    requires { ⌜ Ready (now (now image)) (now plan) × Stands s (now store) 1
+    requires { ⌜ Ready (now (now image)) (now plan) × Stands s (now store)
         × (s .top + (place + 2) ≤ length (now store)) ⌝ }
     ensures { λ x. ⌜ ((output : List ℤ) → Passes (stateOf s (now (store .entry)) output)
         (λ next. onPlace (stateOf s (now (store .entry)) output)
@@ -106,7 +106,7 @@ fn pass_value(
     k: u32,
     place: u32,
 ) -> Passing
-    requires { ⌜ Ready (now (now image)) (now plan) × Stands s (now store) 1
+    requires { ⌜ Ready (now (now image)) (now plan) × Stands s (now store)
         × (s .top + (place + 1) ≤ length (now store)) ⌝ }
     ensures { λ x. ⌜ ((output : List ℤ) → Passes (stateOf s (now (store .entry)) output)
         (λ next. onValue (stateOf s (now (store .entry)) output)
@@ -134,7 +134,7 @@ fn pass_cells(
     place: u32,
     r: u16,
 ) -> Passing
-    requires { ⌜ Ready (now (now image)) (now plan) × Stands s (now store) 1
+    requires { ⌜ Ready (now (now image)) (now plan) × Stands s (now store)
         × (r < rowsOf (programOf (now (now image)) .types))
         × (s .top + (place + sizeOf (programOf (now (now image)) .types) (programOf (now (now image)) .fields) r)
         ≤ length (now store)) ⌝ }
@@ -163,7 +163,7 @@ fn pass_cells(
 
 // One argument: node row k, to variable row a.
 fn pass(image: &&[u8], plan: &Plan, store: &mut [i64], s: Registers, k: u32, a: u32) -> Passing
-    requires { ⌜ Ready (now (now image)) (now plan) × Stands s (now store) 1
+    requires { ⌜ Ready (now (now image)) (now plan) × Stands s (now store)
         × Roomy (now (now image)) (s .top) a (now store) ⌝ }
     ensures { λ x. ⌜ ((output : List ℤ) → Passes (stateOf s (now (store .entry)) output)
         (passedOne bare (programOf (now (now (image .entry)))) k a (stateOf s (now (store .entry)) output))
@@ -192,7 +192,7 @@ fn pass_all(
     a: u32,
     n: u32,
 ) -> Passing
-    requires { ⌜ Ready (now (now image)) (now plan) × Stands s (now store) 1 × (k ≤ 65536) × (a ≤ 65536) × (n ≤ 65536)
+    requires { ⌜ Ready (now (now image)) (now plan) × Stands s (now store) × (k ≤ 65536) × (a ≤ 65536) × (n ≤ 65536)
         × ((j : ℕ) → j < n → Roomy (now (now image)) (s .top) (a + j) (now store)) ⌝ }
     ensures { λ x. ⌜ ((output : List ℤ) → Passes (stateOf s (now (store .entry)) output)
         (passed bare (programOf (now (now (image .entry)))) k a n (stateOf s (now (store .entry)) output))
@@ -245,7 +245,7 @@ fn locals_place(image: &&[u8], plan: &Plan, q: u16) -> u32
 
 // The call of procedure q, whose arguments are passed.
 fn enter(image: &&[u8], plan: &Plan, store: &mut [i64], s: Registers, q: u16) -> Step
-    requires { ⌜ Ready (now (now image)) (now plan) × Stands s (now store) 1
+    requires { ⌜ Ready (now (now image)) (now plan) × Stands s (now store)
         × (q < rowsOf (programOf (now (now image)) .procedures))
         × (s .row < rowsOf (programOf (now (now image)) .statements))
         × (s .top + frameSize (programOf (now (now image)) .types) (programOf (now (now image)) .fields)
@@ -279,7 +279,7 @@ fn enter(image: &&[u8], plan: &Plan, store: &mut [i64], s: Registers, q: u16) ->
 
 // Statement kind 1: the store check first, then the arguments, then the frame.
 pub fn call(image: &&[u8], plan: &Plan, store: &mut [i64], s: Registers, statement: Row) -> Step
-    requires { ⌜ Ready (now (now image)) (now plan) × Stands s (now store) 1
+    requires { ⌜ Ready (now (now image)) (now plan) × Stands s (now store)
         × (statement .a < rowsOf (programOf (now (now image)) .procedures))
         × (s .row < rowsOf (programOf (now (now image)) .statements)) ⌝ }
     ensures { λ x. ⌜ ((output : List ℤ) → Shows (stateOf s (now (store .entry)) output)

@@ -16,7 +16,7 @@ pub extern "C" fn door_check(image: &[u8]) -> u32
     }
 }
 
-// The nine numbers of a run, by value.
+// The numbers of a run, by value.
 #[no_mangle]
 pub extern "C" fn door_run(
     image: &[u8],

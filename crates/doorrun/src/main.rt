@@ -26,7 +26,7 @@ fn main() {
     let x = run_image(&image[..n], &mut output);
     printing::print_result(x);
     // No more are written than there are places.
-    let written = x.written as usize;
+    let written = x.at.written as usize;
     if written <= output.len() {
         printing::print_output(b"\n", &output[..written]);
     }

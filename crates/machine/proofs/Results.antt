@@ -29,8 +29,7 @@ use Rattle.semantics.proofs.Agreeing.{blank-zeros}
 use Rattle.semantics.proofs.Objects.{kinds-room}
 use Rattle.semantics.proofs.Outcomes.{ran-bare}
 use Rattle.calling.specs.Showing.{stateOf, Stands}
-use Rattle.machine.specs.declared.Stop.{Stop}
-use Rattle.machine.specs.Stopping.{stopOf, Stops, numbersAt}
+use Rattle.machine.specs.Stopping.{Stops}
 
 -- ---- the fresh state
 
@@ -70,23 +69,21 @@ fresh-is : (g : Program) (store output : List ℤ) {base top : ℕ} {cells : Lis
 unfolding fresh
 fresh-is g store output base top cells = rw (fresh-cells g store, cells, base, top)
 
--- from which any number of steps can be taken
-pub fresh-stands : (g : Program) (store cells : List ℤ) {base top steps : ℕ} → base ≡ globalRoom g → top ≡ firstTop g
-    → top ≤ length store → length store ≤ 65536 → length cells ≡ length store → steps < 4294967296
-    → Stands (record { row = 0; base = base; top = top; read = 0; written = 0 }) cells steps
+-- from which steps can be taken
+pub fresh-stands : (g : Program) (store cells : List ℤ) {base top : ℕ} → base ≡ globalRoom g → top ≡ firstTop g
+    → top ≤ length store → length store ≤ 65536 → length cells ≡ length store
+    → Stands (record { row = 0; base = base; top = top; read = 0; written = 0 }) cells
 unfolding firstTop
-fresh-stands g store cells base top room few same low = record {
+fresh-stands g store cells base top room few same = record {
   row = omega arith;
   base = omega arith;
   top = omega arith;
   few = omega arith;
-  read = omega arith;
-  written = omega arith;
 }
 
 -- ---- the three results
 
--- nine numbers, every cell of the store and every output place
+-- the numbers, every cell of the store and every output place
 pub record Gives (image : List ℕ) (input store output : List ℤ) (steps : ℕ) (r : RunResult) (cells places : List ℤ)
     : Type 0 where
   pub result : r ≡ resultOf image input store output steps
@@ -145,12 +142,12 @@ module _ (image : List ℕ) (input store output : List ℤ) (steps : ℕ) where
       -- a run: the tagged machine's, since the code's is the bare one's
       pub gives-run : ((i : ℕ) → getD image i 0 < 256) → {base top : ℕ} {zeroed : List ℤ}
           → base ≡ globalRoom (programOf image) → top ≡ firstTop (programOf image) → top ≤ length store
-          → zeroed ≡ overwrite store 0 (replicate top (pos 0)) → {stop : Stop} {cells places : List ℤ}
+          → zeroed ≡ overwrite store 0 (replicate top (pos 0)) → {result : RunResult} {cells places : List ℤ}
           → Stops (runFrom bare (programOf image) input steps 0
-          (stateOf (record { row = 0; base = base; top = top; read = 0; written = 0 }) zeroed output)) stop cells places
-          → Gives image input store output steps (numbersAt stop) cells places
-      unfolding refusal resultOf storeAfter outputAfter numbersAt stopOf numbersOf
-      gives-run each base-is top-is within zeroed-is {stop} {cells} {places} stops =
+          (stateOf (record { row = 0; base = base; top = top; read = 0; written = 0 }) zeroed output)) result cells places
+          → Gives image input store output steps result cells places
+      unfolding refusal resultOf storeAfter outputAfter numbersOf
+      gives-run each base-is top-is within zeroed-is stops =
           let bytes : Bytes image = record { each = each } in
           let room : firstTop (programOf image) ≤ length store = omega arith in
           let yes : eqb (refusal image store) 0 ≡ true =
@@ -161,7 +158,7 @@ module _ (image : List ℕ) (input store output : List ℤ) (steps : ℕ) where
             ran-bare image bytes accepted input store output few room steps,
           ) at stops in
           record {
-            result = ap numbersAt (ran .answer) ∙ sym (choose-yes _ _ _ yes);
+            result = ran .answer ∙ sym (choose-yes _ _ _ yes);
             left = sym (ran .cells-left) ∙ sym (choose-yes _ _ _ yes);
             sent = sym (ran .output-left) ∙ sym (choose-yes _ _ _ yes);
           }

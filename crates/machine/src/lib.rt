@@ -6,7 +6,7 @@ use semantics::Registers;
 use semantics::RunResult;
 use sizes::RUN_PLAN;
 ghost use mathlib.Core.Path.{_≡_};
-ghost use Prim.Native.Nat.{ℕ, _≤_};
+ghost use Prim.Native.Nat.{ℕ, _+_, _≤_};
 ghost use lib.ListN.{length};
 ghost use Rattle.checker.specs.Check.{refusalOf, rowOf};
 ghost use Rattle.semantics.specs.Memory.{bare};
@@ -14,47 +14,35 @@ ghost use Rattle.semantics.specs.Running.{programOf, globalRoom, firstTop, runF
 ghost use Rattle.semantics.specs.Running.{outputAfter};
 ghost use Rattle.access.specs.Ready.{Ready};
 ghost use Rattle.calling.specs.Showing.{stateOf, Stands};
-ghost use Rattle.machine.specs.Stopping.{stopBy, Stops, numbersAt};
+ghost use Rattle.machine.specs.Stopping.{endedWith, stopBy, Stops};
 
-// Where a run ended: outcome, trap and HALT's number, how many steps it took, and its numbers.
-pub struct Stop {
-    pub outcome: u32,
-    pub trap: u32,
-    pub halt: i32,
-    pub steps: u32,
-    pub at: Registers,
-}
-
-// A step that was the last, from s, as the k-th.
-fn stop_by(x: Step, s: Registers, k: u32) -> Stop
-    ensures { λ r. ⌜ r ≡ stopBy x s k ⌝ }
+// The numbers of a run that was not refused.
+fn ended(outcome: u32, trap: u32, halt: i32, steps: u32, at: Registers) -> RunResult
+    ensures { λ x. ⌜ x ≡ endedWith outcome trap halt steps at ⌝ }
 {
-    match x {
-        Step::Finished => Stop {
-            outcome: 1,
-            trap: 0,
-            halt: 0,
-            steps: k,
-            at: s,
-        },
-        Step::Trapped(t, z) => Stop {
-            outcome: 2,
-            trap: values::trap_number(t) as u32,
-            halt: z,
-            steps: k,
-            at: s,
-        },
-        _ => Stop {
-            outcome: 3,
-            trap: 0,
-            halt: 0,
-            steps: k,
-            at: s,
-        },
+    RunResult {
+        refusal: 0,
+        fault: 0,
+        outcome,
+        trap,
+        halt,
+        steps,
+        at,
     }
 }
 
-// At most n steps from any state.
+// A step that was the last, from s, as the k-th.
+fn stop_by(x: Step, s: Registers, k: u32) -> RunResult
+    ensures { λ r. ⌜ r ≡ stopBy x s k ⌝ }
+{
+    match x {
+        Step::Finished => ended(1, 0, 0, k, s),
+        Step::Trapped(t, z) => ended(2, values::trap_number(t) as u32, z, k, s),
+        _ => ended(3, 0, 0, k, s),
+    }
+}
+
+// At most n steps more from any state, where `done` were done before.
 pub fn advance(
     image: &&[u8],
     plan: &Plan,
@@ -62,30 +50,26 @@ pub fn advance(
     store: &mut [i64],
     output: &mut [i32],
     from: Registers,
+    done: u32,
     n: u32,
-) -> Stop
-    requires { ⌜ Ready (now (now image)) (now plan) × Stands from (now store) n ⌝ }
-    ensures { λ x. ⌜ Stops (runFrom bare (programOf (now (now (image .entry)))) (now (input .entry)) n 0
+) -> RunResult
+    requires { ⌜ Ready (now (now image)) (now plan) × Stands from (now store) × (done + n ≤ 4294967295) ⌝ }
+    ensures { λ x. ⌜ Stops (runFrom bare (programOf (now (now (image .entry)))) (now (input .entry)) n done
         (stateOf from (now (store .entry)) (now (output .entry)))) x (now (store .exit)) (now (output .exit)) ⌝ }
 {
+    let end = done + n;
     let mut s = from;
-    let mut k: u32 = 0;
-    while k < n {
+    let mut k = done;
+    while k < end {
         let next = stepping::step(image, plan, input, store, output, s);
-        let done = k + 1;
+        let count = k + 1;
         let Step::Goes(q) = next else {
-            return stop_by(next, s, done);
+            return stop_by(next, s, count);
         };
         s = q;
-        k = done;
+        k = count;
     }
-    Stop {
-        outcome: 0,
-        trap: 0,
-        halt: 0,
-        steps: k,
-        at: s,
-    }
+    ended(0, 0, 0, k, s)
 }
 
 // ---- the run
@@ -99,10 +83,14 @@ fn refused(question: u32, row: u32) -> RunResult
         outcome: 0,
         trap: 0,
         halt: 0,
-        row: 0,
         steps: 0,
-        read: 0,
-        written: 0,
+        at: Registers {
+            row: 0,
+            base: 0,
+            top: 0,
+            read: 0,
+            written: 0,
+        },
     }
 }
 
@@ -113,24 +101,6 @@ fn refused_by(answer: CheckAnswer) -> RunResult
     match answer {
         CheckAnswer::Accepted => refused(0, 0),
         CheckAnswer::Refused(question, row) => refused(question as u32, row as u32),
-    }
-}
-
-// The nine numbers of a run that was not refused.
-fn numbers(stop: Stop) -> RunResult
-    ensures { λ x. ⌜ x ≡ numbersAt stop ⌝ }
-{
-    let at = stop.at;
-    RunResult {
-        refusal: 0,
-        fault: 0,
-        outcome: stop.outcome,
-        trap: stop.trap,
-        halt: stop.halt,
-        row: at.row,
-        steps: stop.steps,
-        read: at.read,
-        written: at.written,
     }
 }
 
@@ -180,6 +150,5 @@ pub fn run(
         read: 0,
         written: 0,
     };
-    let stop = advance(&image, &plan, input, store, output, first, steps);
-    numbers(stop)
+    advance(&image, &plan, input, store, output, first, 0, steps)
 }

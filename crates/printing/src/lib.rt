@@ -32,11 +32,11 @@ fn print_integer(z: i32)
 }
 
 // Prints a space and a number.
-fn print_next(n: u32)
+fn print_next(n: u64)
     ensures { λ r. ⌜ r ≡ tt ⌝ }
 {
     io::write_all(STDOUT_FILENO, b" ");
-    io::print_decimal(STDOUT_FILENO, n as u64);
+    io::print_decimal(STDOUT_FILENO, n);
 }
 
 // Prints the nine numbers of a run in document 01's order, a space between two.
@@ -44,15 +44,15 @@ pub fn print_result(x: RunResult)
     ensures { λ r. ⌜ r ≡ tt ⌝ }
 {
     io::print_decimal(STDOUT_FILENO, x.refusal as u64);
-    print_next(x.fault);
-    print_next(x.outcome);
-    print_next(x.trap);
+    print_next(x.fault as u64);
+    print_next(x.outcome as u64);
+    print_next(x.trap as u64);
     io::write_all(STDOUT_FILENO, b" ");
     print_integer(x.halt);
-    print_next(x.row);
-    print_next(x.steps);
-    print_next(x.read);
-    print_next(x.written);
+    print_next(x.at.row as u64);
+    print_next(x.steps as u64);
+    print_next(x.at.read);
+    print_next(x.at.written);
 }
 
 // Prints each number of an output, the bytes `before` in front of it.

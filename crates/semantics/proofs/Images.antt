@@ -23,16 +23,14 @@ row kind a b c = kind ∷ 0 ∷ a / 256 ∷ a % 256 ∷ b / 256 ∷ b % 256 ∷ 
 abbrev pub zeros : ℕ → List ℤ
 zeros n = replicate n (pos 0)
 
--- "refusal, row of refusal, outcome, trap, HALT number, statement row, steps, read, written"
-abbrev pub nine : ℕ → ℕ → ℕ → ℕ → ℕ → ℕ → ℕ → ℕ → ℕ → RunResult
-nine refusal fault outcome trap halt row steps read written = record {
+-- "refusal, row of refusal, outcome, trap, HALT number, statement row, steps, read, written"; then base and top
+abbrev pub results : ℕ → ℕ → ℕ → ℕ → ℕ → ℕ → ℕ → ℕ → ℕ → ℕ → ℕ → RunResult
+results refusal fault outcome trap halt row steps read written base top = record {
   refusal = refusal;
   fault = fault;
   outcome = outcome;
   trap = trap;
   halt = pos halt;
-  row = row;
   steps = steps;
-  read = read;
-  written = written;
+  at = record { row = row; base = base; top = top; read = read; written = written };
 }

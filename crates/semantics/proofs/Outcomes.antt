@@ -365,13 +365,13 @@ module _ (image : List ℕ) (input store output : List ℤ) (steps : ℕ) where
   result-halt = result-has (λ r. (r .trap ≡ 10 → ⊥) → r .halt ≡ pos 0) (ran-kept .halt) (λ q row h. refl)
 
   -- "output places from written on keep their numbers"; there are as many as were lent
-  pub output-kept : (i : ℕ) → resultOf image input store output steps .written ≤ i
+  pub output-kept : (i : ℕ) → resultOf image input store output steps .at .written ≤ i
       → getD (outputAfter image input store output steps) i (pos 0) ≡ getD output i (pos 0)
   unfolding resultOf outputAfter numbersOf fresh choose
   output-kept i = go (eqb (refusal image store) 0)
     where
       go : (b : Bool) → choose b (numbersOf (ranOf image input store output steps))
-          (refusedWith (refusal image store) (rowOf (checkOf image))) .written ≤ i
+          (refusedWith (refusal image store) (rowOf (checkOf image))) .at .written ≤ i
           → getD (choose b (ranOf image input store output steps .state .output) output) i (pos 0)
           ≡ getD output i (pos 0)
       go true h = ran-kept .output .place i h

@@ -10,7 +10,7 @@ use Rattle.checker.specs.declared.CheckAnswer.the-variants.{Accepted}
 use Rattle.checker.specs.Check.{checkOf}
 use Rattle.semantics.specs.Running.{resultOf, storeAfter, outputAfter}
 use Rattle.semantics.proofs.Opened.{run}
-use Rattle.semantics.proofs.Images.{start, count, row, zeros, nine}
+use Rattle.semantics.proofs.Images.{start, count, row, zeros, results}
 use Rattle.semantics.proofs.Acceptance.{typeRows, fieldRows}
 
 -- Types 3 and 4 are case 7's: RECORD number: INTEGER END, and RECORD (type 3) set: SET END.
@@ -93,7 +93,7 @@ left = map pos (
 -- These numbers would differ if own fields came before the base's, a guard asked for equality, a VAR parameter were
 -- handed on with its static type, or a projection copied the extension too.
 pub whole-run :
-    (resultOf whole [] (zeros 17) (zeros 2) 100 ≡ nine 0 0 2 10 5 3 10 0 1)
+    (resultOf whole [] (zeros 17) (zeros 2) 100 ≡ results 0 0 2 10 5 3 10 0 1 3 6)
     × (outputAfter whole [] (zeros 17) (zeros 2) 100 ≡ pos 49 ∷ pos 0 ∷ [])
     × (storeAfter whole [] (zeros 17) (zeros 2) 100 ≡ left)
 unfolding run

@@ -1,4 +1,4 @@
--- The run of an image and its nine results.
+-- The run of an image and its results.
 use Prim.Native.Nat.{ℕ, zero, suc, _+_, _*_}
 use mathlib.Core.Bool.{Bool, true, false}
 use mathlib.Core.List.{List, [], _∷_, _++_, map}
@@ -94,18 +94,16 @@ unfoldable pub ranOf : List ℕ → List ℤ → List ℤ → List ℤ → ℕ �
 ranOf image input store output steps =
     runFrom tagged (programOf image) input steps 0 (fresh tagged (programOf image) store output)
 
--- "refusal, row of refusal, outcome, trap, HALT number, statement row, steps, read, written"
-unfoldable pub numbersOf : Ended Cell → RunResult
+-- "refusal, row of refusal, outcome, trap, HALT number, statement row, steps, read, written", with base and top
+unfoldable pub numbersOf : {X : Type 0} → Ended X → RunResult
 numbersOf e = record {
   refusal = 0;
   fault = 0;
   outcome = e .outcome;
   trap = e .trap;
   halt = e .halt;
-  row = e .state .at .row;
   steps = e .steps;
-  read = e .state .at .read;
-  written = e .state .at .written;
+  at = e .state .at;
 }
 
 -- "a refusal leaves store and output untouched, other results 0"
@@ -116,10 +114,8 @@ refusedWith q row = record {
   outcome = 0;
   trap = 0;
   halt = pos 0;
-  row = 0;
   steps = 0;
-  read = 0;
-  written = 0;
+  at = record { row = 0; base = 0; top = 0; read = 0; written = 0 };
 }
 
 unfoldable pub resultOf : List ℕ → List ℤ → List ℤ → List ℤ → ℕ → RunResult

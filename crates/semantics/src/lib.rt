@@ -2,12 +2,13 @@
 use values::Trap;
 
 // Where a run stands: the next statement, the newest frame and its end, and what was read and written.
+#[repr(C)]
 pub struct Registers {
     pub row: u32,
     pub base: u32,
     pub top: u32,
-    pub read: u32,
-    pub written: u32,
+    pub read: u64,
+    pub written: u64,
 }
 
 // An object: its first cell, the type it is used with, and its dynamic type.
@@ -30,7 +31,7 @@ pub enum Mark {
     Nothing,
 }
 
-// The nine numbers of a run; `fault` is the row of refusal.
+// The numbers of a run; `fault` is the row of refusal, `at` is where the run ended.
 #[repr(C)]
 pub struct RunResult {
     pub refusal: u32,
@@ -38,8 +39,6 @@ pub struct RunResult {
     pub outcome: u32,
     pub trap: u32,
     pub halt: i32,
-    pub row: u32,
     pub steps: u32,
-    pub read: u32,
-    pub written: u32,
+    pub at: Registers,
 }

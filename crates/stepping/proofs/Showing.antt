@@ -177,8 +177,6 @@ shows-row {s} {row = row} e is low base top = rw (e, is) (shows-goes {q = atRow 
   row = low;
   base = base;
   top = top;
-  read = omega arith;
-  written = omega arith;
 }))
 
 -- cells written below top, and cells that do not lie there
@@ -193,7 +191,7 @@ module _ (s : State ℤ) (a : ℕ) (new : List ℤ) where
   not-written h = choose-no _ _ _ (lt-leb (a + length new) (s .at .top) h)
 
 -- written, at the next row
-pub shows-written : {s q : Registers} {old cells output : List ℤ} (a : ℕ) (new : List ℤ) → Stands s old 1
+pub shows-written : {s q : Registers} {old cells output : List ℤ} (a : ℕ) (new : List ℤ) → Stands s old
     → s .row < 65536 → a + length new ≤ s .top → cells ≡ overwrite old a new → q ≡ atRow s (s .row + 1)
     → Shows (stateOf s old output) (written (stateOf s old output) a new) (Steps.Goes q) cells output
 unfolding following withCells
@@ -214,7 +212,7 @@ abbrev afterInput : Registers → Registers
 afterInput s = record { row = s .row + 1; base = s .base; top = s .top; read = s .read + 1; written = s .written }
 
 -- read into a cell below top
-pub shows-read : {s : Registers} {old cells output : List ℤ} (input : List ℤ) (a : ℕ) → Stands s old 1
+pub shows-read : {s : Registers} {old cells output : List ℤ} (input : List ℤ) (a : ℕ) → Stands s old
     → s .row < 65536 → a < s .top → SFits w32 (getD input (s .read) (pos 0))
     → cells ≡ overwrite old a (getD input (s .read) (pos 0) ∷ [])
     → Shows (stateOf s old output)
@@ -229,6 +227,4 @@ shows-read {s} {old} {cells} {output} input a stands low below fits is =
       row = omega arith;
       base = stands .base;
       top = rw kept (stands .top);
-      read = omega arith;
-      written = omega arith;
     }))

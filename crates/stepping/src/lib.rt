@@ -38,7 +38,7 @@ fn at_row(s: Registers, row: u32) -> Registers
 
 // Writes one cell at an address below top, and goes on.
 fn write_cell(store: &mut [i64], s: Registers, address: u32, z: i64) -> Step
-    requires { ⌜ Stands s (now store) 1 × (s .row < 65536) ⌝ }
+    requires { ⌜ Stands s (now store) × (s .row < 65536) ⌝ }
     ensures { λ x. ⌜ ((output : List ℤ) → Shows (stateOf s (now (store .entry)) output)
         (writtenTo (stateOf s (now (store .entry)) output) address (z ∷ [])) x (now (store .exit)) output) ⌝ }
 {
@@ -76,7 +76,7 @@ fn copy_object(
     target: Place,
     source: Place,
 ) -> Step
-    requires { ⌜ Ready (now (now image)) (now plan) × Stands s (now store) 1 × (s .row < 65536)
+    requires { ⌜ Ready (now (now image)) (now plan) × Stands s (now store) × (s .row < 65536)
         × Within (now (now image)) target × Within (now (now image)) source ⌝ }
     ensures { λ x. ⌜ ((output : List ℤ) → Shows (stateOf s (now (store .entry)) output)
         (copied bare (programOf (now (now (image .entry)))) (stateOf s (now (store .entry)) output) target source)
@@ -104,7 +104,7 @@ fn copy_object(
 }
 
 fn assign(image: &&[u8], plan: &Plan, store: &mut [i64], s: Registers, statement: Row) -> Step
-    requires { ⌜ Ready (now (now image)) (now plan) × Stands s (now store) 1 × (s .row < 65536) ⌝ }
+    requires { ⌜ Ready (now (now image)) (now plan) × Stands s (now store) × (s .row < 65536) ⌝ }
     ensures { λ x. ⌜ ((output : List ℤ) → Shows (stateOf s (now (store .entry)) output)
         (assigned bare (programOf (now (now (image .entry)))) (stateOf s (now (store .entry)) output) statement)
         x (now (store .exit)) output) ⌝ }
@@ -137,7 +137,7 @@ fn assign(image: &&[u8], plan: &Plan, store: &mut [i64], s: Registers, statement
 // ---- statement kinds 2 and 4
 
 fn jump(image: &&[u8], plan: &Plan, store: &[i64], s: Registers, statement: Row) -> Step
-    requires { ⌜ Ready (now (now image)) (now plan) × Stands s (now store) 1 × (s .row < 65536) ⌝ }
+    requires { ⌜ Ready (now (now image)) (now plan) × Stands s (now store) × (s .row < 65536) ⌝ }
     ensures { λ x. ⌜ ((output : List ℤ) → Shows (stateOf s (now (store .entry)) output)
         (jumped bare (programOf (now (now (image .entry)))) statement (stateOf s (now (store .entry)) output))
         x (now (store .entry)) output) ⌝ }
@@ -161,7 +161,7 @@ fn jump(image: &&[u8], plan: &Plan, store: &[i64], s: Registers, statement: Row)
 }
 
 fn give_back(image: &&[u8], plan: &Plan, store: &[i64], s: Registers) -> Step
-    requires { ⌜ Ready (now (now image)) (now plan) × Stands s (now store) 1
+    requires { ⌜ Ready (now (now image)) (now plan) × Stands s (now store)
         × (s .row < rowsOf (programOf (now (now image)) .statements)) ⌝ }
     ensures { λ x. ⌜ ((output : List ℤ) → Shows (stateOf s (now (store .entry)) output)
         (returned bare (programOf (now (now (image .entry)))) (stateOf s (now (store .entry)) output))
@@ -203,7 +203,7 @@ fn receive(
     s: Registers,
     statement: Row,
 ) -> Step
-    requires { ⌜ Ready (now (now image)) (now plan) × Stands s (now store) 1 × (s .row < 65536) ⌝ }
+    requires { ⌜ Ready (now (now image)) (now plan) × Stands s (now store) × (s .row < 65536) ⌝ }
     ensures { λ x. ⌜ ((output : List ℤ) → Shows (stateOf s (now (store .entry)) output)
         (received bare (programOf (now (now (image .entry)))) (now (input .entry)) statement
         (stateOf s (now (store .entry)) output)) x (now (store .exit)) output) ⌝ }
@@ -212,7 +212,6 @@ fn receive(
     let top = s.top;
     let next = s.row + 1;
     let read = s.read;
-    let more = read + 1;
     let written = s.written;
     let a = statement.a as u32;
     let found = finding::find_at(image, plan, store, base, top, a);
@@ -223,6 +222,7 @@ fn receive(
     if input.len() <= read as usize {
         return Step::Trapped(Trap::Input, 0);
     }
+    let more = read + 1;
     if top <= address {
         return Step::Stuck;
     }
@@ -245,7 +245,7 @@ fn send(
     s: Registers,
     statement: Row,
 ) -> Step
-    requires { ⌜ Ready (now (now image)) (now plan) × Stands s (now store) 1 × (s .row < 65536) ⌝ }
+    requires { ⌜ Ready (now (now image)) (now plan) × Stands s (now store) × (s .row < 65536) ⌝ }
     ensures { λ x. ⌜ Shows (stateOf s (now (store .entry)) (now (output .entry)))
         (sent bare (programOf (now (now (image .entry)))) statement
         (stateOf s (now (store .entry)) (now (output .entry)))) x (now (store .entry)) (now (output .exit)) ⌝ }
@@ -255,7 +255,6 @@ fn send(
     let next = s.row + 1;
     let read = s.read;
     let written = s.written;
-    let more = written + 1;
     let a = statement.a as u32;
     let answer = finding::eval_at(image, plan, store, base, top, a);
     let Answer::Val(value) = answer else {
@@ -267,6 +266,7 @@ fn send(
     if output.len() <= written as usize {
         return Step::Trapped(Trap::Output, 0);
     }
+    let more = written + 1;
     output[written as usize] = number;
     Step::Goes(Registers {
         row: next,
@@ -278,7 +278,7 @@ fn send(
 }
 
 fn halt(image: &&[u8], plan: &Plan, store: &[i64], s: Registers, statement: Row) -> Step
-    requires { ⌜ Ready (now (now image)) (now plan) × Stands s (now store) 1 ⌝ }
+    requires { ⌜ Ready (now (now image)) (now plan) × Stands s (now store) ⌝ }
     ensures { λ x. ⌜ ((output : List ℤ) → Shows (stateOf s (now (store .entry)) output)
         (halted bare (programOf (now (now (image .entry)))) statement (stateOf s (now (store .entry)) output))
         x (now (store .entry)) output) ⌝ }
@@ -306,7 +306,7 @@ pub fn step(
     output: &mut [i32],
     s: Registers,
 ) -> Step
-    requires { ⌜ Ready (now (now image)) (now plan) × Stands s (now store) 1 ⌝ }
+    requires { ⌜ Ready (now (now image)) (now plan) × Stands s (now store) ⌝ }
     ensures { λ x. ⌜ Shows (stateOf s (now (store .entry)) (now (output .entry)))
         (stepOf bare (programOf (now (now (image .entry)))) (now (input .entry))
         (stateOf s (now (store .entry)) (now (output .entry)))) x (now (store .exit)) (now (output .exit)) ⌝ }

@@ -1,12 +1,12 @@
-//! What a run returns. The model and the benchmark take this file too, so that the numbers are written down once.
+//! What a run returns. The model and the benchmark take this file too, so that the nine numbers are written down once.
 
 use std::fmt;
 
-/// What a run or a continuation gives back: `struct door_result` of `include/door.h`, in its order.
+/// The nine numbers of a run, and where its newest frame begins and ends: `struct door_result` of `include/door.h`.
 #[repr(C)]
 #[derive(Clone, Copy, Debug, Default, PartialEq, Eq)]
 pub struct Numbers {
-    /// 0, or why nothing was run: 1 to 14.
+    /// 0, or why nothing was run: 1 to 13.
     pub refusal: u32,
     /// The row of refusal.
     pub fault: u32,
@@ -16,13 +16,13 @@ pub struct Numbers {
     pub trap: u32,
     /// HALT's number with trap 10, else 0.
     pub halt: i32,
-    /// Steps taken, in the runs that were continued too.
+    /// Steps taken.
     pub steps: u32,
     /// The statement row: of the last step where it finished or trapped, else of the next.
     pub row: u32,
-    /// The top frame's first cell.
+    /// The cell where the newest frame begins; 0 in a refusal.
     pub base: u32,
-    /// The cell after the top frame's last.
+    /// The cell where it ends, the first that is not its own; 0 in a refusal.
     pub top: u32,
     /// Inputs read.
     pub read: u64,
@@ -31,11 +31,12 @@ pub struct Numbers {
 }
 
 impl Numbers {
-    /// Document 01's nine, in its order.
-    pub fn in_order(&self) -> [i64; 9] {
+    /// The nine, in document 01's order.
+    pub fn in_order(&self) -> [i128; 9] {
         let Numbers { refusal, fault, outcome, trap, halt, steps, row, read, written, .. } = *self;
-        let [refusal, fault, outcome, trap, row, steps] = [refusal, fault, outcome, trap, row, steps].map(i64::from);
-        [refusal, fault, outcome, trap, halt.into(), row, steps, read as i64, written as i64]
+        let [refusal, fault, outcome, trap] = [refusal, fault, outcome, trap].map(i128::from);
+        let [row, steps] = [row, steps].map(i128::from);
+        [refusal, fault, outcome, trap, halt.into(), row, steps, read.into(), written.into()]
     }
 }
 

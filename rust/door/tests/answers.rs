@@ -173,8 +173,10 @@ fn the_limits_are_those_of_the_header() {
 #[test]
 fn numbers_are_printed_in_order() {
     let (outcome, trap, halt) = (3, 4, -5);
-    let numbers =
-        Numbers { refusal: 1, fault: 2, outcome, trap, halt, steps: 7, row: 6, base: 10, top: 11, read: 8, written: 9 };
+    let (row, steps, base, top) = (6, 7, 10, 11);
+    let numbers = Numbers { refusal: 1, fault: 2, outcome, trap, halt, steps, row, base, top, read: 8, written: 9 };
     assert_eq!(numbers.in_order(), [1, 2, 3, 4, -5, 6, 7, 8, 9]);
     assert_eq!(numbers.to_string(), "1 2 3 4 -5 6 7 8 9");
+    let many = Numbers { read: u64::MAX, written: u64::MAX - 1, ..Numbers::default() };
+    assert_eq!(many.to_string(), "0 0 0 0 0 0 0 18446744073709551615 18446744073709551614");
 }

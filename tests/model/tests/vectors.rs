@@ -29,11 +29,11 @@ fn numbers<T: FromStr<Err: std::fmt::Debug>>(line: &str) -> Vec<T> {
 
 /// What `doorrun` prints of an image: "the first 29,714 bytes of standard input with no inputs, 8,192 cells, 4,096
 /// outputs, 100,000 steps".
-fn doorrun(image: &[u8]) -> Vec<i64> {
+fn doorrun(image: &[u8]) -> Vec<i128> {
     let image = &image[..image.len().min(29_714)];
     let mut output = [0; 4096];
     let answer = model::run(image, &[], &mut [0; 8192], &mut output, 100_000).unwrap();
-    let written = output[..answer.written as usize].iter().map(|&x| i64::from(x));
+    let written = output[..answer.written as usize].iter().map(|&x| i128::from(x));
     answer.in_order().into_iter().chain(written).collect()
 }
 
@@ -46,7 +46,7 @@ fn doorrun_folder(name: &str) {
     while let Some(name) = lines.next() {
         let mut expected = Vec::new();
         while let Some(line) = lines.next_if(|line| !line.ends_with(".img")) {
-            expected.extend(numbers::<i64>(line));
+            expected.extend(numbers::<i128>(line));
         }
         assert_eq!(doorrun(&image(&folder, name)), expected, "{name}");
         count += 1;
@@ -104,7 +104,7 @@ fn runs_folder(name: &str) {
             let mut store = vec![fill; cells as usize];
             let mut output = vec![7; places as usize];
             let answer = run(&image(&folder, name), &input, &mut store, &mut output, steps as u32).unwrap();
-            assert_eq!(answer.in_order()[..], numbers::<i64>(parts[2])[..], "{name}");
+            assert_eq!(answer.in_order()[..], numbers::<i128>(parts[2])[..], "{name}");
             assert_eq!(output, numbers::<i32>(parts[3]), "{name}");
             assert_eq!(store, numbers::<i64>(parts[4]), "{name}");
         }

@@ -5,28 +5,32 @@ use native.Mathlib.Omega.{arith}
 use denote.Ref.{now}
 use Rattle.semantics.specs.Running.{programOf}
 use Rattle.calling.specs.Showing.{stateOf}
-use Rattle.machine.proofs.Along.{stands-less, Along, along-start, along-more, along-last, along-out, shows-going}
+use Rattle.machine.proofs.Along.{Along, along-start, along-more, along-last, along-out, shows-going}
 use Rattle.machine.proofs.advance.Statement.{statement}
 use Rattle.machine.proofs.advance.Tie as tie
 use Rattle.machine.proofs.advance.Reads as reads
 use Rattle.machine.proofs.advance.Lts as lts
+use Rattle.machine.proofs.ended.Reads as ended-reads
 use Rattle.machine.proofs.stop_by.Reads as stop-by-reads
 use Rattle.stepping.proofs.step.Reads as step-reads
 
 abbrev Inv-loop : tie.InvT-loop
-Inv-loop image plan input store₀ output₀ n s₀ k₀ store output s k = Along (programOf (now image)) input n (stateOf s₀ store₀ output₀) (stateOf s store output) k
+Inv-loop image plan input store₀ output₀ done n end s₀ k₀ store output s k = Along (programOf (now image)) input n done (stateOf s₀ store₀ output₀) (stateOf s store output) k
 
 abbrev μ-loop : tie.MeasureT-loop
-μ-loop image plan input store₀ output₀ n s₀ k₀ store output s k = n - k
+μ-loop image plan input store₀ output₀ done n end s₀ k₀ store output s k = end - k
+
+add-end : tie.Need-add-end Inv-loop μ-loop
+add-end c = search needs
 
 loop-holds : tie.Need-loop-holds Inv-loop μ-loop
-loop-holds c = along-start _ _ _ _ (c .pre .1)
+loop-holds c = along-start _ _ _ _ _ (c .pre .1)
 
 step-requires : tie.Need-step-requires Inv-loop μ-loop
-step-requires c κs = (c .before .before .before .before .pre .0, stands-less (omega (arith, c .before .before .loop-test .taken)) (c .before .before .before .loop .inv .stands))
+step-requires c κs = (c .before .before .before .before .pre .0, c .before .before .before .loop .inv .stands)
 
-add-done : tie.Need-add-done Inv-loop μ-loop
-add-done c = omega (arith, c .before .before .before .before .before .before .loop .inv .few)
+add-count : tie.Need-add-count Inv-loop μ-loop
+add-count c = omega (arith, c .before .before .before .before .before .before .loop .inv .few)
 
 enum-known-next : tie.Need-enum-known-next Inv-loop μ-loop
 enum-known-next c = search needs
@@ -50,14 +54,17 @@ loop-again : tie.Need-loop-again Inv-loop μ-loop
 loop-again c = let shown = shows-going (rw (c .before .next .given .1) at (c .before .before .before .before .before .step .ensures)) in
     along-more _ _ (c .before .before .before .before .before .before .before .before .before .loop .inv) (c .before .before .before .before .before .before .before .before .loop-test .taken) (shown .0) (shown .1) (c .before .before .before .before .before .step .kept .1 .1 .1 .0) (c .before .before .before .before .before .step .kept .1 .1 .1 .1 .0)
 
+ended-requires : tie.Need-ended-requires Inv-loop μ-loop
+ended-requires c κs = search needs
+
 same-length-3 : tie.Need-same-length-3 Inv-loop μ-loop
-same-length-3 c = c .before .loop .inv .cells-kept
+same-length-3 c = c .before .before .loop .inv .cells-kept
 
 same-length-4 : tie.Need-same-length-4 Inv-loop μ-loop
-same-length-4 c = c .before .loop .inv .output-kept
+same-length-4 c = c .before .before .loop .inv .output-kept
 
 returns-2 : tie.Need-returns-2 Inv-loop μ-loop
-returns-2 c = along-out _ _ (c .before .loop .inv) (c .loop-test .left)
+returns-2 c = rw (c .ended .ensures) (along-out _ _ (c .before .before .loop .inv) (c .before .loop-test .left))
 
 pub advance-spec : {M : Type 1} → statement M
 advance-spec =
@@ -65,9 +72,10 @@ advance-spec =
     (tie.spec
     Inv-loop
     μ-loop
+    add-end
     loop-holds
     step-requires
-    add-done
+    add-count
     enum-known-next
     stop-by-requires
     same-length
@@ -75,6 +83,7 @@ advance-spec =
     returns
     loop-less
     loop-again
+    ended-requires
     same-length-3
     same-length-4
     returns-2)

@@ -13,7 +13,6 @@ use Rattle.access.proofs.open_image.Reads as open-image-reads
 use Rattle.cells.proofs.zero.Reads as zero-reads
 use Rattle.machine.proofs.advance.Reads as advance-reads
 use Rattle.machine.proofs.first_top.Reads as first-top-reads
-use Rattle.machine.proofs.numbers.Reads as numbers-reads
 use Rattle.machine.proofs.refused.Reads as refused-reads
 use Rattle.machine.proofs.refused_by.Reads as refused-by-reads
 
@@ -83,11 +82,9 @@ advance-requires c κs =
       opened-ready _ _ _ _ (omega arith) (few .before .enum-told .given .1) (sym (opened .0)) (opened .1),
       fresh-stands _ (now (start .args .store)) _ (room .before .before .before .before .global-room .ensures)
           (room .before .first-top .ensures) (room .if2 .left) (few .if1 .left)
-          (c .before .before .before .before .before .zero .kept .0) (start .fits .steps .fits),
+          (c .before .before .before .before .before .zero .kept .0),
+      omega (arith, start .fits .steps .fits),
     )
-
-numbers-requires : tie.Need-numbers-requires
-numbers-requires c κs = search needs
 
 same-length : tie.Need-same-length
 same-length c = search needs
@@ -97,16 +94,16 @@ same-length-2 c = search needs
 
 returns-4 : tie.Need-returns-4
 returns-4 c =
-    let room = c .before .before .before .before .before .before .before .before .before .before .before in
+    let room = c .before .before .before .before .before .before .before .before .before .before in
     let few = room .before .before .before .before .before .before .before in
     let told = few .before .enum-told .given .1 in
     let accepted = sym (few .before .before .before .before .open-image .ensures .0) ∙ told in
     let bytes = few .before .before .before .before .before .before .shared-slice-known .given in
     let gives = gives-run _ _ _ _ _ accepted (few .if1 .left) (λ i. omega (arith, bytes i))
     (room .before .before .before .before .global-room .ensures) (room .before .first-top .ensures) (room .if2 .left)
-    (c .before .before .before .before .before .before .before .before .before .zero .ensures)
-    (c .before .before .before .advance .ensures) in
-    (c .numbers .ensures ∙ gives .result, (gives .left, gives .sent))
+    (c .before .before .before .before .before .before .before .before .zero .ensures)
+    (c .before .before .advance .ensures) in
+    (gives .result, (gives .left, gives .sent))
 
 pub run-spec : {M : Type 1} → statement M
 run-spec =
@@ -127,7 +124,6 @@ run-spec =
     returns-3
     zero-requires
     advance-requires
-    numbers-requires
     same-length
     same-length-2
     returns-4)

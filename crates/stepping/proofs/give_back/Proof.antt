@@ -81,8 +81,6 @@ returns-4 c = λ output.
       row = omega (arith, second .before .known-told .given);
       base = omega (arith, c .known-told2 .given);
       top = omega (arith, below, start .pre .1 .top);
-      read = omega arith;
-      written = omega arith;
     })))))
 
 pub give-back-spec : {M : Type 1} → statement M

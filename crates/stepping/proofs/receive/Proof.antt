@@ -19,9 +19,6 @@ use Rattle.stepping.proofs.receive.Tie as tie
 add-next : tie.Need-add-next
 add-next c = search needs
 
-add-more : tie.Need-add-more
-add-more c = search needs
-
 cast-a : tie.Need-cast-a
 cast-a c = search needs
 
@@ -46,9 +43,6 @@ returns c = λ output.
     shows-lost-place _ (c .before .before .before .find-at .ensures) (c .before .before .match .keys2)
     (c .before .lost-place .ensures) (c .ended-by .ensures)
 
-cast-if1 : tie.Need-cast-if1
-cast-if1 c = search needs
-
 same-length-2 : tie.Need-same-length-2
 same-length-2 c = search needs
 
@@ -57,6 +51,9 @@ unfolding received
 returns-2 c = λ output.
     shows-place _ (c .before .before .before .before .find-at .ensures) (c .before .before .found .given .1)
     (shows-no _ (le-ltb _ _ (c .if1 .taken)) (shows-trap refl refl))
+
+add-more : tie.Need-add-more
+add-more c = search needs
 
 same-length-3 : tie.Need-same-length-3
 same-length-3 c = search needs
@@ -69,17 +66,14 @@ returns-3 c = λ output.
     (shows-yes _ (lt-ltb _ _ (c .before .if1 .left))
     (shows-by (ap afterRead (not-written _ _ _ (omega arith))) (shows-stuck refl refl)))
 
-cast-number : tie.Need-cast-number
-cast-number c = search needs
-
 mul-number : tie.Need-mul-number
 mul-number c = search needs
 
 shared-slice-copy-out-number : tie.Need-shared-slice-copy-out-number
 shared-slice-copy-out-number c = search needs
 
-cast-number-2 : tie.Need-cast-number-2
-cast-number-2 c =
+cast-number : tie.Need-cast-number
+cast-number c =
     let start = c .before .before .before .before .before .before .before .before .before .before in
     let fits : SFits w32 (getD (now (start .args .input)) (start .args .s .read) (pos 0)) = search needs in
     cast-fits _ fits
@@ -107,7 +101,6 @@ receive-spec =
     tie.close
     (tie.spec
     add-next
-    add-more
     cast-a
     find-at-requires
     enum-known-found
@@ -115,15 +108,14 @@ receive-spec =
     ended-by-requires
     same-length
     returns
-    cast-if1
     same-length-2
     returns-2
+    add-more
     same-length-3
     returns-3
-    cast-number
     mul-number
     shared-slice-copy-out-number
-    cast-number-2
+    cast-number
     put-requires
     same-length-4
     returns-4)

@@ -16,9 +16,6 @@ use Rattle.stepping.proofs.send.Tie as tie
 add-next : tie.Need-add-next
 add-next c = search needs
 
-add-more : tie.Need-add-more
-add-more c = search needs
-
 cast-a : tie.Need-cast-a
 cast-a c = search needs
 
@@ -49,9 +46,6 @@ returns-2 c =
     shows-value _ (c .before .before .before .before .eval-at .ensures) (c .before .before .answer .given .1)
     (shows-no-integer _ _ (c .match2 .keys2))
 
-cast-if1 : tie.Need-cast-if1
-cast-if1 c = search needs
-
 returns-3 : tie.Need-returns-3
 unfolding sent
 returns-3 c =
@@ -60,8 +54,8 @@ returns-3 c =
     (shows-integer _ (c .before .before .value .given .1)
     (shows-no _ (le-ltb _ _ (c .if1 .taken)) (shows-trap refl refl)))
 
-cast-number : tie.Need-cast-number
-cast-number c = search needs
+add-more : tie.Need-add-more
+add-more c = search needs
 
 mul-number : tie.Need-mul-number
 mul-number c = search needs
@@ -85,8 +79,6 @@ returns-4 c =
       row = omega (arith, start .pre .2);
       base = start .pre .1 .base;
       top = start .pre .1 .top;
-      read = omega arith;
-      written = omega arith;
     })))))
 
 pub send-spec : {M : Type 1} → statement M
@@ -94,7 +86,6 @@ send-spec =
     tie.close
     (tie.spec
     add-next
-    add-more
     cast-a
     eval-at-requires
     enum-known-answer
@@ -103,9 +94,8 @@ send-spec =
     returns
     enum-known-value
     returns-2
-    cast-if1
     returns-3
-    cast-number
+    add-more
     mul-number
     slice-set-from-number
     same-length
