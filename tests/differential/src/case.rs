@@ -125,8 +125,7 @@ impl Case {
         let last = whole.numbers.steps as usize - usize::from(whole.numbers.outcome > 0);
         let steps = self.random.between(0, last) as u32;
         let cut = compare::proved(&self.image, &Surroundings { steps, ..lent.clone() }, None)?;
-        let left = lent.steps - steps;
-        self.continue_parts(sight, lent, left, &cut, whole, counts, watcher)?;
+        self.continue_parts(sight, lent, &cut, whole, counts, watcher)?;
         for _ in 0..self.random.weighted(&DAMAGED) {
             let After { numbers: from, store, output } = cut.clone();
             let steps = few_steps(&mut self.random);
@@ -139,17 +138,16 @@ impl Case {
     }
 
     /// Continues a run that was cut, in one part or several.
-    #[allow(clippy::too_many_arguments)]
     fn continue_parts(
         &mut self,
         sight: &Sight,
         lent: &Surroundings,
-        mut left: u32,
         cut: &After,
         whole: &After,
         counts: &mut Counts,
         watcher: Watcher,
     ) -> Result<(), String> {
+        let mut left = lent.steps - cut.numbers.steps;
         let mut after = cut.clone();
         while after.numbers.outcome == 0 {
             let After { numbers: from, store, output } = after;

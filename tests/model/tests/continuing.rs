@@ -94,8 +94,10 @@ impl Given {
     }
 }
 
+type Damage = fn(&mut Given);
+
 /// With some damages 14 passes, with the others it refuses.
-fn ask(given: &Given, passed: &[(&str, fn(&mut Given))], refused: &[(&str, fn(&mut Given))]) {
+fn ask(given: &Given, passed: &[(&str, Damage)], refused: &[(&str, Damage)]) {
     assert_eq!(given.refusal(), 0);
     for (what, damage) in passed {
         assert_eq!(given.but(damage).refusal(), 0, "{what}");
@@ -235,7 +237,7 @@ fn r1_6_counts() {
             ("the largest count", |g| g.from.written = u64::MAX),
         ],
     );
-    let trap = |damage: fn(&mut Given)| given.but(damage).go().trap;
+    let trap = |damage: Damage| given.but(damage).go().trap;
     assert_eq!(trap(|g| (g.from.row, g.from.read, g.steps) = (6, 3, 1)), 8);
     assert_eq!(trap(|g| (g.from.row, g.from.written, g.steps) = (7, 3, 1)), 9);
 }
@@ -451,7 +453,7 @@ fn r1_20_and_21_only_declared_types_are_asked() {
 }
 
 /// Damages to the state with two frames of procedure 1, and the rule that is reported for each.
-const REASONS: &[(&Rule, fn(&mut Given))] = &[
+const REASONS: &[(&Rule, Damage)] = &[
     (&rules::EARLIER_REFUSAL, |g| g.from.refusal = 13),
     (&rules::EARLIER_FAULT, |g| g.from.fault = 1),
     (&rules::EARLIER_OUTCOME, |g| g.from.outcome = 1),
