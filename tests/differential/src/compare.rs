@@ -8,6 +8,8 @@ use model::{Broken, Fault, Program};
 const BESIDE: usize = 4;
 const CELL_BESIDE: i64 = 0x5A5A_A5A5_1234_4321;
 const PLACE_BESIDE: i32 = 0x5AA5_1234;
+/// So many cells are told of where a continuation differs.
+const MOST_TOLD: usize = 400;
 
 /// What a run or continuation gave back and left.
 #[derive(Clone, Debug, PartialEq, Eq)]
@@ -75,8 +77,11 @@ pub fn continued_image(image: &[u8], lent: &Surroundings, from: &door::Numbers) 
     same(image, lent, Some(from), model).map_err(|what| told(lent, from, &what))
 }
 
+/// With the cells below top, where they are not too many to read.
 fn told(lent: &Surroundings, from: &door::Numbers, what: &str) -> String {
-    format!("continued with {} from {from:?}: {what}", lent.told())
+    let cells = &lent.store[..lent.store.len().min(from.top as usize)];
+    let cells = if cells.len() <= MOST_TOLD { format!(" and the cells {cells:?}") } else { String::new() };
+    format!("continued with {} from {from:?}{cells}: {what}", lent.told())
 }
 
 /// Both sides on the same that is lent. The model gives its numbers, and why it refuses.

@@ -18,7 +18,8 @@ pub fn given(random: &mut Random, sight: &Sight, mut lent: Surroundings) -> Opti
     let last = frames.last()?;
     let (base, top) = (last.base, sight.end(last));
     let more = random.weighted(&[(2, 0), (1, 1), (3, 30), (4, 300)]);
-    lent.store.resize(if full { FULL } else { top + more }, 3);
+    let above = *random.pick(&[0, -1, 3, i64::MIN, 1 << 32]);
+    lent.store.resize(if full { FULL } else { top + more }, above);
     write_links(sight, &frames, &mut lent.store, random);
     for (cell, kind) in sight.scalars(&sight.all(&frames)) {
         lent.store[cell] = some_value(random, kind);
