@@ -3,6 +3,7 @@
 use crate::frames::{Frame, Given, Sight, Variable};
 use crate::random::Random;
 use crate::surroundings::Surroundings;
+use model::program::ASSIGN;
 use model::types::Kind;
 
 /// A frame beyond this cell ends the row of frames: mostly, and in states that fill the largest store.
@@ -25,8 +26,7 @@ pub fn given(random: &mut Random, sight: &Sight, mut lent: Surroundings) -> Opti
         lent.store[cell] = some_value(random, kind);
     }
     write_var_parameters(random, sight, &frames, &mut lent.store);
-    let row = random.between(0, sight.program.body(last.procedure).len() - 1);
-    let row = sight.program.body(last.procedure).start + row;
+    let row = row(random, sight, last.procedure);
     let [read, written] = [lent.input.len(), lent.output.len()].map(|length| count(random, length));
     let steps = match random.below(4) {
         0 => 0,
@@ -37,6 +37,20 @@ pub fn given(random: &mut Random, sight: &Sight, mut lent: Surroundings) -> Opti
     let [row, base, top] = [row, base, top].map(|number| number as u32);
     let from = door::Numbers { row, base, top, read, written, steps, ..door::Numbers::default() };
     Some(Given { lent, from })
+}
+
+/// Any row of the body; often one that assigns a record, since that asks for dynamic types.
+fn row(random: &mut Random, sight: &Sight, procedure: usize) -> usize {
+    let Sight { program, .. } = sight;
+    let assigns = |s: &usize| {
+        let statement = program.statements[*s];
+        statement.kind == ASSIGN && program.is_record(program.type_of(statement.a()))
+    };
+    let rows: Vec<usize> = program.body(procedure).filter(assigns).collect();
+    match random.any(&rows) {
+        Some(row) if random.chance(500) => row,
+        _ => program.body(procedure).start + random.below(program.body(procedure).len()),
+    }
 }
 
 /// Of a list of that length.
