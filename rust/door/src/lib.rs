@@ -435,7 +435,7 @@ pub fn check_number(image: &[u8]) -> u32 {
     unsafe { raw::door_check(image.as_ptr(), image.len()) }
 }
 
-/// The run's nine numbers as firmware gets them. [`run`] gives them names.
+/// The run's numbers as firmware gets them. [`run`] gives them names.
 ///
 /// ```
 /// let numbers = door::run_numbers(&[2], &[], &mut [], &mut [], 100);

@@ -1,4 +1,4 @@
-//! What a run returns. The model and the benchmark take this file too, so that the nine numbers are written down once.
+//! What a run returns. The model and the benchmark take this file too, so that they are written down once.
 
 use std::fmt;
 
