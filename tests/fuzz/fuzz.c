@@ -255,13 +255,18 @@ static void unend(struct door_result *result) {
     result->halt = 0;
 }
 
-/* What is lent to a continue, for another model. */
-static void note_case(const uint8_t *data, size_t head, const struct lent *given, const struct left *from) {
+/* What is lent to a continue, and what it came to, for another model. Counts of 64 bits, which no list has, are left
+ * out. */
+static void note_case(const uint8_t *data, size_t head, const struct lent *given, const struct left *from,
+                      const struct left *left) {
     const uint8_t *image = data + head;
     int32_t input[MOST_INPUTS];
+    if (from->result.read > INT64_MAX || from->result.written > INT64_MAX)
+        return;
     memcpy(input, data + HEAD, 4 * given->inputs);
     write_case(&(struct continued){image, given->image, input, given->inputs, from->store, given->cells, from->output,
                                    given->places, given->steps, from->result});
+    write_answer(left->result, left->store, given->cells, left->output, given->places);
 }
 
 /* Of a continue that was not refused. */
@@ -307,7 +312,6 @@ static void promised_of_foreign(const uint8_t *data, size_t head, const struct l
     unend(&from->result);
     for (int i = 0; i < DAMAGES; i++)
         damage(data + DAMAGE + 4 * i, given, from);
-    note_case(data, head, given, from);
     passed = passes(given, from);
     PROMISED(!passed || (from->result.outcome == 0 && from->result.trap == 0 && from->result.halt == 0));
     PROMISED(!passed || (from->result.read <= given->inputs && from->result.written <= given->places));
@@ -316,7 +320,7 @@ static void promised_of_foreign(const uint8_t *data, size_t head, const struct l
     put_back(BEHIND_GUARD, given, from);
     left->result = go_on(BEHIND_GUARD, given, given->steps, from->result);
     take_out(BEHIND_GUARD, given, left);
-    write_answer(left->result, left->store, given->cells, left->output, given->places);
+    note_case(data, head, given, from, left);
     PROMISED(same_result(left->result, other));
     PROMISED(is_memory(BEFORE_GUARD, given, left));
     PROMISED((left->result.refusal == 0) == (passed && from->result.steps <= UINT32_MAX - given->steps));

@@ -104,9 +104,8 @@ fn expect(name: &str, lent: &Lent, answer: &Answer, lines: &[&str]) {
     assert_eq!(answer.output, output, "{name}");
 }
 
-#[test]
-fn cr1() {
-    let file = Path::new(env!("CARGO_MANIFEST_DIR")).join("../../vectors/requests/cr1.txt");
+/// Every case of a file. Gives the number of calls.
+fn cases(file: &Path) -> usize {
     let text = std::fs::read_to_string(file).unwrap();
     let lines: Vec<&str> = text.lines().filter(|line| !line.is_empty() && !line.starts_with('#')).collect();
     let mut image = vec![];
@@ -123,5 +122,19 @@ fn cr1() {
         }
     }
     assert_eq!(calls, lines.iter().filter(|line| line.starts_with("call ")).count());
-    assert_eq!(calls, 875);
+    calls
+}
+
+#[test]
+fn cr1() {
+    let file = Path::new(env!("CARGO_MANIFEST_DIR")).join("../../vectors/requests/cr1.txt");
+    assert_eq!(cases(&file), 875);
+}
+
+/// The file that REQUESTS names, as one that `tests/fuzz/run --cases` writes; its answers are the engine's.
+#[test]
+#[ignore]
+fn another_file() {
+    let file = std::env::var("REQUESTS").expect("REQUESTS names a file");
+    println!("{file}: {} calls", cases(Path::new(&file)));
 }
