@@ -1,5 +1,6 @@
 /* A door reader's main loop: it keeps an image in force, takes a new one only where the check accepts it and the store
- * suits it, and asks the program about each fob. Build it from the top of the repository:
+ * suits it, and asks the program about each fob. A program gets its steps in slices; between two of them the reader
+ * looks at the latch, and may lose its power. Build it from the top of the repository:
  *
  *     gcc -std=c11 -O2 -Wall -Wextra -Wpedantic -Werror -I include -o target/firmware examples/firmware.c \
  *         target/staticlib/libdoor.a
@@ -9,6 +10,8 @@
  *
  *     image FILE     a new image has come; it is checked, and replaces the old one where it is accepted
  *     1234 19800     a fob: the numbers that the program reads, here card and day
+ *     between WORDS  what happens between the slices of the next fob, a word before each: 0 or 1, the latch shows this
+ *                    from now on; power, the power fails and comes back; fault, the same, and a saved link has changed
  *     steps N        configuration: at most so many steps a fob
  *     cells N        configuration: so many cells of the store are lent
  *     fault N        byte N of the image in force is inverted, as by a fault of the memory
@@ -24,9 +27,10 @@
 #ifndef READER_CELLS
 #define READER_CELLS 1024 /* cells of 8 bytes: the globals and the frames of the calls have to fit */
 #endif
-#define READER_INPUTS 8    /* numbers that a fob gives at most */
+#define READER_INPUTS 8    /* numbers that a program may read for a fob: the fob's, then the latch's */
 #define READER_OUTPUTS 4   /* numbers that a program may write for a fob */
 #define READER_STEPS 10000 /* steps for a fob, unless configured */
+#define READER_SLICE 100   /* steps between two looks at the outside */
 
 #define ANSWER_OPEN 1 /* the first output that opens the door */
 
@@ -35,6 +39,8 @@
 static void show(const char *text);
 static void show_number(int64_t number);
 static void open_door(void);
+static int32_t latch(void);     /* what the latch shows, 0 or 1 */
+static void look_outside(void); /* what else a reader does between two slices; the power may fail here */
 
 /* ---- the core */
 
@@ -46,8 +52,17 @@ static uint8_t images[2][IMAGE_BYTES];
 static size_t in_force;        /* which of the two */
 static size_t in_force_length; /* its bytes; 0 before the first image has come */
 
-static int64_t store[READER_CELLS];
-static int32_t output[READER_OUTPUTS];
+/* A run, with all that it needs to go on. It is kept from slice to slice, and saved whole where the power may fail; the
+ * image in force belongs to it too. */
+static struct run {
+    struct door_result result; /* the newest that was not refused */
+    int64_t store[READER_CELLS];
+    int32_t output[READER_OUTPUTS];
+    int32_t input[READER_INPUTS];
+    size_t inputs; /* so many there are: the list grows from slice to slice */
+    size_t of_fob; /* so many of them the fob gave */
+} run;
+
 static size_t lent_cells = READER_CELLS;
 static uint32_t lent_steps = READER_STEPS;
 
@@ -57,6 +72,7 @@ static struct {
     uint32_t steps_used_up;
     uint32_t trapped;
     uint32_t refused;
+    uint32_t begun_afresh;
 } counts;
 
 static const char *refusal_text(uint32_t refusal) {
@@ -87,6 +103,8 @@ static const char *refusal_text(uint32_t refusal) {
         return "more cells lent than a run takes";
     case DOOR_REFUSED_STORE_BELOW:
         return "fewer cells lent than the program begins with";
+    case DOOR_REFUSED_STATE:
+        return "a state that cannot be gone on from";
     default:
         return "a number that door.h does not have";
     }
@@ -131,10 +149,10 @@ static void show_refusal(uint32_t refusal, uint32_t row) {
 /* Where the next image is to be put, IMAGE_BYTES at most. */
 static uint8_t *receive_buffer(void) { return images[1U - in_force]; }
 
-/* Whether the store suits an image that the check accepts: 0, 12 or 13. A run of no steps asks it, and runs nothing. */
+/* Whether the store suits an image that the check accepts: 0, 12 or 13. A run of no steps asks it, and runs nothing;
+ * but it clears cells of the store, so that no run may be waiting in it. */
 static uint32_t store_refusal(const uint8_t *image, size_t length) {
-    static const int32_t no_input[1] = {0};
-    return door_run(image, length, no_input, 0, store, lent_cells, output, READER_OUTPUTS, 0).refusal;
+    return door_run(image, length, run.input, 0, run.store, lent_cells, run.output, READER_OUTPUTS, 0).refusal;
 }
 
 /* An image of so many bytes has come. Where it is refused, the old one stays in force. */
@@ -172,7 +190,7 @@ static void on_refusal(const struct door_result *result) {
 }
 
 static void on_finished(const struct door_result *result) {
-    if ((result->written >= 1U) && (output[0] == ANSWER_OPEN)) {
+    if ((result->written >= 1U) && (run.output[0] == ANSWER_OPEN)) {
         counts.opened++;
         open_door();
         show("open");
@@ -231,16 +249,71 @@ static void on_result(const struct door_result *result) {
     }
 }
 
-/* A fob is at the reader. `input` is not null, also where `count` is 0. */
+/* Steps of the next slice, after so many: all slices together are at most those of a fob. */
+static uint32_t slice_after(uint32_t done) {
+    const uint32_t left = (done < lent_steps) ? (lent_steps - done) : 0U;
+    return (left < READER_SLICE) ? left : READER_SLICE;
+}
+
+static bool is_waiting(void) {
+    return (run.result.refusal == DOOR_ACCEPTED) && (run.result.outcome == DOOR_STEPS_USED_UP) &&
+           (slice_after(run.result.steps) > 0U);
+}
+
+/* The first slice, from the fresh state, with the fob's numbers alone. */
+static void first_slice(void) {
+    run.inputs = run.of_fob;
+    run.result = door_run(images[in_force], in_force_length, run.input, run.inputs, run.store, lent_cells, run.output,
+                          READER_OUTPUTS, slice_after(0));
+}
+
+/* One slice more. Before it the input grows by what the latch shows, where the program has read all there was. */
+static void next_slice(void) {
+    struct door_result next;
+    if ((run.result.read == run.inputs) && (run.inputs < READER_INPUTS)) {
+        run.input[run.inputs] = latch();
+        run.inputs++;
+    }
+    next = door_continue(images[in_force], in_force_length, run.input, run.inputs, run.store, lent_cells, run.output,
+                         READER_OUTPUTS, slice_after(run.result.steps), run.result);
+    if (next.refusal == DOOR_REFUSED_STATE) { /* what was kept is not what a slice left: nothing to go on from */
+        counts.begun_afresh++;
+        show("refused: ");
+        show_refusal(next.refusal, next.fault);
+        show("; begun afresh; ");
+        first_slice();
+    } else { /* another refusal ends the run: the image in force has changed, or what is lent */
+        run.result = next;
+    }
+}
+
+/* The power is back, and this was saved. Of the lengths, which are the reader's own, the reader asks itself that they
+ * are lengths; of all else door_continue asks what it needs. Neither sees a number that has become another good one:
+ * where that matters, save a checksum too. */
+static void power_is_back(const struct run *saved) {
+    run = *saved;
+    if ((run.inputs > READER_INPUTS) || (run.of_fob > run.inputs)) {
+        run.inputs = 0;
+        run.of_fob = 0;
+    }
+}
+
+/* A fob is at the reader. `input` is not null, also where `count` is 0; it is at most READER_INPUTS. */
 static void fob_seen(const int32_t *input, size_t count) {
-    struct door_result result;
     if (in_force_length == 0U) {
         show("shut: there is no image yet\n");
         return;
     }
-    result = door_run(images[in_force], in_force_length, input, count, store, lent_cells, output, READER_OUTPUTS,
-                      lent_steps);
-    on_result(&result);
+    for (size_t i = 0; i < count; i++) {
+        run.input[i] = input[i];
+    }
+    run.of_fob = count;
+    first_slice();
+    while (is_waiting()) {
+        look_outside();
+        next_slice();
+    }
+    on_result(&run.result);
 }
 
 static void show_count(const char *text, uint32_t count) {
@@ -254,6 +327,7 @@ static void show_counts(void) {
     show_count(", steps used up ", counts.steps_used_up);
     show_count(", trapped ", counts.trapped);
     show_count(", refused ", counts.refused);
+    show_count(", begun afresh ", counts.begun_afresh);
     show("\n");
 }
 
@@ -269,6 +343,36 @@ static void show(const char *text) { (void)fputs(text, stdout); }
 static void show_number(int64_t number) { (void)printf("%lld", (long long)number); }
 
 static void open_door(void) {} /* the bolt */
+
+static int32_t latch_shows;
+static const char *between = ""; /* words of the event that are left */
+
+static int32_t latch(void) { return latch_shows; }
+
+/* Everything that is not saved is lost. */
+static void power_fails(bool with_fault) {
+    static struct run saved;
+    saved = run;
+    if (with_fault) {
+        saved.store[saved.result.base] ^= 64;
+    }
+    memset(&run, 0xa5, sizeof run);
+    power_is_back(&saved);
+}
+
+static bool is_event(const char *line, const char *name) { return strncmp(line, name, strlen(name)) == 0; }
+
+static void look_outside(void) {
+    if ((*between == '0') || (*between == '1')) {
+        latch_shows = *between - '0';
+    } else if (is_event(between, "power") || is_event(between, "fault")) {
+        power_fails(*between == 'f');
+    } else {
+        return; /* nothing more happens */
+    }
+    between += strcspn(between, " ");
+    between += strspn(between, " ");
+}
 
 /* The image comes from a file. */
 static bool image_event(const char *name) {
@@ -324,12 +428,25 @@ static bool setting_of(const char *text, long last, long *number) {
     return numbers_of(text, 0, last, number, 1, &count) && (count == 1U);
 }
 
-static bool is_event(const char *line, const char *name) { return strncmp(line, name, strlen(name)) == 0; }
+/* Its words are kept until the next fob has been asked about. */
+static bool between_event(const char *words) {
+    static char kept[256];
+    if ((strlen(words) >= sizeof kept) || (strspn(words, " 01powerfault") != strlen(words))) {
+        return false;
+    }
+    between = strcpy(kept, words);
+    latch_shows = 0;
+    show("set\n");
+    return true;
+}
 
 static bool event(const char *line) {
     long number;
     if (is_event(line, "image ")) {
         return image_event(line + 6);
+    }
+    if (is_event(line, "between ")) {
+        return between_event(line + 8);
     }
     if (is_event(line, "steps ") && setting_of(line + 6, UINT32_MAX, &number)) {
         lent_steps = (uint32_t)number;

@@ -1,5 +1,5 @@
 /* The engine without a C library: this file has the one function that libdoor.a needs. Build it from the top of the
- * repository, for Linux on x86-64; it exits 0 where check and run answer as they should:
+ * repository, for Linux on x86-64; it exits 0 where check, run and continue answer as they should:
  *
  *     gcc -std=c11 -O2 -Wall -Wextra -Werror -ffreestanding -fno-tree-loop-distribute-patterns -nostdlib -static \
  *         -I include -o target/freestanding examples/freestanding.c target/staticlib/libdoor.a
@@ -21,8 +21,9 @@ static int answers(void) {
     static int64_t store[CELLS];
     static int32_t output[1];
     static const int32_t input[1];
+    const struct door_result fresh = door_run(smallest, sizeof smallest, input, 0, store, CELLS, output, 0, 0);
     const struct door_result result =
-        door_run(smallest, sizeof smallest, input, 0, store, CELLS, output, 0, 100);
+        door_continue(smallest, sizeof smallest, input, 0, store, CELLS, output, 0, 100, fresh);
     return door_check(smallest, sizeof smallest) == DOOR_ACCEPTED && result.refusal == DOOR_ACCEPTED &&
            result.outcome == DOOR_FINISHED && result.steps == 1;
 }

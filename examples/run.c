@@ -5,7 +5,7 @@
 #include <string.h>
 
 #include "door.h"
-#include "same.h"
+#include "result.h"
 #include "smallest.h"
 
 #define CELLS 8192
@@ -24,11 +24,7 @@ static void run(const char *what, const uint8_t *image, size_t length, const int
     for (size_t i = 0; i < PLACES; i++)
         output[i] = 7;
     got = door_run(image, length, input, inputs, store, cells, output, PLACES, steps);
-    printf("%s: refusal %u, row %u, outcome %u, trap %u, HALT %d, statement %u, steps %u, read %llu, written %llu, "
-           "frame %u to %u\n",
-           what, (unsigned)got.refusal, (unsigned)got.fault, (unsigned)got.outcome, (unsigned)got.trap, (int)got.halt,
-           (unsigned)got.row, (unsigned)got.steps, (unsigned long long)got.read, (unsigned long long)got.written,
-           (unsigned)got.base, (unsigned)got.top);
+    print_result(what, got);
     for (uint64_t i = 0; i < got.written; i++)
         printf("  writes %d\n", (int)output[i]);
     if (!same_result(got, expected)) {

@@ -1,5 +1,6 @@
-/* The check and the run of a door program's image, as document 01 (docs/spec/01-scope.md) asks for them. For C99 and
- * C++11 and later. docs/FIRMWARE.md is the guide, examples/firmware.c a reader's main loop.
+/* The check of a door program's image, its run, and the continuation of a run whose steps are used up, as documents 01
+ * and 02 (docs/spec/) ask for them. For C99 and C++11 and later. docs/FIRMWARE.md is the guide, examples/firmware.c a
+ * reader's main loop.
  *
  * Link libdoor.a, which `rt staticlib door` writes to target/staticlib/, for x86-64; of other libraries it needs memset
  * alone. There is no heap, no file, no clock and no state between calls: nothing is touched but what is lent, and the
@@ -25,12 +26,12 @@ extern "C" {
  * holds for the library that this kit builds.
  * `bash tests/stack` measures it. Check: 20,536 at most, for the longest image and all of vectors/; no function of it
  * calls itself. Run: expressions of 2,048 nodes, the deepest that an accepted image can have, in a thread with this
- * stack and four pages more for the thread itself. */
+ * stack and four pages more for the thread itself. A continue needs no more than a run. */
 #define DOOR_CHECK_STACK 20992
 #define DOOR_RUN_STACK 483328
 
-/* Refusals: the first of document 01's questions that is answered "no", and then the lowest row at fault. Rows count
- * from 0. door_check gives 0 to 11, door_run all of them.
+/* Refusals: the first question that is answered "no", and then the lowest row at fault. Rows count from 0. door_check
+ * gives 0 to 11, door_run 0 to 13, door_continue all of them.
  *
  *                                      what is wrong                                                   row */
 #define DOOR_ACCEPTED 0u             /* nothing                                                         0 */
@@ -49,11 +50,12 @@ extern "C" {
 #define DOOR_REFUSED_STORE_ABOVE 12u /* the store has more than DOOR_STORE_MAX cells                    0 */
 #define DOOR_REFUSED_STORE_BELOW 13u /* the store has less than G + F0 cells, those of the globals and  0
                                       * of the module body's frame */
+#define DOOR_REFUSED_STATE 14u       /* the earlier result or the store cannot be gone on from          0 */
 /* (1) the type count for a field that no record claims; (2) the procedure count for a variable that no procedure
  * claims. */
 
-/* Outcomes of a run that was not refused. */
-#define DOOR_STEPS_USED_UP 0u /* the program has not ended yet; also where 0 steps are lent */
+/* Outcomes of a run or a continue that was not refused. */
+#define DOOR_STEPS_USED_UP 0u /* the program has not ended yet, and can be continued; also where 0 steps are lent */
 #define DOOR_FINISHED 1u      /* the module body returned */
 #define DOOR_TRAPPED 2u       /* a statement could not be carried out; `trap` says why */
 
@@ -83,8 +85,9 @@ uint32_t door_check(const uint8_t *image, size_t length);
 static inline uint32_t door_refusal(uint32_t answer) { return answer / 65536u; }
 static inline uint32_t door_row(uint32_t answer) { return answer % 65536u; }
 
-/* The nine numbers of a run, and where its newest frame begins and ends. Numbers, not bytes, are to be compared: four
- * bytes between `top` and `read` hold nothing. */
+/* The nine numbers of a run, and where its newest frame begins and ends. Of a run that was continued, `steps`, `read`
+ * and `written` are those of all its parts together. Numbers, not bytes, are to be compared: four bytes between `top`
+ * and `read` hold nothing. */
 struct door_result {
     uint32_t refusal; /* DOOR_ACCEPTED, or why nothing was run: DOOR_REFUSED_.. */
     uint32_t fault;   /* the row of refusal */
@@ -99,8 +102,7 @@ struct door_result {
     uint64_t written; /* outputs written */
 };
 
-/* Checks an image, and runs it from the fresh state, with at most `steps` steps. A run cannot be continued: the next
- * call begins anew.
+/* Checks an image, and runs it from the fresh state, with at most `steps` steps.
  *
  * A refusal, 1 to 13, leaves store and output as they were, and every number but `refusal` and `fault` 0: so `refusal`
  * is asked first, and `outcome` only where it is DOOR_ACCEPTED. Where door_check accepted the same bytes, 1 to 11 do not
@@ -122,6 +124,34 @@ struct door_result {
 struct door_result door_run(const uint8_t *image, size_t image_length, const int32_t *input, size_t input_length,
                             int64_t *store, size_t store_length, int32_t *output, size_t output_length,
                             uint32_t steps);
+
+/* Goes on from an earlier result, with at most `steps` steps more. Where a run of n steps has ended with
+ * DOOR_STEPS_USED_UP, this gives, with its result as `from`, what one run of n + steps steps gives: every number, cell
+ * and output place. `from` may also come from a door_continue.
+ *
+ * It is lent what the run was lent: the same image; `store` as the earlier call left it; `input` and `output` whole,
+ * from their first place on. It goes on reading at place `from.read` and writing at `from.written`; output places below
+ * that are neither read nor changed. Input, output and store may meanwhile have become longer, or shorter where what is
+ * in use still fits.
+ *
+ * The check is made again, and 1 to 13 are asked as by door_run. Then DOOR_REFUSED_STATE comes, with row 0, where
+ *   - `refusal`, `fault`, `outcome`, `trap` or `halt` of `from` is not 0: what was refused, has finished or has trapped
+ *     is not continued;
+ *   - `row`, `base`, `top` of `from` and the store's cells below `top` are no state that this image can be in: frames,
+ *     links, values in the range of their types, and VAR parameters that name an object of their type (document 01,
+ *     "Sound");
+ *   - `read` exceeds `input_length`, or `written` exceeds `output_length`;
+ *   - `from.steps` and `steps` together exceed 4,294,967,295.
+ * A refusal leaves store and output as they were, and every number but `refusal` and `fault` 0. So it is no result to
+ * go on from: keep the earlier one until the next is there and not refused.
+ *
+ * Numbers and cells that have been changed since may pass, where they are another such state: the engine then goes on
+ * from that, and touches nothing that was not lent. Whoever has to know that nothing was changed keeps a checksum.
+ *
+ * With 0 steps it asks all this, runs nothing, and gives `from` back. Memory, overlap and stack are as for door_run. */
+struct door_result door_continue(const uint8_t *image, size_t image_length, const int32_t *input, size_t input_length,
+                                 int64_t *store, size_t store_length, int32_t *output, size_t output_length,
+                                 uint32_t steps, struct door_result from);
 
 #ifdef __cplusplus
 }

@@ -1,7 +1,7 @@
 #!/usr/bin/env python3
 """The listings of examples/ as images with the answers that document 01 gives, and the listings of the benchmark.
 
-report.py          write vectors/report/, vectors/input/ and the images in tests/bench/programs/
+report.py          write vectors/report/, vectors/input/, the images in tests/bench/programs/, and examples/latch.img
 report.py --check  compare these with what would be written; exits 1 where one differs
 
 The images are what `listing assemble` makes of the listings; tools/listing is built by cargo. Without cargo
@@ -118,8 +118,9 @@ def files():
                 lines += ' | '.join(parts) + '\n'
         for listing in sorted((TOP / 'tests/bench/programs').glob('*.lst')):
             programs[f'{listing.stem}.img'] = assembled(listing, room)
+        examples = {'latch.img': assembled(TOP / 'examples/latch.lst', room)}
     report['expect.txt'], inputs['runs.txt'] = expect.encode('ascii'), lines.encode('ascii')
-    return {'vectors/report': report, 'vectors/input': inputs, 'tests/bench/programs': programs}
+    return {'vectors/report': report, 'vectors/input': inputs, 'tests/bench/programs': programs, 'examples': examples}
 
 
 def made(path):

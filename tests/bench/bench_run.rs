@@ -14,7 +14,8 @@
 //!                                one run, which is what valgrind is given: ENGINE is a column's name
 //!
 //! It links the library where it is built with --cfg proved, and with --cfg beside also the other one, whose run is
-//! called beside_run (tests/bench/libraries); with neither, the plain run stands alone.
+//! called beside_run (tests/bench/libraries); with neither, the plain run stands alone. With --cfg interface_1 that
+//! library is one of before DOOR_INTERFACE 2.
 use std::hint::black_box;
 use std::path::{Path, PathBuf};
 use std::process::{Command, ExitCode};
@@ -43,10 +44,10 @@ const ENGINES: &[(&str, Run)] = &[
 const BESIDE: Option<usize> = if cfg!(beside) { Some(1) } else { None };
 const PLAIN: usize = ENGINES.len() - 1;
 
-/// A library's run, by its name there.
+/// A library's run, by its name there, and what it returns.
 #[cfg(proved)]
 macro_rules! linked {
-    ($engine:ident, $symbol:ident) => {
+    ($engine:ident, $symbol:ident, $result:ty) => {
         fn $engine(image: &[u8], input: &[i32], store: &mut [i64], output: &mut [i32], steps: u32) -> Numbers {
             extern "C" {
                 fn $symbol(
@@ -59,10 +60,10 @@ macro_rules! linked {
                     output: *mut i32,
                     output_len: usize,
                     steps: u32,
-                ) -> Numbers;
+                ) -> $result;
             }
             // SAFETY: each pointer comes with the length of its slice, and no two slices that are written overlap.
-            unsafe {
+            let result = unsafe {
                 $symbol(
                     image.as_ptr(),
                     image.len(),
@@ -74,15 +75,51 @@ macro_rules! linked {
                     output.len(),
                     steps,
                 )
-            }
+            };
+            result.into()
         }
     };
 }
 
 #[cfg(proved)]
-linked!(proved, door_run);
-#[cfg(beside)]
-linked!(beside, beside_run);
+linked!(proved, door_run, Numbers);
+#[cfg(all(beside, not(interface_1)))]
+linked!(beside, beside_run, Numbers);
+#[cfg(all(beside, interface_1))]
+linked!(beside, beside_run, First);
+
+/// What a run of interface 1 returns, which has no base and no top.
+#[cfg(interface_1)]
+#[repr(C)]
+struct First {
+    refusal: u32,
+    fault: u32,
+    outcome: u32,
+    trap: u32,
+    halt: i32,
+    row: u32,
+    steps: u32,
+    read: u32,
+    written: u32,
+}
+
+#[cfg(interface_1)]
+impl From<First> for Numbers {
+    fn from(first: First) -> Numbers {
+        let First { refusal, fault, outcome, trap, halt, row, steps, read, written } = first;
+        let [read, written] = [read, written].map(u64::from);
+        Numbers { refusal, fault, outcome, trap, halt, steps, row, base: 0, top: 0, read, written }
+    }
+}
+
+/// What all engines tell: beside a library of interface 1 no base and no top.
+fn told_by_all(result: Numbers) -> Numbers {
+    if cfg!(interface_1) {
+        Numbers { base: 0, top: 0, ..result }
+    } else {
+        result
+    }
+}
 
 const USAGE: &str = "usage: bench_run run-vectors DIR... | bench_run time [OPTION...] IMAGE... | \
                      bench_run count IMAGE... | bench_run once ENGINE STEPS IMAGE";
@@ -440,7 +477,7 @@ fn timed(path: &Path, options: &Options) -> Result<Option<Timed>, Failed> {
         let mut store = vec![0; CELLS];
         let mut output = vec![OUTPUT_FILL; PLACES];
         let result = run(&image, &[], &mut store, &mut output, steps);
-        answers.push((result, store, output));
+        answers.push((told_by_all(result), store, output));
     }
     let (result, store, output) = &answers[PLAIN];
     if let Some(who) = (0..PLAIN).find(|&who| answers[who] != answers[PLAIN]) {

@@ -1,14 +1,18 @@
-/* How much stack door_run uses: stack_run [-s BYTES] [IMAGE...]
+/* How much stack door_run and door_continue use: stack_run [-s BYTES] [IMAGE...]
  *
  * The evaluator calls itself, no deeper than an expression has nodes. So it is run on the deepest expressions that the
- * check accepts, 2,048 nodes of which as many as can be lie in one chain, and on the images given. Each run is on a
- * thread of its own with a stack of BYTES (by default 4 MiB), painted beforehand, twice with different paint; a page
- * that cannot be touched lies below it. What is reported is the distance from the caller's frame down to the lowest
- * byte that has changed. It fails where that exceeds DOOR_RUN_STACK of door.h. */
+ * check accepts, 2,048 nodes of which as many as can be lie in one chain, and on the images given; all of them are then
+ * continued from the fresh state. Question 14 is asked of the states of states.h, by continues of 0 steps. Each call is
+ * on a thread of its own with a stack of BYTES (by default 4 MiB), painted beforehand, twice with different paint; a
+ * page that cannot be touched lies below it. What is reported is the distance from the caller's frame down to the
+ * lowest byte that has changed. It fails where that exceeds DOOR_RUN_STACK of door.h. */
 #define _GNU_SOURCE
 #include "builder.h"
 #include "door.h"
 #include "painted.h"
+#include "states.h"
+
+#include <stdbool.h>
 
 #define CELLS 65536
 #define PLACES 16
@@ -107,7 +111,7 @@ static size_t build(void (*make)(struct builder *b), uint8_t *image) {
 struct program {
     const uint8_t *image;
     size_t length;
-    struct door_result result;
+    struct door_result from, result;
 };
 
 static uintptr_t run(void *given) {
@@ -116,11 +120,104 @@ static uintptr_t run(void *given) {
     return (uintptr_t)__builtin_frame_address(0);
 }
 
-int main(int count, char **words) {
+/* From the fresh state, whose cells are 0. */
+static uintptr_t go_on(void *given) {
+    struct program *program = given;
+    memset(store, 0, 8 * (size_t)program->from.top);
+    program->result =
+        door_continue(program->image, program->length, input, 0, store, CELLS, output, PLACES, STEPS, program->from);
+    return (uintptr_t)__builtin_frame_address(0);
+}
+
+static uintptr_t ask(void *given) {
+    struct state *state = given;
+    volatile uint32_t refusal = door_continue(state->image, state->length, input, 0, state->store, state->cells, output,
+                                              PLACES, 0, state->from)
+                                    .refusal;
+    if (refusal != DOOR_ACCEPTED)
+        wrong("a state that does not pass");
+    return (uintptr_t)__builtin_frame_address(0);
+}
+
+/* The most so far, and of what. */
+struct most {
+    size_t used;
+    char of[64];
+};
+
+static void note(struct most *most, size_t used, const char *of) {
+    if (used > most->used) {
+        most->used = used;
+        snprintf(most->of, sizeof most->of, "%s", of);
+    }
+}
+
+/* Whether it ended as it should: 5 or -5 is written. */
+static bool is_right(const char *name, struct door_result result) {
+    if (result.refusal == 0 && result.outcome == 1 && result.written == 1 && abs(output[0]) == 5)
+        return true;
+    printf("stack_run: %s: refusal %u %u, outcome %u, trap %u, %u written, the first %d\n", name,
+           (unsigned)result.refusal, (unsigned)result.fault, (unsigned)result.outcome, (unsigned)result.trap,
+           (unsigned)result.written, (int)output[0]);
+    return false;
+}
+
+static bool measure_shapes(struct painted *stack, struct most *runs, struct most *continues) {
     static uint8_t image[LONGEST];
-    size_t size = (size_t)4 << 20, most = 0;
-    const char *most_of = "";
+    printf("stack in bytes:         door_run  door_continue\n");
+    for (size_t i = 0; i < sizeof shapes / sizeof shapes[0]; i++) {
+        struct program program = {.image = image, .length = build(shapes[i].make, image)};
+        const size_t used = painted_bytes(stack, run, &program);
+        size_t again;
+        if (!is_right(shapes[i].name, program.result))
+            return false;
+        program.from = door_run(image, program.length, input, 0, store, CELLS, output, PLACES, 0);
+        again = painted_bytes(stack, go_on, &program);
+        if (!is_right(shapes[i].name, program.result))
+            return false;
+        printf("  %-20s %9zu %14zu\n", shapes[i].name, used, again);
+        note(runs, used, shapes[i].name);
+        note(continues, again, shapes[i].name);
+    }
+    return true;
+}
+
+/* Images that are refused are only run. */
+static void measure_image(struct painted *stack, const char *name, struct most *runs, struct most *continues) {
+    struct program program;
+    uint8_t *given = read_file(name, &program.length);
+    program.image = given;
+    note(runs, painted_bytes(stack, run, &program), name);
+    program.from = door_run(given, program.length, input, 0, store, CELLS, output, PLACES, 0);
+    if (program.from.refusal == DOOR_ACCEPTED)
+        note(continues, painted_bytes(stack, go_on, &program), name);
+    free(given);
+}
+
+static void measure_states(struct painted *stack, struct most *continues) {
+    static struct state state;
+    for (size_t i = 0; i < STATES; i++) {
+        size_t used;
+        states[i].make(&state, CELLS);
+        used = painted_bytes(stack, ask, &state);
+        printf("  %-20s %9s %14zu\n", states[i].name, "", used);
+        note(continues, used, states[i].name);
+    }
+}
+
+static bool holds(const char *what, const struct most *most) {
+    printf("  the most of %s: %zu, for %s\n", what, most->used, most->of);
+    if (most->used <= DOOR_RUN_STACK)
+        return true;
+    printf("stack_run: that exceeds DOOR_RUN_STACK, %zu\n", (size_t)DOOR_RUN_STACK);
+    return false;
+}
+
+int main(int count, char **words) {
+    size_t size = (size_t)4 << 20;
+    struct most runs = {0}, continues = {0};
     struct painted stack;
+    bool good;
     int at = 1;
     if (count > 2 && strcmp(words[1], "-s") == 0) {
         size = strtoul(words[2], NULL, 10);
@@ -131,39 +228,11 @@ int main(int count, char **words) {
         return 2;
     }
     stack = painted_stack(size);
-    printf("stack of door_run, in bytes:\n");
-    for (size_t i = 0; i < sizeof shapes / sizeof shapes[0]; i++) {
-        struct program program = {.image = image, .length = build(shapes[i].make, image)};
-        const size_t used = painted_bytes(&stack, run, &program);
-        const struct door_result result = program.result;
-        printf("  %-20s %7zu\n", shapes[i].name, used);
-        if (result.refusal != 0 || result.outcome != 1 || result.written != 1 || abs(output[0]) != 5) {
-            printf("stack_run: %s: refusal %u %u, outcome %u, trap %u, %u written, the first %d\n", shapes[i].name,
-                   (unsigned)result.refusal, (unsigned)result.fault, (unsigned)result.outcome, (unsigned)result.trap,
-                   (unsigned)result.written, (int)output[0]);
-            return 1;
-        }
-        if (used > most) {
-            most = used;
-            most_of = shapes[i].name;
-        }
-    }
-    for (; at < count; at++) {
-        struct program program;
-        size_t used;
-        uint8_t *given = read_file(words[at], &program.length);
-        program.image = given;
-        used = painted_bytes(&stack, run, &program);
-        free(given);
-        if (used > most) {
-            most = used;
-            most_of = words[at];
-        }
-    }
-    printf("  the most: %zu, for %s\n", most, most_of);
-    if (most > DOOR_RUN_STACK) {
-        printf("stack_run: that exceeds DOOR_RUN_STACK, %zu\n", (size_t)DOOR_RUN_STACK);
+    if (!measure_shapes(&stack, &runs, &continues))
         return 1;
-    }
-    return 0;
+    for (; at < count; at++)
+        measure_image(&stack, words[at], &runs, &continues);
+    measure_states(&stack, &continues);
+    good = holds("door_run", &runs);
+    return holds("door_continue", &continues) && good ? 0 : 1;
 }

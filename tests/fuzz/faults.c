@@ -11,6 +11,13 @@ struct door_result __wrap_door_run(const uint8_t *image, size_t image_length, co
                                    int64_t *store, size_t store_length, int32_t *output, size_t output_length,
                                    uint32_t steps);
 
+struct door_result __real_door_continue(const uint8_t *image, size_t image_length, const int32_t *input,
+                                        size_t input_length, int64_t *store, size_t store_length, int32_t *output,
+                                        size_t output_length, uint32_t steps, struct door_result from);
+struct door_result __wrap_door_continue(const uint8_t *image, size_t image_length, const int32_t *input,
+                                        size_t input_length, int64_t *store, size_t store_length, int32_t *output,
+                                        size_t output_length, uint32_t steps, struct door_result from);
+
 uint32_t __wrap_door_check(const uint8_t *image, size_t length) {
     const uint32_t answer = __real_door_check(image, length);
     return FAULT == 1 && door_refusal(answer) == 10 ? 0 : answer; /* 1: check == r.refusal * 65536 + r.fault */
@@ -58,6 +65,46 @@ struct door_result __wrap_door_run(const uint8_t *image, size_t image_length, co
         break;
     case 10: /* a state that is shared by the calls: only another thread can see it */
         result.row += used_by != output;
+        break;
+    default:
+        break;
+    }
+    return result;
+}
+
+struct door_result __wrap_door_continue(const uint8_t *image, size_t image_length, const int32_t *input,
+                                        size_t input_length, int64_t *store, size_t store_length, int32_t *output,
+                                        size_t output_length, uint32_t steps, struct door_result from) {
+    const struct door_result given = from;
+    struct door_result result;
+    if (FAULT == 11) /* 11: same_result(next, (struct door_result){.refusal = 14}) */
+        from.outcome = from.trap = 0;
+    result = __real_door_continue(image, image_length, input, input_length, store, store_length, output, output_length,
+                                  steps, from);
+    switch (FAULT) {
+    case 12: /* 12: same_result(next, whole->result) */
+        if (result.refusal == 0 && given.steps + steps == 1000) /* what the first files lend in all */
+            result.steps -= given.steps;
+        break;
+    case 13: /* 13: is_memory(BEFORE_GUARD, given, from) */
+        if (result.refusal == 14 && given.outcome == 0 && store_length > 0)
+            store[0] = 0;
+        break;
+    case 14: /* 14: is_memory(BEHIND_GUARD, given, whole) */
+        if (result.refusal == 0 && given.written > 0 && given.steps + steps == 1000)
+            output[0] ^= 1;
+        break;
+    case 15: /* 15: SEGV on unknown address */
+        if (result.refusal == 0 && given.read > 0)
+            *(volatile int64_t *)(store + store_length) = 0;
+        break;
+    case 16: /* 16: same_result(answer, go_on(BEFORE_GUARD, given, 0, from->result)) */
+        if (result.refusal == 0 && given.top < store_length && store[given.top] == INT64_MIN + (int64_t)given.top)
+            result = (struct door_result){.refusal = 14};
+        break;
+    case 17: /* 17: passes(given, left) */
+        if (result.refusal == 0 && given.steps + steps > 1000)
+            result.row = 0;
         break;
     default:
         break;

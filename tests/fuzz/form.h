@@ -5,6 +5,8 @@
  *   byte 2       inputs, 0 to 15
  *   byte 3       places of the output, 0 to 255
  *   bytes 4, 5   steps
+ *   bytes 6, 7   after how many of them the run is cut in two
+ *   then         DAMAGES times 4 bytes: what is changed before a continue from there, where (2 bytes), by what
  *   then         4 bytes an input
  *   then         the image */
 #ifndef FORM_H
@@ -13,7 +15,7 @@
 #include <stddef.h>
 #include <stdint.h>
 
-enum { CELLS, FILL, INPUTS, PLACES, STEPS, HEAD = 6 };
+enum { CELLS, FILL, INPUTS, PLACES, STEPS, CUT = 6, DAMAGE = 8, DAMAGES = 3, HEAD = DAMAGE + 4 * DAMAGES };
 enum { FEW_CELLS = 200, MOST_CELLS = 65537, MOST_INPUTS = 15, MOST_PLACES = 255, MOST_STEPS = 4095 };
 
 static const uint32_t edges[] = {0, 1, 2, 3, 255, 4096, 8192, 65535, 65536, 65537};

@@ -479,7 +479,7 @@ size_t LLVMFuzzerCustomMutator(uint8_t *data, size_t size, size_t most, unsigned
     below(1);
     if (size < HEAD || below(16) == 0)
         return LLVMFuzzerMutate(data, size, most);
-    if (below(8) == 0) {
+    if (below(4) == 0) {
         change_head(data, head);
         return size;
     }

@@ -39,6 +39,12 @@ static bool untouched(size_t from, size_t cells) {
     return true;
 }
 
+/* Goes on, with what the last run was lent and left. */
+static struct door_result go_on(struct lending l, struct door_result from) {
+    return door_continue(beside(image_area, side, l.length), l.length, beside(input_area, side, 4 * l.inputs), l.inputs,
+                         store_of(l.cells), l.cells, beside(output_area, side, 4 * l.places), l.places, l.steps, from);
+}
+
 /* A run on memory at the guard pages; image and input cannot be written. The check is asked too. */
 static struct door_result run(struct lending l) {
     uint8_t *image = beside(image_area, side, l.length);
@@ -253,6 +259,79 @@ static void finishing_early(void) {
     expect_result("RETURN with all steps and cells", run(made(65536, 0, ALL_STEPS)), in_body(5, 5, finished(0, 1)));
 }
 
+/* Steps done and lent are at most 4,294,967,295 together, whatever was done. */
+static void steps_together(void) {
+    struct door_result from;
+    counting();
+    from = run(made(4, 0, 10));
+    from.steps = ALL_STEPS - 5;
+    expect_result("one step more than there are", go_on(made(4, 0, 6), from), refusal(14));
+    expect_result("all steps more", go_on(made(4, 0, ALL_STEPS), from), refusal(14));
+    expect(store_of(4)[0] == 5, "a refusal leaves the store");
+    expect_result("the last five steps", go_on(made(4, 0, 5), from), in_body(1, 3, used_up(ALL_STEPS, 1)));
+    expect(store_of(4)[0] == 8, "what was counted");
+    from = in_body(1, 3, used_up(ALL_STEPS, 1));
+    expect_result("no step after the last", go_on(made(4, 0, 0), from), from);
+    expect_result("a step after the last", go_on(made(4, 0, 1), from), refusal(14));
+}
+
+/* A count may be its list's length, and no more; lists and store may have other lengths than before. */
+static void lists_together(void) {
+    static const int32_t numbers[2] = {7, 8};
+    struct lending l;
+    struct door_result from, next;
+    const unsigned x = with_x();
+    add(&b, STATEMENTS, READ, variable(x), 0, 0);
+    add(&b, STATEMENTS, WRITE, variable(x), 0, 0);
+    add(&b, STATEMENTS, GO, 0, 0, 0);
+    l = made(4, 2, 3);
+    l.input = numbers;
+    l.inputs = 2;
+    from = run(l);
+    next = go_on(l, from);
+    expect_result("the second round", next,
+                  (struct door_result){.steps = 6, .base = 1, .top = 4, .read = 2, .written = 2});
+    l.steps = 9;
+    expect_result("counts at their lists' ends, and a read there", go_on(l, next),
+                  (struct door_result){
+                      .outcome = 2, .trap = 8, .steps = 7, .base = 1, .top = 4, .read = 2, .written = 2});
+    next.outcome = 2;
+    next.trap = 8;
+    expect_result("after a trap", go_on(l, next), refusal(14));
+    from.read = 3;
+    expect_result("a count beyond the input", go_on(l, from), refusal(14));
+    from.read = (uint64_t)1 << 32;
+    expect_result("a count of 33 bits", go_on(l, from), refusal(14));
+    from.read = 1;
+    from.written = 3;
+    expect_result("a count beyond the output", go_on(l, from), refusal(14));
+    from.written = UINT64_MAX;
+    expect_result("the largest count", go_on(l, from), refusal(14));
+}
+
+/* Question 14 reads no cell from `top` on, and no cell beyond the store where base and top lie there. */
+static void states_beyond(void) {
+    static const uint32_t far[] = {3, 5, 4095, 65535, 65536, 65537, INT32_MAX, 1u << 31, UINT32_MAX - 3, UINT32_MAX};
+    const struct door_result good = {.base = 1, .top = 4};
+    struct door_result from;
+    counting();
+    (void)run(made(4, 0, 0));
+    for (size_t i = 0; i < sizeof far / sizeof far[0]; i++) {
+        from = good;
+        from.base = far[i];
+        expect_result("another base", go_on(made(4, 0, 0), from), refusal(14));
+        from.top = far[i] + 3;
+        expect_result("base and top moved", go_on(made(4, 0, 0), from), refusal(14));
+        from = good;
+        from.top = far[i];
+        expect_result("another top", go_on(made(4, 0, 0), from), refusal(14));
+        from = good;
+        from.row = far[i];
+        expect_result("another row", go_on(made(4, 0, 0), from), refusal(14));
+    }
+    expect_result("the state as it was", go_on(made(4, 0, 0), good), good);
+}
+
 int main(int count, char **words) {
     const bool whole = count == 2 && strcmp(words[1], "--long") == 0;
     static const uint32_t few[] = {0, 1, 2, 3, 1000000};
@@ -269,6 +348,9 @@ int main(int count, char **words) {
         store_lengths();
         nothing_lent();
         finishing_early();
+        steps_together();
+        lists_together();
+        states_beyond();
         for (size_t i = 0; i < sizeof few / sizeof few[0]; i++)
             loops(few[i], false);
     }

@@ -2,8 +2,9 @@
 //!
 //! A door program comes as an image: bytes, of which nobody has to trust a single one. [`check`] asks document 01's
 //! eleven questions of an image (`docs/spec/01-scope.md`), and says which fails first and at which row. [`run`] asks
-//! them too, and then runs the program step by step, on memory that the caller lends. Both are the functions of
-//! `include/door.h`, written and proved in Rattle; this crate makes them safe to call, and gives their numbers names.
+//! them too, and then runs the program step by step, on memory that the caller lends. [`resume`] goes on where a run's
+//! steps are used up. They are the functions of `include/door.h`, written and proved in Rattle; this crate makes them
+//! safe to call, and gives their numbers names.
 //!
 //! ```
 //! use door::{Outcome, Refusal};
@@ -30,8 +31,8 @@
 //!
 //! # Stack
 //!
-//! [`run`] needs up to [`RUN_STACK`] bytes of stack, for the deepest expression that an image may have; [`check`] needs
-//! [`CHECK_STACK`]. A main thread has that, and so has a thread of `std::thread` with its default of 2 MiB. Give a
+//! [`run`] and [`resume`] need up to [`RUN_STACK`] bytes of stack, for the deepest expression that an image may have;
+//! [`check`] needs [`CHECK_STACK`]. A main thread has that, and so has a thread of `std::thread` with its default of 2 MiB. Give a
 //! smaller thread ([`std::thread::Builder::stack_size`]) `RUN_STACK`, or `CHECK_STACK` where it only checks; 16 KiB for
 //! the thread itself; and what your own frames hold. A local array of [`STORE_MAX`] cells is 512 KiB more, so let a
 //! large store be a `Vec`. Where the stack runs out the process ends, as for every Rust function that calls itself too
@@ -52,13 +53,13 @@ use std::fmt;
 /// The longest image that is accepted, in bytes. A longer one is refused, with no harm.
 pub const IMAGE_MAX: usize = 29_713;
 
-/// The largest store that [`run`] takes, in cells.
+/// The largest store that [`run`] and [`resume`] take, in cells.
 pub const STORE_MAX: usize = 65_536;
 
 /// The stack that [`check`] needs, in bytes. A thread needs more, see [Stack](crate#stack).
 pub const CHECK_STACK: usize = 20_992;
 
-/// The stack that [`run`] needs at most, in bytes. A thread needs more, see [Stack](crate#stack).
+/// The stack that [`run`] or [`resume`] needs at most, in bytes. A thread needs more, see [Stack](crate#stack).
 ///
 /// ```
 /// let image = std::fs::read("../../vectors/input/members-1.img").expect("an image");
@@ -70,7 +71,7 @@ pub const CHECK_STACK: usize = 20_992;
 /// ```
 pub const RUN_STACK: usize = 483_328;
 
-/// Why nothing was run: the first of document 01's questions that is answered "no", and the row at fault.
+/// Why nothing was run: the first question that is answered "no", and the row at fault.
 ///
 /// ```
 /// let refusal = door::check(b"\x02").unwrap_err();
@@ -81,7 +82,8 @@ pub const RUN_STACK: usize = 483_328;
 /// Print it with `{}`: what `main` returns is printed with `{:?}`, without the reason.
 #[derive(Clone, Copy, Debug, PartialEq, Eq, Hash)]
 pub struct Refusal {
-    /// The question: 1 to 11 from [`check`], 1 to 13 from [`run`]. The constants below name them.
+    /// The question: 1 to 11 from [`check`], 1 to 13 from [`run`], 1 to 14 from [`resume`]. The constants below name
+    /// them.
     pub number: u32,
     /// The lowest row at fault, from 0 on, of the [table](Refusal::table); 0 where there is none. It is the count of
     /// types where no record claims a field, and the count of procedures where no procedure claims a variable.
@@ -115,6 +117,8 @@ impl Refusal {
     pub const STORE_ABOVE: u32 = 12;
     /// The store has fewer cells than the globals and the module body's frame.
     pub const STORE_BELOW: u32 = 13;
+    /// The earlier result or the store cannot be gone on from; [`resume`] says when.
+    pub const STATE: u32 = 14;
 
     /// What is wrong, in a few words.
     ///
@@ -137,6 +141,7 @@ impl Refusal {
             Refusal::RULE => "a statement breaks a type rule, or names another procedure's variable",
             Refusal::STORE_ABOVE => "the store has more than 65,536 cells",
             Refusal::STORE_BELOW => "the store has fewer cells than the globals and the module body's frame",
+            Refusal::STATE => "the earlier result or the store cannot be gone on from",
             _ => "no question has this number",
         }
     }
@@ -270,7 +275,7 @@ impl std::error::Error for Trap {}
 /// ```
 #[derive(Clone, Copy, Debug, PartialEq, Eq, Hash)]
 pub enum Outcome {
-    /// The program has not ended yet. It cannot be continued: the next run begins anew.
+    /// The program has not ended yet: [`resume`] goes on.
     StepsUsedUp,
     /// The module body returned.
     Finished,
@@ -288,14 +293,15 @@ impl fmt::Display for Outcome {
     }
 }
 
-/// What a run that was not refused came to.
+/// What a run that was not refused came to. Steps, inputs and outputs count from the fresh state on, over a run and all
+/// that continue it.
 ///
 /// ```
 /// use door::{Outcome, Report};
 ///
 /// let image = std::fs::read("../../vectors/special/smallest.img").expect("an image");
 /// let report = door::run(&image, &[], &mut [0; 3], &mut [], 100);
-/// let expected = Report { outcome: Outcome::Finished, row: 0, steps: 1, read: 0, written: 0 };
+/// let expected = Report { outcome: Outcome::Finished, row: 0, steps: 1, base: 0, top: 3, read: 0, written: 0 };
 /// assert_eq!(report, Ok(expected));
 /// assert_eq!(expected.to_string(), "finished, statement 0, 1 step, 0 inputs read, 0 outputs written");
 /// ```
@@ -307,6 +313,10 @@ pub struct Report {
     pub row: u32,
     /// Steps taken; one that finishes or traps counts.
     pub steps: u32,
+    /// The newest frame's first cell in the store.
+    pub base: u32,
+    /// The cell after its last.
+    pub top: u32,
     /// Inputs read.
     pub read: usize,
     /// Outputs written: so many of the first output places. The others keep what they held.
@@ -316,9 +326,29 @@ pub struct Report {
 impl fmt::Display for Report {
     fn fmt(&self, f: &mut fmt::Formatter<'_>) -> fmt::Result {
         let plural = |count: usize| if count == 1 { "" } else { "s" };
-        let Report { outcome, row, steps, read, written } = *self;
+        let Report { outcome, row, steps, read, written, .. } = *self;
         write!(f, "{outcome}, statement {row}, {steps} step{}", plural(steps as usize))?;
         write!(f, ", {read} input{} read, {written} output{} written", plural(read), plural(written))
+    }
+}
+
+impl Report {
+    /// The same as bare numbers.
+    ///
+    /// ```
+    /// let image = std::fs::read("../../vectors/input/members-1.img").expect("an image");
+    /// let numbers = door::run_numbers(&image, &[1234], &mut [0; 64], &mut [0], 100);
+    /// assert_eq!(numbers.report().map(|report| report.numbers()), Ok(numbers));
+    /// ```
+    pub fn numbers(&self) -> Numbers {
+        let (outcome, trap, halt) = match self.outcome {
+            Outcome::StepsUsedUp => (0, 0, 0),
+            Outcome::Finished => (1, 0, 0),
+            Outcome::Trapped(trap) => (2, trap.number(), if let Trap::Halt(number) = trap { number } else { 0 }),
+        };
+        let Report { row, steps, base, top, .. } = *self;
+        let [read, written] = [self.read, self.written].map(|count| count as u64);
+        Numbers { refusal: 0, fault: 0, outcome, trap, halt, steps, row, base, top, read, written }
     }
 }
 
@@ -335,7 +365,7 @@ impl Numbers {
     /// # Panics
     ///
     /// Where there is no refusal, and the outcome is not 0 to 2, or is 2 with a trap that is not 1 to 10.
-    /// [`run_numbers`] never gives such numbers. All else has a report or a refusal; numbers without a use in it are not
+    /// [`run_numbers`] and [`resume_numbers`] never give such numbers. All else has a report or a refusal; numbers without a use in it are not
     /// looked at.
     pub fn report(&self) -> Result<Report, Refusal> {
         if self.refusal != 0 {
@@ -348,7 +378,8 @@ impl Numbers {
             _ => panic!("no run has outcome {} with trap {}", self.outcome, self.trap),
         };
         let [read, written] = [self.read, self.written].map(|count| count as usize);
-        Ok(Report { outcome, row: self.row, steps: self.steps, read, written })
+        let Numbers { row, steps, base, top, .. } = *self;
+        Ok(Report { outcome, row, steps, base, top, read, written })
     }
 }
 
@@ -365,6 +396,18 @@ mod raw {
             output: *mut i32,
             output_length: usize,
             steps: u32,
+        ) -> super::Numbers;
+        pub fn door_continue(
+            image: *const u8,
+            image_length: usize,
+            input: *const i32,
+            input_length: usize,
+            store: *mut i64,
+            store_length: usize,
+            output: *mut i32,
+            output_length: usize,
+            steps: u32,
+            from: super::Numbers,
         ) -> super::Numbers;
     }
 }
@@ -425,6 +468,50 @@ pub fn run(image: &[u8], input: &[i32], store: &mut [i64], output: &mut [i32], s
     run_numbers(image, input, store, output, steps).report()
 }
 
+/// Goes on from an earlier report, with at most `steps` steps more.
+///
+/// Where a run of n steps ended with [`Outcome::StepsUsedUp`], this gives, with its report as `from`, what one run of
+/// n + `steps` steps gives: the same report, store and output. Lend what the run was lent: the same image, the store as
+/// it was left, and input and output whole, from their first place on. The lists and the store may have become longer,
+/// or shorter where what is in use still fits. So a program that waits for an input gets it by a longer list.
+///
+/// The image is checked again. Then [`Refusal::STATE`] comes where `from` has finished or trapped, where its rows and
+/// the store's cells are no state that this image can be in, where it has read or written more than the list has, or
+/// where its steps and `steps` exceed 4,294,967,295 together. A refusal leaves store and output as they were: keep the
+/// earlier report until there is a next one. Cells that were changed to another such state pass, and the run goes on
+/// from there.
+///
+/// ```
+/// use door::{Outcome, Refusal};
+///
+/// // it reads card and day, and then the latch again and again until that is 1
+/// let image = std::fs::read("../../examples/latch.img").expect("an image");
+/// let (mut store, mut output, mut input) = ([0; 64], [0; 1], vec![1234, 19800]);
+/// let mut report = door::run(&image, &input, &mut store, &mut output, 100)?;
+/// while report.outcome == Outcome::StepsUsedUp {
+///     if report.read == input.len() {
+///         input.push(1); // what the latch shows now
+///     }
+///     report = door::resume(&image, &input, &mut store, &mut output, 100, &report)?;
+/// }
+/// assert_eq!((report.outcome, report.steps, output), (Outcome::Finished, 131, [1]));
+///
+/// // what has finished is not continued
+/// let refusal = door::resume(&image, &input, &mut store, &mut output, 100, &report).unwrap_err();
+/// assert_eq!(refusal.number, Refusal::STATE);
+/// # Ok::<(), Refusal>(())
+/// ```
+pub fn resume(
+    image: &[u8],
+    input: &[i32],
+    store: &mut [i64],
+    output: &mut [i32],
+    steps: u32,
+    from: &Report,
+) -> Result<Report, Refusal> {
+    resume_numbers(image, input, store, output, steps, &from.numbers()).report()
+}
+
 /// The check's answer as firmware gets it: refusal × 65,536 + row, 0 where the image is accepted.
 ///
 /// ```
@@ -455,6 +542,46 @@ pub fn run_numbers(image: &[u8], input: &[i32], store: &mut [i64], output: &mut 
             output.as_mut_ptr(),
             output.len(),
             steps,
+        )
+    }
+}
+
+/// The same for [`resume`], from any numbers: `door_continue` of `include/door.h`.
+///
+/// ```
+/// use door::Numbers;
+///
+/// let image = std::fs::read("../../vectors/special/jump_to_itself.img").expect("an image");
+/// let mut store = [0; 3];
+/// let first = door::run_numbers(&image, &[], &mut store, &mut [], 100);
+/// let next = door::resume_numbers(&image, &[], &mut store, &mut [], 50, &first);
+/// assert_eq!(next, Numbers { steps: 150, ..first });
+///
+/// let other = Numbers { top: 2, ..first };
+/// let refused = door::resume_numbers(&image, &[], &mut store, &mut [], 50, &other);
+/// assert_eq!(refused, Numbers { refusal: 14, ..Numbers::default() });
+/// ```
+pub fn resume_numbers(
+    image: &[u8],
+    input: &[i32],
+    store: &mut [i64],
+    output: &mut [i32],
+    steps: u32,
+    from: &Numbers,
+) -> Numbers {
+    // SAFETY: as for a run; the earlier numbers are handed over by value, and may be any.
+    unsafe {
+        raw::door_continue(
+            image.as_ptr(),
+            image.len(),
+            input.as_ptr(),
+            input.len(),
+            store.as_mut_ptr(),
+            store.len(),
+            output.as_mut_ptr(),
+            output.len(),
+            steps,
+            *from,
         )
     }
 }

@@ -6,7 +6,7 @@ use std::fmt;
 #[repr(C)]
 #[derive(Clone, Copy, Debug, Default, PartialEq, Eq)]
 pub struct Numbers {
-    /// 0, or why nothing was run: 1 to 13.
+    /// 0, or why nothing was run: 1 to 14.
     pub refusal: u32,
     /// The row of refusal.
     pub fault: u32,
@@ -16,7 +16,7 @@ pub struct Numbers {
     pub trap: u32,
     /// HALT's number with trap 10, else 0.
     pub halt: i32,
-    /// Steps taken.
+    /// Steps taken, those of the runs that were continued among them; so are inputs and outputs counted.
     pub steps: u32,
     /// The statement row: of the last step where it finished or trapped, else of the next.
     pub row: u32,

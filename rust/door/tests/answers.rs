@@ -96,9 +96,9 @@ fn each_trap() {
 
 #[test]
 fn the_other_outcomes() {
-    let finished = Report { outcome: Outcome::Finished, row: 4, steps: 99_999, read: 0, written: 0 };
+    let finished = Report { outcome: Outcome::Finished, row: 4, steps: 99_999, base: 1, top: 4, read: 0, written: 0 };
     assert_eq!(run("special/loop_of_99999_steps.img"), Ok(finished));
-    let used_up = Report { outcome: Outcome::StepsUsedUp, row: 6, steps: 100_000, read: 0, written: 0 };
+    let used_up = Report { outcome: Outcome::StepsUsedUp, row: 6, steps: 100_000, ..finished };
     assert_eq!(run("special/loop_of_100001_steps.img"), Ok(used_up));
 }
 
@@ -106,17 +106,127 @@ fn the_other_outcomes() {
 fn inputs_outputs_and_cells() {
     let (mut store, mut output) = ([-9; 40], [7; 2]);
     let report = door::run(&image("input/members-1.img"), &[1234, 19800], &mut store, &mut output, 200);
-    assert_eq!(report, Ok(Report { outcome: Outcome::Finished, row: 12, steps: 43, read: 2, written: 1 }));
+    let finished = Report { outcome: Outcome::Finished, row: 12, steps: 43, base: 23, top: 26, read: 2, written: 1 };
+    assert_eq!(report, Ok(finished));
     assert_eq!(output, [1, 7]);
     assert_eq!(store[..12], [4711, 20000, 18, 815, 19500, 4, 1234, 21000, 145, 42, 20500, 32]);
     assert_eq!(store[34..], [-9; 6]);
 }
 
+/// What a run of members-1.img is lent and has left, to be continued.
+#[derive(Clone, PartialEq, Debug)]
+struct Kept {
+    numbers: Numbers,
+    store: Vec<i64>,
+    output: Vec<i32>,
+}
+
+const FOB: [i32; 2] = [1234, 19800];
+
+impl Kept {
+    fn after(steps: u32) -> Kept {
+        let (mut store, mut output) = (vec![-9; 40], vec![7; 2]);
+        let numbers = door::run_numbers(&image("input/members-1.img"), &FOB, &mut store, &mut output, steps);
+        Kept { numbers, store, output }
+    }
+
+    fn resume(&mut self, input: &[i32], steps: u32) -> Numbers {
+        let Kept { numbers, store, output } = self;
+        let next = door::resume_numbers(&image("input/members-1.img"), input, store, output, steps, numbers);
+        if next.refusal == 0 {
+            *numbers = next;
+        }
+        next
+    }
+
+    /// That it is refused by question 14, and that nothing is touched.
+    fn is_refused(&self, input: &[i32], steps: u32) {
+        let mut tried = self.clone();
+        assert_eq!(tried.resume(input, steps), Numbers { refusal: 14, ..Numbers::default() }, "{self:?}");
+        assert_eq!(&tried, self);
+    }
+}
+
+#[test]
+fn a_run_cut_in_two_is_one_run() {
+    let whole = Kept::after(200);
+    for steps in 0..43 {
+        let mut kept = Kept::after(steps);
+        assert_eq!(kept.resume(&FOB, 200 - steps).refusal, 0, "{steps}");
+        assert_eq!(kept, whole, "{steps}");
+    }
+}
+
+#[test]
+fn no_steps_give_the_result_back() {
+    let before = Kept::after(30);
+    let mut after = before.clone();
+    assert_eq!(after.resume(&FOB, 0), before.numbers);
+    assert_eq!(after, before);
+}
+
+#[test]
+fn each_refusal_of_a_continue_alone() {
+    let good = Kept::after(30);
+    let with = |numbers| Kept { numbers, ..good.clone() };
+    let n = good.numbers;
+    let others = [
+        Numbers { refusal: 13, ..n },
+        Numbers { fault: 1, ..n },
+        Numbers { outcome: 1, ..n },
+        Numbers { trap: 8, ..n },
+        Numbers { halt: -1, ..n },
+        Numbers { row: n.row + 1024, ..n },
+        Numbers { row: 0, ..n },
+        Numbers { base: n.base - 1, ..n },
+        Numbers { top: n.top + 1, ..n },
+        Numbers { top: u32::MAX, ..n },
+        Numbers { read: 3, ..n },
+        Numbers { written: 1 << 32, ..n },
+        Numbers::default(),
+    ];
+    for numbers in others {
+        with(numbers).is_refused(&FOB, 1);
+    }
+    with(Numbers { steps: u32::MAX - 1, ..n }).is_refused(&FOB, 2);
+    good.is_refused(&FOB[..1], 1);
+    Kept::after(43).is_refused(&FOB, 1);
+    for cell in [0, n.base as usize] {
+        let mut kept = good.clone();
+        kept.store[cell] = 1 << 32;
+        kept.is_refused(&FOB, 1);
+    }
+}
+
+#[test]
+fn the_questions_before_the_fourteenth_come_first() {
+    let bad = Numbers { refusal: 9, ..Numbers::default() };
+    let resume = |name, cells| door::resume_numbers(&image(name), &[], &mut vec![0; cells], &mut [], 1, &bad);
+    let refused = |refusal, fault| Numbers { refusal, fault, ..Numbers::default() };
+    assert_eq!(resume("doorrun/00006.img", 8), refused(7, 22));
+    assert_eq!(resume("special/smallest.img", door::STORE_MAX + 1), refused(12, 0));
+    assert_eq!(resume("special/smallest.img", 2), refused(13, 0));
+    assert_eq!(resume("special/smallest.img", 3), refused(14, 0));
+}
+
+#[test]
+fn lists_and_store_may_change_their_lengths() {
+    let mut kept = Kept::after(30);
+    kept.store.resize(60, 5);
+    kept.output.push(8);
+    assert_eq!(kept.resume(&[1234, 19800, 77], 200).refusal, 0);
+    let whole = Kept::after(200);
+    assert_eq!(kept.numbers, whole.numbers);
+    assert_eq!(kept.output, [1, 7, 8]);
+    assert_eq!(kept.store[..40], whole.store);
+    assert_eq!(kept.store[40..], [5; 20]);
+}
+
 #[test]
 fn a_report_in_words() {
-    let report = Report { outcome: Outcome::Finished, row: 12, steps: 43, read: 2, written: 1 };
+    let report = Report { outcome: Outcome::Finished, row: 12, steps: 43, base: 23, top: 26, read: 2, written: 1 };
     assert_eq!(report.to_string(), "finished, statement 12, 43 steps, 2 inputs read, 1 output written");
-    let report = Report { outcome: Outcome::Trapped(Trap::Halt(3)), row: 0, steps: 1, read: 1, written: 0 };
+    let report = Report { outcome: Outcome::Trapped(Trap::Halt(3)), row: 0, steps: 1, read: 1, written: 0, ..report };
     assert_eq!(report.to_string(), "trapped: HALT(3), statement 0, 1 step, 1 input read, 0 outputs written");
 }
 
@@ -150,6 +260,7 @@ fn the_refusals_are_those_of_the_header() {
         ("RULE", Refusal::RULE),
         ("STORE_ABOVE", Refusal::STORE_ABOVE),
         ("STORE_BELOW", Refusal::STORE_BELOW),
+        ("STATE", Refusal::STATE),
     ];
     let refused = HEADER.lines().filter_map(|line| line.strip_prefix("#define DOOR_REFUSED_"));
     let refused: Vec<String> = refused.map(|line| line.split("u ").next().unwrap_or(line).to_string()).collect();

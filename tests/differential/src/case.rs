@@ -1,7 +1,10 @@
 //! Case NUMBER of a run of the test with SEED: an image, and what is asked of both sides about it.
 
-use crate::compare;
+use crate::compare::{self, After};
 use crate::counts::{Counts, Group};
+use crate::damage::damage;
+use crate::foreign;
+use crate::frames::{Given, Sight};
 use crate::generate;
 use crate::mutate;
 use crate::random::Random;
@@ -9,8 +12,22 @@ use crate::surroundings::{other_steps, Surroundings};
 use listing::image_of;
 use model::Program;
 
-/// Is told of each run that both sides agree on.
-pub type Watcher<'a> = &'a mut dyn FnMut(&Surroundings, &door::Numbers);
+/// Is told of each run and continuation that both sides agree on: what was lent, the earlier result, and what came back.
+pub type Watcher<'a> = &'a mut dyn FnMut(&Surroundings, Option<&door::Numbers>, &door::Numbers);
+
+/// In thousandths: how many accepted images get states that no run left, how many runs that ended are cut, and how
+/// many refused images are continued.
+const FOREIGN: usize = 500;
+const ENDED: usize = 60;
+const REFUSED: usize = 300;
+/// How often a state gets damage.
+const DAMAGED: [(usize, usize); 3] = [(1, 1), (1, 2), (1, 3)];
+
+/// Enough for a few statements after the state was passed.
+fn few_steps(random: &mut Random) -> u32 {
+    let most = random.weighted(&[(1, 0), (1, 1), (1, 5), (1, 29)]);
+    random.between(0, most) as u32
+}
 
 pub struct Case {
     pub image: Vec<u8>,
@@ -46,7 +63,8 @@ impl Case {
                     return Err(format!("a generated image is refused by {} at {}", fault.refusal, fault.row));
                 }
                 let needed = self.random.below(60);
-                self.compare_run(needed, counts, watcher)
+                self.compare_run(needed, counts, watcher)?;
+                self.continue_refused(needed, counts, watcher)
             }
         }
     }
@@ -57,8 +75,14 @@ impl Case {
         }
         counts.survey(program);
         let needed = program.globals() + program.frame(0);
+        let sight = Sight::new(program);
         for _ in 0..self.random.between(2, 4) {
-            self.compare_run(needed, counts, watcher)?;
+            if let Some((lent, whole)) = self.compare_run(needed, counts, watcher)? {
+                self.continue_run(&sight, &lent, &whole, counts, watcher)?;
+            }
+        }
+        if self.random.chance(FOREIGN) {
+            self.continue_foreign(&sight, counts, watcher)?;
         }
         if self.random.chance(60) {
             self.follow(program, needed, counts);
@@ -66,18 +90,125 @@ impl Case {
         Ok(())
     }
 
-    /// A run, and where it came to its end, sometimes again with more steps, one less, or as many.
-    fn compare_run(&mut self, needed: usize, counts: &mut Counts, watcher: Watcher) -> Result<(), String> {
+    /// A run, and where it came to its end, sometimes again with more steps, one less, or as many. Gives what is to be
+    /// continued: a run whose steps were used up, and some others, in parts.
+    fn compare_run(
+        &mut self,
+        needed: usize,
+        counts: &mut Counts,
+        watcher: Watcher,
+    ) -> Result<Option<(Surroundings, After)>, String> {
         let mut lent = Surroundings::pick(&mut self.random, needed);
-        let numbers = compare::run(&self.image, &lent)?;
-        counts.run(&numbers);
-        watcher(&lent, &numbers);
-        if numbers.outcome > 0 && self.random.chance(400) {
-            lent.steps = other_steps(&mut self.random, numbers.steps);
-            let numbers = compare::run(&self.image, &lent)?;
-            counts.run(&numbers);
-            watcher(&lent, &numbers);
+        let mut after = compare::run(&self.image, &lent)?;
+        counts.run(&after.numbers);
+        watcher(&lent, None, &after.numbers);
+        if after.numbers.outcome > 0 && self.random.chance(400) {
+            lent.steps = other_steps(&mut self.random, after.numbers.steps);
+            after = compare::run(&self.image, &lent)?;
+            counts.run(&after.numbers);
+            watcher(&lent, None, &after.numbers);
         }
+        let wanted = after.numbers.outcome == 0 || self.random.chance(ENDED);
+        Ok((after.numbers.refusal == 0 && wanted).then_some((lent, after)))
+    }
+
+    /// Cuts a run at a step, and continues it: as it was left, when in the end all must be as without the cut; and with
+    /// damage.
+    fn continue_run(
+        &mut self,
+        sight: &Sight,
+        lent: &Surroundings,
+        whole: &After,
+        counts: &mut Counts,
+        watcher: Watcher,
+    ) -> Result<(), String> {
+        let last = whole.numbers.steps as usize - usize::from(whole.numbers.outcome > 0);
+        let steps = self.random.between(0, last) as u32;
+        let cut = compare::proved(&self.image, &Surroundings { steps, ..lent.clone() }, None)?;
+        self.continue_parts(sight, lent, &cut, whole, counts, watcher)?;
+        for _ in 0..self.random.weighted(&DAMAGED) {
+            let After { numbers: from, store, output } = cut.clone();
+            let steps = few_steps(&mut self.random);
+            let lent = Surroundings { store, output, steps, watched: true, input: lent.input.clone() };
+            let mut given = Given { lent, from };
+            damage(&mut self.random, sight, &mut given);
+            self.compare_continued(sight, &given, Group::Damaged, counts, watcher)?;
+        }
+        Ok(())
+    }
+
+    /// Continues a run that was cut, in one part or several.
+    fn continue_parts(
+        &mut self,
+        sight: &Sight,
+        lent: &Surroundings,
+        cut: &After,
+        whole: &After,
+        counts: &mut Counts,
+        watcher: Watcher,
+    ) -> Result<(), String> {
+        let mut left = lent.steps - cut.numbers.steps;
+        let mut after = cut.clone();
+        while after.numbers.outcome == 0 {
+            let After { numbers: from, store, output } = after;
+            let all = self.random.chance(700);
+            let steps = if all { left } else { self.random.between(0, left as usize) as u32 };
+            let lent = Surroundings { store, output, steps, watched: false, input: lent.input.clone() };
+            after = self.compare_continued(sight, &Given { lent, from }, Group::Cut, counts, watcher)?;
+            left -= steps;
+            if all {
+                break;
+            }
+        }
+        if after != *whole {
+            let (parts, whole) = (after.numbers, whole.numbers);
+            return Err(format!("in parts {parts:?}, in one run {whole:?}, or store or output differ"));
+        }
+        Ok(())
+    }
+
+    /// States that no run left, and the same with damage.
+    fn continue_foreign(&mut self, sight: &Sight, counts: &mut Counts, watcher: Watcher) -> Result<(), String> {
+        let lent = Surroundings::few(&mut self.random);
+        let Some(given) = foreign::given(&mut self.random, sight, lent) else { return Ok(()) };
+        self.compare_continued(sight, &given, Group::Foreign, counts, watcher)?;
+        for _ in 0..self.random.weighted(&DAMAGED) {
+            let mut given = given.clone();
+            damage(&mut self.random, sight, &mut given);
+            self.compare_continued(sight, &given, Group::Damaged, counts, watcher)?;
+        }
+        Ok(())
+    }
+
+    fn compare_continued(
+        &mut self,
+        sight: &Sight,
+        given: &Given,
+        group: Group,
+        counts: &mut Counts,
+        watcher: Watcher,
+    ) -> Result<After, String> {
+        let Given { lent, from } = given;
+        let (after, fault) = compare::continued(&self.image, sight.program, lent, from)?;
+        counts.continued(sight, given, group, &after.numbers, fault.as_ref());
+        watcher(lent, Some(from), &after.numbers);
+        match fault {
+            Some(fault) if group != Group::Damaged => Err(format!("a sound state is refused: {}", fault.told())),
+            _ => Ok(after),
+        }
+    }
+
+    /// An image that the check refuses, with any result.
+    fn continue_refused(&mut self, needed: usize, counts: &mut Counts, watcher: Watcher) -> Result<(), String> {
+        if !self.random.chance(REFUSED) {
+            return Ok(());
+        }
+        let lent = Surroundings::pick(&mut self.random, needed);
+        let outcome = self.random.below(2) as u32;
+        let from = door::Numbers { outcome, top: needed as u32, ..door::Numbers::default() };
+        let after = compare::continued_image(&self.image, &lent, &from)?;
+        counts.continued_image(&after.numbers);
+        watcher(&lent, Some(&from), &after.numbers);
         Ok(())
     }
 

@@ -1,8 +1,9 @@
 //! What the images and runs reached, and how often.
 
+use crate::frames::{Given, Sight};
 use listing::SCALARS;
 use model::program::{Program, CALL};
-use model::rules;
+use model::{rules, Fault};
 
 #[derive(Clone, Copy, Debug, PartialEq, Eq)]
 pub enum Group {
@@ -18,9 +19,16 @@ pub enum Group {
     Parameter,
     Extension,
     Rule,
+    ContinuedRefusal,
+    Cut,
+    Foreign,
+    Damaged,
+    Frames,
+    Names,
+    State,
 }
 
-const GROUPS: [(Group, &str); 12] = [
+const GROUPS: [(Group, &str); 19] = [
     (Group::Refusal, "refusals of runs"),
     (Group::Outcome, "outcomes of runs"),
     (Group::Steps, "unrefused runs by their steps"),
@@ -33,6 +41,13 @@ const GROUPS: [(Group, &str); 12] = [
     (Group::Parameter, "parameters"),
     (Group::Extension, "extensions of a record"),
     (Group::Rule, "rules broken, of the model's list"),
+    (Group::ContinuedRefusal, "refusals of continuations"),
+    (Group::Cut, "continuations of runs, as they were left"),
+    (Group::Foreign, "continuations of states that no run left"),
+    (Group::Damaged, "continuations with damage"),
+    (Group::Frames, "frames of continued states"),
+    (Group::Names, "what VAR parameters name in continued states"),
+    (Group::State, "refusals by question 14, by the model's reason"),
 ];
 
 const NODES: [&str; 9] =
@@ -57,6 +72,15 @@ const DYADIC: [(&str, &[usize]); 16] = [
     ("..", &[1]),
 ];
 const MONADIC: [(&str, &[usize]); 2] = [("-", &[1, 2]), ("~", &[0])];
+/// What a VAR parameter can name, each counted where it applies.
+const NAMES: [&str; 6] = [
+    "a global or a part of one",
+    "an older frame's variable or a part of one",
+    "an extension",
+    "an object without cells",
+    "one without cells at its frame's end",
+    "one without cells at the end of the globals",
+];
 const FORMS: [&str; 3] = ["scalar", "array", "record"];
 
 /// What can be counted in a group; where nothing can, no name.
@@ -77,6 +101,12 @@ fn names(group: Group) -> Vec<Option<String>> {
         }
         Group::Extension => all(&["assigned", "passed by value", "passed to VAR"]),
         Group::Rule => rules::ALL.iter().map(|rule| Some(format!("{}: {}", rule.question, rule.words))).collect(),
+        Group::ContinuedRefusal => (0..=14).map(|number| Some(number.to_string())).collect(),
+        Group::Cut | Group::Foreign => all(&["steps used up", "finished", "trapped"]),
+        Group::Damaged => all(&["steps used up", "finished", "trapped", "refused"]),
+        Group::Frames => all(&["1", "2", "3", "4 and more"]),
+        Group::Names => all(&NAMES),
+        Group::State => rules::STATE.iter().map(|rule| Some(rule.words.to_string())).collect(),
     }
 }
 
@@ -93,6 +123,7 @@ pub struct Counts {
     pub images: u64,
     pub accepted_mutants: u64,
     pub runs: u64,
+    pub continuations: u64,
     pub steps: u64,
     groups: Vec<Vec<u64>>,
 }
@@ -100,7 +131,7 @@ pub struct Counts {
 impl Counts {
     pub fn new() -> Counts {
         let groups = GROUPS.iter().map(|(group, _)| vec![0; names(*group).len()]).collect();
-        Counts { images: 0, accepted_mutants: 0, runs: 0, steps: 0, groups }
+        Counts { images: 0, accepted_mutants: 0, runs: 0, continuations: 0, steps: 0, groups }
     }
 
     pub fn add(&mut self, group: Group, number: usize) {
@@ -111,6 +142,7 @@ impl Counts {
         self.images += other.images;
         self.accepted_mutants += other.accepted_mutants;
         self.runs += other.runs;
+        self.continuations += other.continuations;
         self.steps += other.steps;
         for (mine, others) in self.groups.iter_mut().flatten().zip(other.groups.iter().flatten()) {
             *mine += others;
@@ -133,6 +165,56 @@ impl Counts {
     pub fn rule(&mut self, broken: &'static rules::Rule) {
         let number = rules::ALL.iter().position(|rule| *rule == broken);
         self.add(Group::Rule, number.expect("a rule of the list"));
+    }
+
+    /// A continuation of an accepted image, in its group.
+    pub fn continued(
+        &mut self,
+        sight: &Sight,
+        given: &Given,
+        group: Group,
+        numbers: &door::Numbers,
+        fault: Option<&Fault>,
+    ) {
+        self.continued_image(numbers);
+        let Some(fault) = fault else {
+            self.add(group, numbers.outcome as usize);
+            return self.survey_state(sight, given);
+        };
+        if group == Group::Damaged {
+            self.add(group, 3);
+        }
+        if fault.refusal == 14 {
+            let number = rules::STATE.iter().position(|rule| *rule == fault.rule);
+            self.add(Group::State, number.expect("a rule of the list"));
+        }
+    }
+
+    pub fn continued_image(&mut self, numbers: &door::Numbers) {
+        self.continuations += 1;
+        self.add(Group::ContinuedRefusal, numbers.refusal as usize);
+    }
+
+    /// What a state that question 14 passed has.
+    fn survey_state(&mut self, sight: &Sight, given: &Given) {
+        let frames = sight.frames(given);
+        self.add(Group::Frames, frames.len().min(4) - 1);
+        let globals = sight.program.globals();
+        for parameter in sight.var_parameters(&frames) {
+            let cell = |i: usize| given.lent.store[parameter.first + i] as usize;
+            let (address, named) = (cell(0), cell(1));
+            let empty = sight.program.size(named) == 0;
+            let at_end = frames.iter().any(|frame| sight.end(frame) == address);
+            let is = [
+                address < globals || empty && address == globals,
+                address > globals,
+                named != parameter.t,
+                empty,
+                empty && at_end,
+                empty && address == globals,
+            ];
+            (0..is.len()).filter(|i| is[*i]).for_each(|i| self.add(Group::Names, i));
+        }
     }
 
     /// What an accepted image has.
@@ -195,7 +277,7 @@ impl Counts {
         for (group, title) in GROUPS {
             lines.push(format!("{title}:"));
             let counted = self.group(group);
-            if group == Group::Rule {
+            if group == Group::Rule || group == Group::State {
                 lines.extend(counted.iter().map(|(name, count)| format!("  {count:>9}  {name}")));
             } else {
                 let parts: Vec<String> = counted.iter().map(|(name, count)| format!("{name} {count}")).collect();
@@ -208,6 +290,7 @@ impl Counts {
 
     /// The sum of a comparison that found no difference.
     pub fn sum(&self) -> String {
-        format!("{} images, {} runs, {} steps: 0 differences", self.images, self.runs, self.steps)
+        let Counts { images, runs, continuations, steps, .. } = self;
+        format!("{images} images, {runs} runs, {continuations} continuations, {steps} steps: 0 differences")
     }
 }

@@ -11,9 +11,13 @@
 mod case;
 mod compare;
 mod counts;
+mod damage;
+mod foreign;
+mod frames;
 mod generate;
 mod image;
 mod mutate;
+mod proved;
 mod random;
 mod surroundings;
 
@@ -108,7 +112,7 @@ impl Work {
             if number >= self.count {
                 break;
             }
-            if let Err(what) = compare(|| Case::new(self.seed, number), &mut counts, &mut |_, _| {}) {
+            if let Err(what) = compare(|| Case::new(self.seed, number), &mut counts, &mut |_, _, _| {}) {
                 self.stop.store(true, Ordering::Relaxed);
                 self.found.lock().expect("no worker panics").push(Found { number, what });
             }
@@ -153,7 +157,7 @@ fn write_and_tell(seed: u64, number: u64) {
     }
 }
 
-/// The image's listing, what the check answers, and each run.
+/// The image's listing, what the check answers, and each run and continuation.
 fn show_case(seed: u64, number: u64) -> bool {
     let case = Case::new(seed, number);
     write_and_tell(seed, number);
@@ -166,8 +170,12 @@ fn show_case(seed: u64, number: u64) -> bool {
         Err(refusal) => say(&format!("check: {refusal}")),
     }
     let mut counts = Counts::new();
-    let mut watcher = |lent: &Surroundings, numbers: &door::Numbers| {
-        say(&format!("run with {}: {numbers}", lent.told()));
+    let mut watcher = |lent: &Surroundings, from: Option<&door::Numbers>, numbers: &door::Numbers| {
+        let [lent, after] = [lent.told(), told(numbers)];
+        match from {
+            None => say(&format!("run with {lent}: {after}")),
+            Some(from) => say(&format!("continued from {} with {lent}: {after}", told(from))),
+        }
     };
     let answer = compare(|| case, &mut counts, &mut watcher);
     match &answer {
@@ -175,6 +183,11 @@ fn show_case(seed: u64, number: u64) -> bool {
         Err(what) => say(what),
     }
     answer.is_ok()
+}
+
+/// The nine numbers in document 01's order, then base and top.
+fn told(numbers: &door::Numbers) -> String {
+    format!("{numbers}, {} {}", numbers.base, numbers.top)
 }
 
 /// Prints a line. Who closes standard output has read enough: the exit status still says what was found.
@@ -186,7 +199,7 @@ fn replay(files: &[&str]) -> bool {
     let mut counts = Counts::new();
     for file in files {
         let answer = match std::fs::read(file) {
-            Ok(image) => compare(|| Case::of(image), &mut counts, &mut |_, _| {}),
+            Ok(image) => compare(|| Case::of(image), &mut counts, &mut |_, _, _| {}),
             Err(error) => Err(error.to_string()),
         };
         if let Err(what) = answer {

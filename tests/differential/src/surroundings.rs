@@ -25,6 +25,15 @@ impl Surroundings {
         Surroundings { store, input, output, steps: step_count(random, needed), watched: true }
     }
 
+    /// For a state that no run left: its store comes later, with it.
+    pub fn few(random: &mut Random) -> Surroundings {
+        let cells = random.below(2);
+        let store = store_fill(random, cells);
+        let input = some_numbers(random, &[(1, 0), (1, 4), (4, 60)]);
+        let output = some_numbers(random, &[(1, 0), (1, 4), (4, 60)]);
+        Surroundings { store, input, output, steps: random.below(60) as u32, watched: true }
+    }
+
     /// With counts that can pass 16 bits.
     fn long(random: &mut Random, store: Vec<i64>) -> Surroundings {
         let input = some_numbers(random, &[(1, 100_000)]);

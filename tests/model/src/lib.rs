@@ -1,6 +1,7 @@
-//! Document 01 a second time, written from the paper alone: the check, the tagged machine, and what a sound state is.
-//! It follows the paper's order and words, and prefers the direct way to the fast one. It knows nothing of the proved
-//! crates; where the paper is open it takes the readings of `docs/DECISIONS.md`.
+//! Document 01 a second time, written from the paper alone: the check, the tagged machine, and what a sound state is;
+//! and of document 02 the first request, to continue a run. It follows the papers' order and words, and prefers the
+//! direct way to the fast one. It knows nothing of the proved crates; where a paper is open it takes the readings of
+//! `docs/DECISIONS.md`.
 //!
 //! | module | document 01 |
 //! |---|---|
@@ -12,10 +13,12 @@
 //! | `operators` | Values, operators, traps |
 //! | `machine` | Tagged machine: store, evaluation, statements |
 //! | `numbers` | What a run returns, as `rust/door` has it |
-//! | `sound` | Sound |
+//! | `sound` | Sound, and the kinds that places give |
+//! | `continuing` | Document 02, request 1: question 14 |
 //! | `rules` | Each thing that a question asks, as a sentence |
 //! | `words` | The words of a fault's detail |
 
+mod continuing;
 mod forms;
 pub mod image;
 pub mod machine;
@@ -29,16 +32,17 @@ pub mod types;
 mod typing;
 pub mod words;
 
+use continuing::Lent;
 pub use image::{tables, Row, Tables};
 pub use machine::{Cell, Machine, State, Step};
 pub use numbers::Numbers;
 pub use program::Program;
-pub use sound::sound;
+pub use sound::{sound, Watch};
 
-/// Why an image is refused.
+/// Why an image, a store or a state is refused.
 #[derive(Clone, Debug, PartialEq, Eq)]
 pub struct Fault {
-    /// The question, 1 to 11, and the row as document 01 counts it.
+    /// The question, 1 to 14, and the row as document 01 counts it: 0 from question 12 on.
     pub refusal: u32,
     pub row: u32,
     /// The rule that the row breaks.
@@ -47,11 +51,23 @@ pub struct Fault {
     pub detail: String,
 }
 
+impl Fault {
+    /// "a refusal leaves store and output untouched, other results 0."
+    pub fn numbers(&self) -> Numbers {
+        Numbers { refusal: self.refusal, fault: self.row, ..Numbers::default() }
+    }
+
+    /// The rule, and what breaks it.
+    pub fn told(&self) -> String {
+        format!("{} {}", self.rule.words, self.detail)
+    }
+}
+
 /// What can't be: the machine is stuck, or a state is not sound. Either the model or the paper's claim is wrong.
 #[derive(Clone, Debug, PartialEq, Eq)]
 pub struct Broken {
     /// How many steps were taken before.
-    pub steps: u32,
+    pub steps: u64,
     pub what: String,
 }
 
@@ -87,12 +103,29 @@ pub fn run_unwatched(
     unless_refused(image, |program| run_program(program, input, store, output, steps, false))
 }
 
+/// "A continue call takes the image, the store and that result", and what a run is lent. Sound is decided of the state
+/// that is there, by question 14, and after each step.
+pub fn continue_run(
+    image: &[u8],
+    input: &[i32],
+    store: &mut [i64],
+    output: &mut [i32],
+    steps: u32,
+    from: &Numbers,
+) -> Result<Numbers, Broken> {
+    unless_refused(image, |program| continue_program(program, input, store, output, steps, from, true))
+}
+
 /// "The run asks these": questions 1 to 11.
-fn unless_refused(image: &[u8], run: impl FnOnce(&Program) -> Result<Numbers, Broken>) -> Result<Numbers, Broken> {
-    match check(image) {
-        Ok(program) => run(&program),
-        Err(fault) => Ok(refused(fault.refusal, fault.row)),
-    }
+fn unless_refused(
+    image: &[u8],
+    run: impl FnOnce(&Program) -> Result<Result<Numbers, Fault>, Broken>,
+) -> Result<Numbers, Broken> {
+    let answer = match check(image) {
+        Ok(program) => run(&program)?,
+        Err(fault) => Err(fault),
+    };
+    Ok(answer.unwrap_or_else(|fault| fault.numbers()))
 }
 
 /// Runs a program that the check accepted: questions 12 and 13, then the steps.
@@ -103,49 +136,68 @@ pub fn run_program(
     output: &mut [i32],
     steps: u32,
     watched: bool,
-) -> Result<Numbers, Broken> {
-    let mut machine = match Machine::fresh(program, input, store, output) {
-        Ok(machine) => machine,
-        Err(refusal) => return Ok(refused(refusal, 0)),
-    };
-    let watch = watched.then(|| sound::Watch::new(program));
-    let last = take_steps(&mut machine, watch.as_ref(), steps)?;
-    let State { cells, row, base, top, read, written, steps } = machine.state;
-    for (place, cell) in store.iter_mut().zip(&cells) {
+) -> Result<Result<Numbers, Fault>, Broken> {
+    let watch = watched.then(|| Watch::new(program));
+    match Machine::fresh(program, input, store, output) {
+        Ok(machine) => take_steps(machine, watch.as_ref(), steps, store).map(Ok),
+        Err(fault) => Ok(Err(fault)),
+    }
+}
+
+/// Continues a program that the check accepted: questions 12 to 14, then the steps.
+pub fn continue_program(
+    program: &Program,
+    input: &[i32],
+    store: &mut [i64],
+    output: &mut [i32],
+    steps: u32,
+    from: &Numbers,
+    watched: bool,
+) -> Result<Result<Numbers, Fault>, Broken> {
+    let watch = Watch::new(program);
+    let lists = Lent { inputs: input.len(), places: output.len(), steps };
+    match continuing::continued(&watch, store, lists, from) {
+        Ok(state) => {
+            let machine = Machine::from(program, input, output, state);
+            take_steps(machine, watched.then_some(&watch), steps, store).map(Ok)
+        }
+        Err(fault) => Ok(Err(fault)),
+    }
+}
+
+/// Takes the steps that are lent. "A step that finishes or traps counts and is the last."
+fn take_steps(mut machine: Machine, watch: Option<&Watch>, lent: u32, store: &mut [i64]) -> Result<Numbers, Broken> {
+    let until = machine.state.steps + u64::from(lent);
+    let mut last = Step::GoesOn;
+    loop {
+        let taken = machine.state.steps;
+        if let Some(watch) = watch {
+            watch.sound(&machine.state).map_err(|fault| Broken { steps: taken, what: fault.told() })?;
+        }
+        if taken == until || last != Step::GoesOn {
+            break;
+        }
+        last = machine.step();
+        if let Step::Stuck(why) = last {
+            return Err(Broken { steps: taken, what: why });
+        }
+    }
+    for (place, cell) in store.iter_mut().zip(&machine.state.cells) {
         *place = cell.number;
     }
-    let (outcome, trap, halt) = match last {
+    Ok(numbers(&machine.state, &last))
+}
+
+/// What an unrefused run or continuation gives back: "The result gains base and top."
+fn numbers(state: &State, last: &Step) -> Numbers {
+    let (outcome, trap, halt) = match *last {
         Step::Finished => (1, 0, 0),
         Step::Trapped { trap, halt } => (2, trap, halt),
         _ => (0, 0, 0),
     };
-    let (steps, row, base, top) = (steps as u32, row as u32, base as u32, top as u32);
-    let (read, written) = (read as u64, written as u64);
-    Ok(Numbers { refusal: 0, fault: 0, outcome, trap, halt, steps, row, base, top, read, written })
-}
-
-/// "a refusal leaves store and output untouched, other results 0."
-fn refused(refusal: u32, fault: u32) -> Numbers {
-    Numbers { refusal, fault, ..Numbers::default() }
-}
-
-/// "A step that finishes or traps counts and is the last." What the last step came to.
-fn take_steps(machine: &mut Machine, watch: Option<&sound::Watch>, steps: u32) -> Result<Step, Broken> {
-    let mut last = Step::GoesOn;
-    loop {
-        let taken = machine.state.steps as u32;
-        let broken = |what| Broken { steps: taken, what };
-        if let Some(watch) = watch {
-            watch.sound(&machine.state).map_err(broken)?;
-        }
-        if taken == steps || last != Step::GoesOn {
-            return Ok(last);
-        }
-        last = machine.step();
-        if let Step::Stuck(why) = last {
-            return Err(broken(why));
-        }
-    }
+    let [row, base, top] = [state.row, state.base, state.top].map(|number| number as u32);
+    let (steps, read, written) = (state.steps as u32, state.read as u64, state.written as u64);
+    Numbers { refusal: 0, fault: 0, outcome, trap, halt, steps, row, base, top, read, written }
 }
 
 /// One demand of a question: where it does not hold, `row` is at fault.

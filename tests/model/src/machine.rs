@@ -4,6 +4,7 @@ use crate::image::Row;
 use crate::operators::{constant, dyadic, monadic, stuck, trap, trapped, Answer, Stop, Value};
 use crate::program::*;
 use crate::types::Kind;
+use crate::{ask, rules, Fault};
 use std::ops::Range;
 
 /// "Has the store at most 65,536 cells?"
@@ -30,7 +31,7 @@ impl Cell {
 
 /// "INTEGER is −2147483648 to 2147483647; SET has bit i for element i, 0 to 31; FALSE is 0." Links, addresses and types
 /// are numbers of 16 bits.
-fn range(kind: Kind) -> Range<i64> {
+pub(crate) fn range(kind: Kind) -> Range<i64> {
     match kind {
         Kind::Boolean => 0..2,
         Kind::Integer => -(1 << 31)..1 << 31,
@@ -79,6 +80,14 @@ pub enum Step {
     Stuck(String),
 }
 
+/// "12. Has the store at most 65,536 cells? 13. Has it at least G + F0?" Its cells, which have no kinds yet.
+pub(crate) fn lent(program: &Program, store: &[i64]) -> Result<Vec<Cell>, Fault> {
+    let (cells, needed) = (store.len(), program.globals() + program.frame(0));
+    ask(cells <= MOST_CELLS, &rules::STORE_ABOVE, 0, || format!("the store has {cells} cells"))?;
+    ask(cells >= needed, &rules::STORE_BELOW, 0, || format!("the store has {cells} cells, needed are {needed}"))?;
+    Ok(store.iter().map(|&number| Cell { kind: None, number }).collect())
+}
+
 /// A program with what it was lent, and its state.
 pub struct Machine<'a> {
     program: &'a Program,
@@ -88,27 +97,25 @@ pub struct Machine<'a> {
 }
 
 impl<'a> Machine<'a> {
-    /// The fresh state, or the question that refuses the store: "12. Has the store at most 65,536 cells? 13. Has it at
-    /// least G + F0?"
+    /// The fresh state, or the question that refuses the store.
     pub fn fresh(
         program: &'a Program,
         input: &'a [i32],
         store: &[i64],
         output: &'a mut [i32],
-    ) -> Result<Machine<'a>, u32> {
+    ) -> Result<Machine<'a>, Fault> {
+        let cells = lent(program, store)?;
         let base = program.globals();
         let top = base + program.frame(0);
-        if store.len() > MOST_CELLS {
-            return Err(12);
-        }
-        if store.len() < top {
-            return Err(13);
-        }
-        let cells = store.iter().map(|&number| Cell { kind: None, number }).collect();
         let state = State { cells, row: 0, base, top, read: 0, written: 0, steps: 0 };
-        let mut machine = Machine { program, input, output, state };
+        let mut machine = Machine::from(program, input, output, state);
         machine.clear();
         Ok(machine)
+    }
+
+    /// A state that is there already.
+    pub fn from(program: &'a Program, input: &'a [i32], output: &'a mut [i32], state: State) -> Machine<'a> {
+        Machine { program, input, output, state }
     }
 
     /// "Fresh: globals and procedure 0's frame zero". "A zeroed cell has the kind that its place gives".

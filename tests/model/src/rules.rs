@@ -1,25 +1,28 @@
-//! The rules that the eleven questions ask for, in document 01's words and in the order of the questions. Of a row that
-//! breaks several rules of its question, one is reported.
+//! The rules that the questions ask for, in the papers' words and in the order of the questions. Of a row that breaks
+//! several rules of its question, one is reported; of what question 14 asks too.
 
 /// A rule of one question.
 #[derive(Debug, PartialEq, Eq)]
 pub struct Rule {
-    /// 1 to 11.
+    /// 1 to 14.
     pub question: u32,
     /// What has to hold, as a sentence.
     pub words: &'static str,
 }
 
 macro_rules! rules {
-    ($($name:ident $question:literal $words:literal)*) => {
+    ($(#[$list_doc:meta])* $list:ident $($name:ident $question:literal $words:literal)*) => {
         $(#[doc = $words] pub static $name: Rule = Rule { question: $question, words: $words };)*
 
-        /// Every rule, question by question.
-        pub static ALL: [&Rule; [$($question),*].len()] = [$(&$name),*];
+        $(#[$list_doc])*
+        pub static $list: [&Rule; [$($question),*].len()] = [$(&$name),*];
     };
 }
 
 rules! {
+    /// Every rule of the check, question by question.
+    ALL
+
     FIRST_BYTE 1 "The image has a first byte."
     VERSION 1 "The first byte, the version, is 1."
 
@@ -131,3 +134,53 @@ rules! {
     HALT_CONSTANT 11 "HALT's number is a constant."
     HALT_TYPE 11 "HALT's number is INTEGER."
 }
+
+rules! {
+    /// What a run asks of its store after the check.
+    STORE
+
+    STORE_ABOVE 12 "The store has at most 65,536 cells."
+    STORE_BELOW 13 "The store has at least the cells of the globals and of procedure 0's frame."
+}
+
+rules! {
+    /// What a continuation asks after that: question 14, which gives no row.
+    STATE
+
+    EARLIER_REFUSAL 14 "The earlier result's refusal is 0."
+    EARLIER_FAULT 14 "The earlier result's row of refusal is 0."
+    EARLIER_OUTCOME 14 "The earlier result's outcome is 0."
+    EARLIER_TRAP 14 "The earlier result's trap is 0."
+    EARLIER_HALT 14 "The earlier result's HALT number is 0."
+    READ_COUNT 14 "No more inputs are read than are lent."
+    WRITTEN_COUNT 14 "No more outputs are written than places are lent."
+    STEP_SUM 14 "Steps done plus steps lent are at most 4294967295."
+
+    ROW_EXISTS 14 "The row is one of the statement table."
+    TOP_IN_STORE 14 "Top lies within the store."
+    TOP_FRAME 14 "The frame of the procedure whose body has the row begins at base and ends at top."
+    LINK_RANGE 14 "A link is a number from 0 to 65,535."
+    CALLER_EXISTS 14 "The caller that a link names is a row of the procedure table."
+    RETURN_IN_BODY 14 "A return row lies in the caller's body, after its first row."
+    RETURN_AFTER_CALL 14 "A return row follows a call."
+    RETURN_AFTER_ITS_CALL 14 "A return row follows a call of the procedure whose frame has it."
+    OLDER_FRAME 14 "A frame begins where the caller's ends, which begins at the base that a link gives."
+    MODULE_FRAME 14 "Procedure 0's frame begins where the globals end."
+    MODULE_LINKS 14 "The links of procedure 0's frame are 0."
+    BOOLEAN_RANGE 14 "A BOOLEAN is 0 or 1."
+    INTEGER_RANGE 14 "An INTEGER is a number from -2147483648 to 2147483647."
+    SET_RANGE 14 "A SET is a number from 0 to 4294967295."
+    ADDRESS_RANGE 14 "An address is a number from 0 to 65,535."
+    TYPE_RANGE 14 "A type cell is a number from 0 to 65,535."
+    TYPE_EXISTS 14 "The type that a type cell names is a row of the type table."
+    TYPE_SAME 14 "A VAR parameter's type cell names its own type where that is no record."
+    TYPE_EXTENDS 14 "A VAR parameter's type cell names its own type or an extension where that is a record."
+    OBJECT_BEGINS 14 "At a VAR parameter's address begins a variable, an element or a field."
+    OBJECT_TYPE 14 "What begins at a VAR parameter's address was declared with the named type."
+    OBJECT_NO_BASE 14 "What begins at a VAR parameter's address was declared with the named type, not with an extension."
+    OBJECT_NOT_OWN 14 "What begins at a VAR parameter's address is not in the parameter's own frame."
+    OBJECT_NOT_YOUNGER 14 "What begins at a VAR parameter's address is not in a younger frame."
+}
+
+/// What Sound asks of a cell. Question 14 takes each cell as the kind that its place gives.
+pub static CELL_KIND: Rule = Rule { question: 14, words: "A cell has the kind that its place gives." };

@@ -4,7 +4,7 @@ mod common;
 
 use common::{draft, image, row};
 use model::types::Kind;
-use model::{check, sound, Cell, Machine, Program, Row, State, Step, Tables};
+use model::{check, continue_program, sound, Cell, Machine, Numbers, Program, Row, State, Step, Tables};
 
 const CALL: u8 = 1;
 const RETURN: Row = Row { kind: 4, zero: 0, a: 0, b: 0, c: 0 };
@@ -145,6 +145,14 @@ fn begins(program: &Program, t: usize, place: usize, address: usize, named: usiz
         || program.fields_of(t).iter().any(|field| part(field.t, place + field.offset))
 }
 
+/// Whether question 14 passes the state.
+fn passed(program: &Program, state: &State) -> bool {
+    let mut store: Vec<i64> = state.cells.iter().map(|cell| cell.number).collect();
+    let [row, base, top] = [state.row, state.base, state.top].map(|number| number as u32);
+    let from = Numbers { row, base, top, ..Numbers::default() };
+    continue_program(program, &[], &mut store, &mut [], 0, &from, false).unwrap().is_ok()
+}
+
 #[test]
 fn objects_of_var_parameters() {
     let program = check(&image(&parts())).unwrap();
@@ -165,6 +173,7 @@ fn objects_of_var_parameters() {
                 };
                 let expected = named < types && program.extends(named, own) && (0..2 * types).any(older);
                 assert_eq!(sound(&program, &state).is_ok(), expected, "type {own}: {named} at {address}");
+                assert_eq!(passed(&program, &state), expected, "type {own}: {named} at {address}");
             }
         }
         assert_eq!(machine.step(), Step::GoesOn);

@@ -28,6 +28,8 @@ pub struct Scale {
     risk: usize,
     /// Large arrays, and many of them.
     wide: bool,
+    /// Records without cells, and many that hold them.
+    hollow: bool,
     all_fields: bool,
     all_variables: bool,
     all_nodes: bool,
@@ -100,6 +102,7 @@ impl Scale {
     fn pick(random: &mut Random) -> Scale {
         let size = random.weighted(&[(70, 0), (26, 1), (4, 2)]);
         let wide = random.chance(15);
+        let hollow = random.chance(60);
         let few = random.below(10) * random.below(10).min(1);
         let full = |random: &mut Random| size == 2 && random.chance(500);
         let risk = random.weighted(&[(35, 1), (40, 8), (25, 40)]);
@@ -110,6 +113,7 @@ impl Scale {
             items: [8, 10, 12][size],
             risk,
             wide,
+            hollow,
             all_fields: full(random),
             all_variables: full(random),
             all_nodes: full(random),
@@ -197,7 +201,23 @@ impl Maker<'_> {
         }
     }
 
+    /// A type without cells, or one that holds some, where there is one.
+    fn hollow_type(&mut self) -> Option<usize> {
+        let empty: Vec<usize> = (3..self.types.list.len()).filter(|t| self.types.list[*t].size == 0).collect();
+        if self.random.chance(500) {
+            return self.random.any(&empty);
+        }
+        let holds = |t: &usize| self.types.list[*t].size < 60 && empty.iter().any(|empty| self.types.holds(*t, *empty));
+        let around: Vec<usize> = (3..self.types.list.len()).filter(holds).collect();
+        self.random.any(&around)
+    }
+
     fn declared_type(&mut self) -> usize {
+        if self.scale.hollow && self.random.chance(600) {
+            if let Some(ty) = self.hollow_type() {
+                return ty;
+            }
+        }
         if self.scale.wide && self.random.chance(500) {
             return self.types.largest();
         }

@@ -71,7 +71,7 @@ impl Types {
     }
 
     fn add_array(&mut self, random: &mut Random, scale: &Scale) {
-        let element = self.element(random);
+        let element = self.element(random, scale);
         let most = LARGEST / self.list[element].size.max(1);
         let wanted = match random.below(100) {
             0..=59 if scale.wide => random.between(LARGEST / 2, LARGEST),
@@ -88,7 +88,7 @@ impl Types {
     }
 
     /// Mostly an array or a record, so that designators have several indexes, and arrays hold extensions.
-    fn element(&self, random: &mut Random) -> usize {
+    fn element(&self, random: &mut Random, scale: &Scale) -> usize {
         let not_deep = |t: &usize| self.list[*t].depth < 4;
         let (records, arrays): (Vec<usize>, Vec<usize>) =
             (3..self.list.len()).filter(not_deep).partition(|t| self.is_record(*t));
@@ -97,7 +97,7 @@ impl Types {
             3..=6 => random.any(&records),
             _ => None,
         };
-        choice.unwrap_or_else(|| self.part(random))
+        choice.unwrap_or_else(|| self.part(random, scale))
     }
 
     fn add_record(&mut self, random: &mut Random, scale: &Scale) {
@@ -109,7 +109,7 @@ impl Types {
         }
         let first = self.fields.len();
         for _ in 0..self.own_fields(random, scale) {
-            self.add_field(random, &mut record);
+            self.add_field(random, &mut record, scale);
         }
         let own = self.fields.len() - first;
         self.add(record, row(4, base.map_or(0, |base| base + 1), first, own));
@@ -121,11 +121,12 @@ impl Types {
         if scale.all_fields && self.list.len() + 1 == scale.types {
             return left;
         }
-        random.weighted(&[(12, 0), (30, 1), (30, 2), (18, 3), (8, 5)]).min(left)
+        let none = if scale.hollow { 80 } else { 12 };
+        random.weighted(&[(none, 0), (30, 1), (30, 2), (18, 3), (8, 5)]).min(left)
     }
 
-    fn add_field(&mut self, random: &mut Random, record: &mut Type) {
-        let part = self.part(random);
+    fn add_field(&mut self, random: &mut Random, record: &mut Type, scale: &Scale) {
+        let part = self.part(random, scale);
         let part = if record.size + self.list[part].size <= LARGEST { part } else { BOOLEAN };
         let Type { size, depth, .. } = self.list[part];
         if record.size + size > LARGEST {
@@ -138,9 +139,9 @@ impl Types {
     }
 
     /// A type to be an element or a field: not too deep, so that designators stay short.
-    fn part(&self, random: &mut Random) -> usize {
+    fn part(&self, random: &mut Random, scale: &Scale) -> usize {
         let part = random.below(self.list.len());
-        if self.list[part].depth > 5 || random.chance(500) {
+        if self.list[part].depth > 5 || random.chance(if scale.hollow { 200 } else { 500 }) {
             return random.below(3);
         }
         part

@@ -1,0 +1,355 @@
+/* States to continue from that are costly to ask about: each an image, a store and the result that stands for it. Some
+ * are what a program leaves that calls itself until the store is full, others are written cell by cell.
+ *
+ * A costly state has many frames, many VAR parameters in them, and many variables or fields that hold no cells but are
+ * looked at. At most there are 64 types, 256 fields, 256 variables and 65,536 cells. */
+#ifndef STATES_H
+#define STATES_H
+
+#include <stdio.h>
+#include <stdlib.h>
+
+#include "builder.h"
+#include "door.h"
+
+enum { MOST_STATE = 65536 };
+
+struct state {
+    uint8_t image[LONGEST];
+    size_t length, cells;
+    int64_t store[MOST_STATE];
+    struct door_result from;
+};
+
+static struct builder b;
+
+_Noreturn static void wrong(const char *what) {
+    fprintf(stderr, "states: %s\n", what);
+    exit(2);
+}
+
+/* ---- parts of images */
+
+static unsigned record(unsigned base_plus_1, unsigned own) {
+    return add(&b, TYPES, RECORD, base_plus_1, b.count[FIELDS] - own, own);
+}
+static void field(unsigned type) { add(&b, FIELDS, 0, type, 0, 0); }
+static unsigned global(unsigned type) { return add(&b, VARIABLES, GLOBAL, type, 0, 0); }
+static unsigned variable(unsigned v) { return add(&b, NODES, VARIABLE, v, 0, 0); }
+
+/* So many variables of a kind: the first row. */
+static unsigned variables(unsigned kind, unsigned type, unsigned count) {
+    const unsigned first = b.count[VARIABLES];
+    while (count-- > 0)
+        add(&b, VARIABLES, kind, type, 0, 0);
+    return first;
+}
+
+/* A procedure with the variables that come next, its body beginning at the next statement: its row. */
+static unsigned procedure(unsigned parameters, unsigned locals) {
+    return add(&b, PROCEDURES, 0, b.count[STATEMENTS], parameters, locals);
+}
+
+/* A call with these variables as arguments; of `same`, where it is set, each time the first. */
+static void call(unsigned q, unsigned first, unsigned count, int same) {
+    const unsigned held = b.count[NODES];
+    for (unsigned i = 0; i < count; i++)
+        variable(same ? first : first + i);
+    for (unsigned i = 0; i < count; i++)
+        add(&b, NODES, ARGUMENT, held + i, 0, 0);
+    add(&b, STATEMENTS, CALL, q, count > 0 ? held + count : 0, 0);
+}
+
+static void give_back(void) { add(&b, STATEMENTS, RETURN, 0, 0, 0); }
+
+/* Procedure 1, which calls itself with its own parameters; the module body calls it with `count` times variable `v`. */
+static void calling_itself(unsigned v, unsigned kind, unsigned type, unsigned count, unsigned local, unsigned locals) {
+    unsigned first;
+    call(1, v, count, 1);
+    give_back();
+    first = variables(kind, type, count);
+    variables(LOCAL, local, locals);
+    procedure(count, locals);
+    call(1, first, count, 0);
+    give_back();
+}
+
+/* ---- states */
+
+/* The state in which a call does not fit any more: that of the trap, with its outcome put back to 0. */
+static void run_full(struct state *s, size_t cells) {
+    static const int32_t none[1];
+    static int32_t output[1];
+    s->length = bytes(&b, s->image);
+    s->cells = cells;
+    s->from = door_run(s->image, s->length, none, 0, s->store, cells, output, 0, UINT32_MAX);
+    if (s->from.refusal != 0 || s->from.trap != DOOR_TRAP_FRAME)
+        wrong("the store does not get full");
+    s->from.outcome = s->from.trap = 0;
+}
+
+/* A record without cells. */
+static unsigned empty(void) { return record(0, 0); }
+
+/* P(VAR a, b): both always name variables of the oldest frame. */
+static void oldest(struct state *s, size_t cells) {
+    unsigned r, first;
+    begin(&b);
+    field(INTEGER), field(SET);
+    r = record(0, 2);
+    b.rows[PROCEDURES][7] = 2; /* procedure 0 has two locals */
+    call(1, 0, 2, 0);
+    give_back();
+    variables(LOCAL, r, 2);
+    first = variables(VAR, r, 2);
+    procedure(2, 0);
+    call(1, first, 2, 0);
+    give_back();
+    run_full(s, cells);
+}
+
+/* 255 VAR parameters a frame, which name a global */
+static void parameters(struct state *s, size_t cells) {
+    begin(&b);
+    calling_itself(global(INTEGER), VAR, INTEGER, 255, 0, 0);
+    run_full(s, cells);
+}
+
+/* Value parameters and locals of a record with a BOOLEAN and an INTEGER */
+static void values(struct state *s, size_t cells) {
+    unsigned r;
+    begin(&b);
+    field(BOOLEAN), field(INTEGER);
+    r = record(0, 2);
+    calling_itself(global(r), VALUE, r, 4, r, 4);
+    run_full(s, cells);
+}
+
+/* Arrays of arrays of records as value parameters, 513 cells a frame with the links */
+static void arrays(struct state *s, size_t cells) {
+    unsigned r;
+    begin(&b);
+    field(BOOLEAN), field(INTEGER), field(SET);
+    r = record(0, 3);
+    r = add(&b, TYPES, ARRAY, r, 2, 0);
+    r = add(&b, TYPES, ARRAY, r, 5, 0);
+    r = add(&b, TYPES, ARRAY, r, 17, 0);
+    calling_itself(global(r), VALUE, r, 1, 0, 0);
+    run_full(s, cells);
+}
+
+/* Arrays of records with a cell at each end and 254 fields between them that have none */
+static void empty_fields(struct state *s, size_t cells) {
+    unsigned e, r;
+    begin(&b);
+    e = empty();
+    field(BOOLEAN);
+    for (int i = 0; i < 254; i++)
+        field(e);
+    field(INTEGER);
+    r = record(0, 256);
+    r = add(&b, TYPES, ARRAY, r, 254, 0);
+    calling_itself(global(r), VALUE, r, 1, 0, 0);
+    run_full(s, cells);
+}
+
+/* Frames of three cells, with 256 locals that have none */
+static void empty_locals(struct state *s, size_t cells) {
+    unsigned e;
+    begin(&b);
+    e = empty();
+    calling_itself(0, VALUE, 0, 0, e, 256);
+    run_full(s, cells);
+}
+
+/* The same, and one that has a cell, behind the others */
+static void one_cell(struct state *s, size_t cells) {
+    unsigned e;
+    begin(&b);
+    e = empty();
+    calling_itself(0, VALUE, 0, 0, e, 255);
+    add(&b, VARIABLES, LOCAL, BOOLEAN, 0, 0);
+    b.rows[PROCEDURES][8 + 6] = 1; /* procedure 1 has 256 locals */
+    b.rows[PROCEDURES][8 + 7] = 0;
+    run_full(s, cells);
+}
+
+/* 18 VAR parameters a frame that name the last of 237 globals, all without cells, which begin at one place */
+static void empty_globals(struct state *s, size_t cells) {
+    unsigned e, named;
+    begin(&b);
+    e = empty();
+    named = empty();
+    variables(GLOBAL, e, 236);
+    calling_itself(global(named), VAR, named, 18, 0, 0);
+    run_full(s, cells);
+}
+
+/* The same of 237 locals of the caller's frame; between it and the first frame with VAR parameters lie 20 frames of
+ * three cells, so that it is not the newest of its block of cells. Only the first call's arguments are globals; the
+ * cells are then written to name the locals. */
+static void empty_below(struct state *s, size_t cells) {
+    const unsigned count = 9;
+    unsigned e, named, g, first, base;
+    begin(&b);
+    e = empty();
+    named = empty();
+    g = global(named);
+    call(1, 0, 0, 0);
+    give_back();
+    variables(LOCAL, e, 236);
+    variables(LOCAL, named, 1);
+    procedure(0, 237); /* 1: the locals */
+    call(2, 0, 0, 0);
+    give_back();
+    procedure(0, 0); /* 2: calls itself, or 3 */
+    call(2, 0, 0, 0);
+    call(3, g, count, 1);
+    give_back();
+    first = variables(VAR, named, count);
+    procedure(count, 0); /* 3 */
+    call(3, first, count, 0);
+    give_back();
+    s->length = bytes(&b, s->image);
+    s->cells = cells;
+    memset(s->store, 0, sizeof s->store); /* procedure 0's frame at G, 0 */
+    s->from = (struct door_result){.row = 0, .base = 0, .top = 3};
+    for (unsigned frame = 1; s->from.top + (frame > 21 ? 3 + 2 * count : 3) <= cells; frame++) {
+        static const int64_t procedures[] = {0, 1, 2, 3}, returns[] = {1, 3, 6, 8};
+        const unsigned caller = frame == 1 ? 0 : frame == 2 ? 1 : frame <= 22 ? 2 : 3;
+        base = s->from.top;
+        s->store[base] = procedures[caller];
+        s->store[base + 1] = caller == 2 && frame < 22 ? 5 : returns[caller];
+        s->store[base + 2] = s->from.base;
+        for (unsigned i = 0; frame > 21 && i < count; i++) {
+            s->store[base + 3 + 2 * i] = 6; /* where the locals are: behind the links at 3 */
+            s->store[base + 4 + 2 * i] = named;
+        }
+        s->from.base = base;
+        s->from.top = base + (frame > 21 ? 3 + 2 * count : 3);
+        s->from.row = frame == 1 ? 2 : frame <= 21 ? 4 : 7;
+    }
+}
+
+/* 60 types, each with the one before it behind three fields without cells; 250 VAR parameters a frame name a cell of the
+ * innermost */
+static void deep_fields(struct state *s, size_t cells) {
+    unsigned e, r, g, first;
+    begin(&b);
+    e = empty();
+    field(INTEGER), field(INTEGER);
+    r = record(0, 2);
+    while (b.count[TYPES] < 64) {
+        field(e), field(e), field(e), field(r);
+        r = record(0, 4);
+    }
+    g = global(r);
+    {
+        /* the argument: field 1 of field 3 of field 3 .. of the global; named once, then handed on by a parameter */
+        unsigned node = variable(g);
+        for (int i = 0; i < 59; i++)
+            node = add(&b, NODES, FIELD, node, 3, 0);
+        node = add(&b, NODES, FIELD, node, 1, 0);
+        add(&b, STATEMENTS, CALL, 1, add(&b, NODES, ARGUMENT, node, 0, 0), 0);
+    }
+    give_back();
+    first = variables(VAR, INTEGER, 1);
+    procedure(1, 0);
+    call(2, first, 250, 1);
+    give_back();
+    first = variables(VAR, INTEGER, 250);
+    procedure(250, 0);
+    call(2, first, 250, 0);
+    give_back();
+    run_full(s, cells);
+}
+
+/* A chain of 60 bases, each with four fields without cells; 250 VAR parameters a frame name an object at the end of the
+ * first of them, which is a field of the last */
+static void deep_bases(struct state *s, size_t cells) {
+    unsigned e, named, r, g, first, node;
+    begin(&b);
+    e = empty();
+    named = empty();
+    field(INTEGER);
+    field(named);
+    r = record(0, 2);
+    while (b.count[TYPES] < 64) {
+        field(e), field(e), field(e), field(e);
+        r = record(r + 1, 4);
+    }
+    g = global(r);
+    node = add(&b, NODES, FIELD, variable(g), 1, 0);
+    add(&b, STATEMENTS, CALL, 1, add(&b, NODES, ARGUMENT, node, 0, 0), 0);
+    give_back();
+    first = variables(VAR, named, 1);
+    procedure(1, 0);
+    call(2, first, 250, 1);
+    give_back();
+    first = variables(VAR, named, 250);
+    procedure(250, 0);
+    call(2, first, 250, 0);
+    give_back();
+    run_full(s, cells);
+}
+
+/* The costliest that we know: a chain of 60 bases whose 256 fields have no cells, frames of 5 cells, each with 254
+ * locals of its last record, and a VAR parameter that names the last of them in the frame before */
+static void worst(struct state *s, size_t cells) {
+    unsigned e, r, named, g, first, node;
+    begin(&b);
+    e = empty();
+    r = e;
+    while (b.count[TYPES] < 63) {
+        field(e), field(e), field(e), field(e);
+        r = record(r + 1, 4);
+    }
+    named = empty();
+    g = global(named);
+    call(1, g, 1, 1);
+    give_back();
+    first = variables(VAR, named, 1);
+    variables(LOCAL, r, 253);
+    variables(LOCAL, named, 1);
+    procedure(1, 254);
+    node = add(&b, NODES, ARGUMENT, variable(first + 254), 0, 0);
+    add(&b, STATEMENTS, CALL, 1, node, 0);
+    give_back();
+    run_full(s, cells);
+}
+
+/* The same with frames of three cells and no VAR parameters */
+static void worst_locals(struct state *s, size_t cells) {
+    unsigned e, r;
+    begin(&b);
+    e = empty();
+    r = e;
+    while (b.count[TYPES] < 64) {
+        field(e), field(e), field(e), field(e);
+        r = record(r + 1, 4);
+    }
+    calling_itself(0, VALUE, 0, 0, r, 256);
+    run_full(s, cells);
+}
+
+static const struct {
+    const char *name;
+    void (*make)(struct state *s, size_t cells);
+} states[] = {
+    {"oldest", oldest},
+    {"parameters", parameters},
+    {"values", values},
+    {"arrays", arrays},
+    {"empty-fields", empty_fields},
+    {"empty-locals", empty_locals},
+    {"one-cell", one_cell},
+    {"empty-globals", empty_globals},
+    {"empty-below", empty_below},
+    {"deep-fields", deep_fields},
+    {"deep-bases", deep_bases},
+    {"worst", worst},
+    {"worst-locals", worst_locals},
+};
+enum { STATES = sizeof states / sizeof states[0] };
+
+#endif
