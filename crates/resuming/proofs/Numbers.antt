@@ -1,25 +1,28 @@
 -- Tests of a result's numbers.
-use mathlib.Core.Path.{_≡_, sym, _∙_, ap}
-use mathlib.Core.Bool.{true, false}
+use mathlib.Core.Path.{_≡_, refl, sym, _∙_, ap}
+use mathlib.Core.Bool.{Bool, true, false}
 use Prim.Native.Nat.{ℕ, _+_, _-_, _≤_, _<_}
 use native.Mathlib.Omega.{arith}
 use native.Mathlib.Decide.{decLe}
-use borrow.Author.Tests.{le-leb, lt-leb}
-use lib.Dec.{leb}
+use borrow.Author.Tests.{eqb-true, eq-eqb, ne-eqb, le-leb, lt-leb}
+use lib.Dec.{leb, eqb}
 use lib.IntN.{ℤ, pos}
 use mir.Syntax.{w32}
 use mir.Val.{toZ, ofZ}
+use Rattle.prelude.proofs.Choice.{clash}
 use Rattle.asking.specs.State.{isNumber}
 use Rattle.asking.proofs.Built.{number-is}
 use Rattle.asking.proofs.Told.{number-same}
 use Rattle.unwinding.proofs.Links.{not-yes}
 
--- a number of 32 bits with a sign is 0, or not
-pub zero-is : (z : ℤ) → toZ w32 (ofZ w32 z) ≡ z → ofZ w32 z ≡ 0 → isNumber z 0 ≡ true
-zero-is z back e = number-same z 0 (sym back ∙ ap (λ n. toZ w32 n) e)
-
-pub zero-not : (z : ℤ) → (ofZ w32 z ≡ 0 → ⊥) → isNumber z 0 ≡ false
-zero-not z other = not-yes _ (λ is. other (ap (λ (y : ℤ). ofZ w32 y) (number-is z 0 is)))
+-- a number of 32 bits with a sign is 0
+pub zero-told : (z : ℤ) → toZ w32 (ofZ w32 z) ≡ z → eqb (ofZ w32 z) 0 ≡ isNumber z 0
+zero-told z back = go (eqb (ofZ w32 z) 0) refl
+  where
+    go : (b : Bool) → eqb (ofZ w32 z) 0 ≡ b → b ≡ isNumber z 0
+    go true e = sym (number-same z 0 (sym back ∙ ap (λ n. toZ w32 n) (eqb-true (ofZ w32 z) 0 e)))
+    go false e =
+        sym (not-yes _ (λ is. clash (sym (eq-eqb _ 0 (ap (λ (y : ℤ). ofZ w32 y) (number-is z 0 is))) ∙ e)))
 
 -- steps lent do not exceed what the steps done leave
 pub steps-told : (done steps : ℕ) → done ≤ 4294967295

@@ -12,7 +12,7 @@ ghost use Rattle.places.specs.Places.{widthOf, roomFrom, frameSize};
 ghost use Rattle.semantics.specs.Running.{programOf};
 ghost use Rattle.asking.specs.State.{chain, soundOf};
 ghost use Rattle.asking.specs.Passes.{Walked, variablesPass, framesPass, valueTest, valuesPass};
-ghost use Rattle.asking.specs.Continuing.{withinLent, question14};
+ghost use Rattle.asking.specs.Continuing.{unfinished, withinLent, question14};
 ghost use Rattle.access.specs.Ready.{Planned, Ready};
 ghost use Rattle.resuming.specs.Reading.{ReadableImage, framesSound};
 
@@ -185,7 +185,26 @@ fn sound(image: &&[u8], plan: &Plan, store: &[i64], s: Registers) -> bool
 
 // ---- question 14
 
-// Whether a result's counts lie within the lists, and its steps leave room for these.
+// Whether a result is that of a run which was not refused, and used up its steps.
+fn is_unfinished(r: RunResult) -> bool
+    ensures { λ x. ⌜ x ≡ unfinished r ⌝ }
+{
+    if r.refusal != 0 {
+        return false;
+    }
+    if r.fault != 0 {
+        return false;
+    }
+    if r.outcome != 0 {
+        return false;
+    }
+    if r.trap != 0 {
+        return false;
+    }
+    r.halt == 0
+}
+
+// Whether its counts lie within the lists, and its steps leave room for these.
 fn is_within(input: &[i32], output: &[i32], r: RunResult, steps: u32) -> bool
     ensures { λ x. ⌜ x ≡ withinLent (now (input .entry)) (now (output .entry)) r steps ⌝ }
 {
@@ -199,9 +218,7 @@ fn is_within(input: &[i32], output: &[i32], r: RunResult, steps: u32) -> bool
     steps <= 4294967295 - r.steps
 }
 
-// Whether a run can go on from an earlier result and this store, for so many steps. The numbers are asked here, one by
-// one, and not in a function of their own: behind so many tests the compiler leaves `sound` a function, whose tables are
-// given back when it returns (docs/DECISIONS.md).
+// Whether a run can go on from an earlier result and this store, for so many steps.
 pub fn continuable(
     image: &&[u8],
     plan: &Plan,
@@ -215,19 +232,7 @@ pub fn continuable(
     ensures { λ x. ⌜ x ≡ question14 (programOf (now (now (image .entry)))) (now (input .entry)) (now (store .entry))
         (now (output .entry)) from steps ⌝ }
 {
-    if from.refusal != 0 {
-        return false;
-    }
-    if from.fault != 0 {
-        return false;
-    }
-    if from.outcome != 0 {
-        return false;
-    }
-    if from.trap != 0 {
-        return false;
-    }
-    if from.halt != 0 {
+    if !is_unfinished(from) {
         return false;
     }
     if !is_within(input, output, from, steps) {
