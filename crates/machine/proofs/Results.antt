@@ -30,7 +30,9 @@ use Rattle.semantics.proofs.Objects.{kinds-room}
 use Rattle.semantics.proofs.Outcomes.{refusal-none, ran-bare}
 use Rattle.calling.specs.Showing.{stateOf, Stands}
 use Rattle.semantics.specs.declared.Registers.{Registers}
-use Rattle.asking.proofs.Giving.{Continues, Ranged, continues-refused}
+use Rattle.asking.specs.Continuing.{question14}
+use Rattle.asking.proofs.Continuing.{question14-exact}
+use Rattle.asking.proofs.Giving.{Continues, Ranged, continues-refused, continues-14, continues-run}
 use Rattle.machine.specs.Stopping.{Stops, storeQuestion}
 
 -- ---- the fresh state
@@ -189,3 +191,27 @@ module _ (image : List ℕ) (input store output : List ℤ) (from : RunResult) (
     continues-store q is some =
         continues-refused image input store output from steps q 0 (store-refuses image store accepted ∙ sym is) some
         (rw accepted)
+
+-- ---- a continuation of no steps
+
+module _ (image : List ℕ) (input store output : List ℤ) (from : RunResult) (steps : ℕ) (bytes : Bytes image)
+    (none : refusal image store ≡ 0) (idle : steps ≡ 0) where
+  -- it comes to the earlier result
+  still : question14 (programOf image) input store output from 0 ≡ true
+      → from ≡ numbersOf (runFrom bare (programOf image) input steps (from .steps)
+      (record { at = from .at; cells = store; output = output }))
+  unfolding runFrom numbersOf
+  still passes =
+      let c = question14-exact image (refusal-none image store none .0) input store output from 0 .0 passes in
+      rw (idle, c .refusal, c .fault, c .outcome, c .trap, c .halt)
+
+  -- the earlier result as it was, or a refusal
+  pub continues-kept : (passes : Bool) → passes ≡ question14 (programOf image) input store output from 0
+      → Continues image input store output from steps (choose passes from (refusedWith 14 0)) store output
+  unfolding choose runFrom
+  continues-kept true is =
+      let asked : question14 (programOf image) input store output from steps ≡ true = rw idle (sym is) in
+      continues-run image input store output from steps bytes none asked (still (sym is)) (rw idle) (rw idle)
+  continues-kept false is =
+      let asked : question14 (programOf image) input store output from steps ≡ false = rw idle (sym is) in
+      continues-14 image input store output from steps none asked

@@ -8,6 +8,7 @@ use sizes::RUN_PLAN;
 ghost use mathlib.Core.Path.{_≡_};
 ghost use Prim.Native.Nat.{ℕ, _+_, _≤_};
 ghost use lib.ListN.{length};
+ghost use Rattle.prelude.specs.Choice.{choose};
 ghost use Rattle.checker.specs.Check.{refusalOf, rowOf};
 ghost use Rattle.semantics.specs.Memory.{bare};
 ghost use Rattle.semantics.specs.Running.{programOf, globalRoom, firstTop, runFrom, refusedWith, resultOf, storeAfter};
@@ -169,7 +170,19 @@ pub fn run(
 
 // ---- the continuation
 
-// Checks an image and goes on from an earlier result and the store that it left, with at most `steps` steps more.
+// A continuation of no steps: where question 14 passes, the earlier result as it was.
+fn kept(passes: bool, from: RunResult) -> RunResult
+    ensures { λ x. ⌜ x ≡ choose passes from (refusedWith 14 0) ⌝ }
+{
+    if passes {
+        return from;
+    }
+    refused(14, 0)
+}
+
+// Checks an image and goes on from an earlier result and the store that it left, with at most `steps` steps more. That
+// question 14 is asked at two places leaves it a function, whose tables are given back before the first step:
+// docs/DECISIONS.md.
 pub fn resume(
     image: &[u8],
     input: &[i32],
@@ -193,6 +206,10 @@ pub fn resume(
     let question = store_question(&image, &plan, store.len());
     if question != 0 {
         return refused(question, 0);
+    }
+    if steps == 0 {
+        let passes = resuming::continuable(&image, &plan, input, store, output, from, 0);
+        return kept(passes, from);
     }
     if !resuming::continuable(&image, &plan, input, store, output, from, steps) {
         return refused(14, 0);

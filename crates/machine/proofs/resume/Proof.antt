@@ -7,7 +7,7 @@ use Rattle.access.proofs.Opening.{opened-ready}
 use Rattle.semantics.proofs.Outcomes.{refusal-none}
 use Rattle.asking.proofs.Continuing.{question14-exact}
 use Rattle.asking.proofs.Giving.{continues-14, continued-ranged, continues-run}
-use Rattle.machine.proofs.Results.{store-refuses, ranged-stands, continues-check, continues-store}
+use Rattle.machine.proofs.Results.{store-refuses, ranged-stands, continues-check, continues-store, continues-kept}
 use borrow.Author.Needs.{needs}
 use Rattle.machine.proofs.resume.Statement.{statement}
 use Rattle.machine.proofs.resume.Tie as tie
@@ -15,6 +15,7 @@ use Rattle.machine.proofs.resume.Reads as reads
 use Rattle.machine.proofs.resume.Lts as lts
 use Rattle.access.proofs.open_image.Reads as open-image-reads
 use Rattle.machine.proofs.advance.Reads as advance-reads
+use Rattle.machine.proofs.kept.Reads as kept-reads
 use Rattle.machine.proofs.refused.Reads as refused-reads
 use Rattle.machine.proofs.refused_by.Reads as refused-by-reads
 use Rattle.machine.proofs.store_question.Reads as store-question-reads
@@ -53,13 +54,10 @@ returns-2 c =
 
 continuable-requires : tie.Need-continuable-requires
 continuable-requires c κs =
-    let start = c .before .before .before .before .before .before .before .before .before .before .before .before .before .before in
-    let accepted = sym (c .before .before .before .before .before .before .before .before .before .before .before .open-image .ensures .0) ∙ c .before .before .before .before .before .before .before .before .enum-told .given .1 in
-    let (here, few, room) = refusal-none _ _ (store-refuses _ (now (start .args .store)) accepted ∙ sym (c .before .before .before .before .before .store-question .ensures) ∙ c .before .before .before .before .if1 .left) in
-    (opened-ready _ _ _ _ (omega arith) (c .before .before .before .before .before .before .before .before .enum-told .given .1) (sym (c .before .before .before .before .before .before .before .before .before .before .before .open-image .ensures .0)) (c .before .before .before .before .before .before .before .before .before .before .before .open-image .ensures .1), few)
+    (opened-ready _ _ _ _ (omega arith) (c .before .before .before .before .before .before .before .before .before .enum-told .given .1) (sym (c .before .before .before .before .before .before .before .before .before .before .before .before .open-image .ensures .0)) (c .before .before .before .before .before .before .before .before .before .before .before .before .open-image .ensures .1), refusal-none _ _ (store-refuses _ (now (c .before .before .before .before .before .before .before .before .before .before .before .before .before .before .before .args .store)) (sym (c .before .before .before .before .before .before .before .before .before .before .before .before .open-image .ensures .0) ∙ c .before .before .before .before .before .before .before .before .before .enum-told .given .1) ∙ sym (c .before .before .before .before .before .before .store-question .ensures) ∙ c .before .before .before .before .before .if1 .left) .1)
 
-refused-requires-2 : tie.Need-refused-requires-2
-refused-requires-2 c κs = search needs
+kept-requires : tie.Need-kept-requires
+kept-requires c κs = search needs
 
 same-length : tie.Need-same-length
 same-length c = search needs
@@ -69,21 +67,17 @@ same-length-2 c = search needs
 
 returns-3 : tie.Need-returns-3
 returns-3 c =
-    let none = store-refuses _ _ (sym (c .before .before .before .before .before .before .before .before .before .before .before .before .before .before .open-image .ensures .0) ∙ c .before .before .before .before .before .before .before .before .before .before .before .enum-told .given .1) ∙ sym (c .before .before .before .before .before .before .before .before .store-question .ensures) ∙ c .before .before .before .before .before .before .before .if1 .left in
-    let gives = continues-14 _ _ _ _ _ _ none (sym (c .before .before .continuable .ensures) ∙ not-true _ (c .before .if2 .taken)) in
-    (c .refused2 .ensures ∙ gives .result, (gives .left, gives .sent))
+    let bytes = c .before .before .before .before .before .before .before .before .before .before .before .before .before .before .before .before .shared-slice-known .given in
+    let gives = continues-kept _ _ _ _ _ _ (record { each = λ i. omega (arith, bytes i) }) (store-refuses _ (now (c .before .before .before .before .before .before .before .before .before .before .before .before .before .before .before .before .before .args .store)) (sym (c .before .before .before .before .before .before .before .before .before .before .before .before .before .before .open-image .ensures .0) ∙ c .before .before .before .before .before .before .before .before .before .before .before .enum-told .given .1) ∙ sym (c .before .before .before .before .before .before .before .before .store-question .ensures) ∙ c .before .before .before .before .before .before .before .if1 .left)
+    (c .before .before .before .before .before .before .if2 .taken) _ (c .before .continuable .ensures) in
+    (c .kept .ensures ∙ gives .result, (gives .left, gives .sent))
 
-advance-requires : tie.Need-advance-requires
-advance-requires c κs =
-    let start = c .before .before .before .before .before .before .before .before .before .before .before .before .before .before .before .before .before .before .before .before in
-    let bytes = c .before .before .before .before .before .before .before .before .before .before .before .before .before .before .before .before .before .before .before .shared-slice-known .given in
-    let accepted = sym (c .before .before .before .before .before .before .before .before .before .before .before .before .before .before .before .before .before .open-image .ensures .0) ∙ c .before .before .before .before .before .before .before .before .before .before .before .before .before .before .enum-told .given .1 in
-    let none = store-refuses _ (now (start .args .store)) accepted ∙ sym (c .before .before .before .before .before .before .before .before .before .before .before .store-question .ensures) ∙ c .before .before .before .before .before .before .before .before .before .before .if1 .left in
-    let passes = sym (c .before .before .before .before .before .continuable .ensures) ∙ not-false _ (c .before .before .before .before .if2 .left) in (
-      opened-ready _ _ _ _ (omega arith) (c .before .before .before .before .before .before .before .before .before .before .before .before .before .before .enum-told .given .1) (sym (c .before .before .before .before .before .before .before .before .before .before .before .before .before .before .before .before .before .open-image .ensures .0)) (c .before .before .before .before .before .before .before .before .before .before .before .before .before .before .before .before .before .open-image .ensures .1),
-      ranged-stands (continued-ranged _ _ _ _ _ _ (record { each = λ i. omega (arith, bytes i) }) none passes),
-      question14-exact _ accepted _ _ _ _ _ .0 passes .steps,
-    )
+continuable-requires-2 : tie.Need-continuable-requires-2
+continuable-requires-2 c κs =
+    (opened-ready _ _ _ _ (omega arith) (c .before .before .before .before .before .before .before .before .before .enum-told .given .1) (sym (c .before .before .before .before .before .before .before .before .before .before .before .before .open-image .ensures .0)) (c .before .before .before .before .before .before .before .before .before .before .before .before .open-image .ensures .1), refusal-none _ _ (store-refuses _ (now (c .before .before .before .before .before .before .before .before .before .before .before .before .before .before .before .args .store)) (sym (c .before .before .before .before .before .before .before .before .before .before .before .before .open-image .ensures .0) ∙ c .before .before .before .before .before .before .before .before .before .enum-told .given .1) ∙ sym (c .before .before .before .before .before .before .store-question .ensures) ∙ c .before .before .before .before .before .if1 .left) .1)
+
+refused-requires-2 : tie.Need-refused-requires-2
+refused-requires-2 c κs = search needs
 
 same-length-3 : tie.Need-same-length-3
 same-length-3 c = search needs
@@ -93,11 +87,31 @@ same-length-4 c = search needs
 
 returns-4 : tie.Need-returns-4
 returns-4 c =
-    let bytes = c .before .before .before .before .before .before .before .before .before .before .before .before .before .before .before .before .before .before .before .before .before .before .shared-slice-known .given in
-    let none = store-refuses _ _ (sym (c .before .before .before .before .before .before .before .before .before .before .before .before .before .before .before .before .before .before .before .before .open-image .ensures .0) ∙ c .before .before .before .before .before .before .before .before .before .before .before .before .before .before .before .before .before .enum-told .given .1) ∙ sym (c .before .before .before .before .before .before .before .before .before .before .before .before .before .before .store-question .ensures) ∙ c .before .before .before .before .before .before .before .before .before .before .before .before .before .if1 .left in
-    let passes = sym (c .before .before .before .before .before .before .before .before .continuable .ensures) ∙ not-false _ (c .before .before .before .before .before .before .before .if2 .left) in
+    let gives = continues-14 _ _ _ _ _ _ (store-refuses _ (now (c .before .before .before .before .before .before .before .before .before .before .before .before .before .before .before .before .before .before .args .store)) (sym (c .before .before .before .before .before .before .before .before .before .before .before .before .before .before .before .open-image .ensures .0) ∙ c .before .before .before .before .before .before .before .before .before .before .before .before .enum-told .given .1) ∙ sym (c .before .before .before .before .before .before .before .before .before .store-question .ensures) ∙ c .before .before .before .before .before .before .before .before .if1 .left)
+    (sym (c .before .before .continuable2 .ensures) ∙ not-true _ (c .before .if3 .taken)) in
+    (c .refused2 .ensures ∙ gives .result, (gives .left, gives .sent))
+
+advance-requires : tie.Need-advance-requires
+advance-requires c κs =
+    let bytes = c .before .before .before .before .before .before .before .before .before .before .before .before .before .before .before .before .before .before .before .before .shared-slice-known .given in
+    let passes = sym (c .before .before .before .before .before .continuable2 .ensures) ∙ not-false _ (c .before .before .before .before .if3 .left) in (
+      opened-ready _ _ _ _ (omega arith) (c .before .before .before .before .before .before .before .before .before .before .before .before .before .before .before .enum-told .given .1) (sym (c .before .before .before .before .before .before .before .before .before .before .before .before .before .before .before .before .before .before .open-image .ensures .0)) (c .before .before .before .before .before .before .before .before .before .before .before .before .before .before .before .before .before .before .open-image .ensures .1),
+      ranged-stands (continued-ranged _ _ _ _ _ _ (record { each = λ i. omega (arith, bytes i) }) (store-refuses _ (now (c .before .before .before .before .before .before .before .before .before .before .before .before .before .before .before .before .before .before .before .before .before .args .store)) (sym (c .before .before .before .before .before .before .before .before .before .before .before .before .before .before .before .before .before .before .open-image .ensures .0) ∙ c .before .before .before .before .before .before .before .before .before .before .before .before .before .before .before .enum-told .given .1) ∙ sym (c .before .before .before .before .before .before .before .before .before .before .before .before .store-question .ensures) ∙ c .before .before .before .before .before .before .before .before .before .before .before .if1 .left) passes),
+      question14-exact _ (sym (c .before .before .before .before .before .before .before .before .before .before .before .before .before .before .before .before .before .before .open-image .ensures .0) ∙ c .before .before .before .before .before .before .before .before .before .before .before .before .before .before .before .enum-told .given .1) _ _ _ _ _ .0 passes .steps,
+    )
+
+same-length-5 : tie.Need-same-length-5
+same-length-5 c = search needs
+
+same-length-6 : tie.Need-same-length-6
+same-length-6 c = search needs
+
+returns-5 : tie.Need-returns-5
+returns-5 c =
+    let bytes = c .before .before .before .before .before .before .before .before .before .before .before .before .before .before .before .before .before .before .before .before .before .before .before .shared-slice-known .given in
+    let passes = sym (c .before .before .before .before .before .before .before .before .continuable2 .ensures) ∙ not-false _ (c .before .before .before .before .before .before .before .if3 .left) in
     let stops = c .before .before .advance .ensures in
-    let gives = continues-run _ _ _ _ _ _ (record { each = λ i. omega (arith, bytes i) }) none passes (stops .answer)
+    let gives = continues-run _ _ _ _ _ _ (record { each = λ i. omega (arith, bytes i) }) (store-refuses _ (now (c .before .before .before .before .before .before .before .before .before .before .before .before .before .before .before .before .before .before .before .before .before .before .before .before .args .store)) (sym (c .before .before .before .before .before .before .before .before .before .before .before .before .before .before .before .before .before .before .before .before .before .open-image .ensures .0) ∙ c .before .before .before .before .before .before .before .before .before .before .before .before .before .before .before .before .before .before .enum-told .given .1) ∙ sym (c .before .before .before .before .before .before .before .before .before .before .before .before .before .before .before .store-question .ensures) ∙ c .before .before .before .before .before .before .before .before .before .before .before .before .before .before .if1 .left) passes (stops .answer)
     (stops .cells-left) (stops .output-left) in
     (gives .result, (gives .left, gives .sent))
 
@@ -115,11 +129,16 @@ resume-spec =
     refused-requires
     returns-2
     continuable-requires
-    refused-requires-2
+    kept-requires
     same-length
     same-length-2
     returns-3
-    advance-requires
+    continuable-requires-2
+    refused-requires-2
     same-length-3
     same-length-4
-    returns-4)
+    returns-4
+    advance-requires
+    same-length-5
+    same-length-6
+    returns-5)
