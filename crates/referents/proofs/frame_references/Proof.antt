@@ -1,13 +1,3 @@
-use Prim.Native.Nat.{_-_}
-use denote.Ref.{now}
-use native.Mathlib.Omega.{arith}
-use borrow.Author.Tests.{not-true, not-false}
-use borrow.Author.Needs.{needs}
-use Rattle.access.proofs.Bounds.{claimed-there, variables-few}
-use Rattle.unwinding.proofs.Walking.{frame-links}
-use Rattle.semantics.specs.Running.{programOf}
-use Rattle.referents.proofs.Parameters.{Passed, end-is, passed-start, parameter-there, parameter-room}
-use Rattle.referents.proofs.Parameters.{passed-no, passed-next, passed-end}
 use Rattle.referents.proofs.frame_references.Statement.{statement}
 use Rattle.referents.proofs.frame_references.Tie as tie
 use Rattle.referents.proofs.frame_references.Reads as reads
@@ -17,87 +7,86 @@ use Rattle.access.proofs.procedure_at.Reads as procedure-at-reads
 use Rattle.referents.proofs.parameter.Reads as parameter-reads
 
 abbrev Inv-loop : tie.InvT-loop
-Inv-loop image plan t f starts ends store top blocks q base parameters first end k₀ k =
-    Passed (image .now) q base store top blocks k
+Inv-loop image plan t f starts ends next store top blocks q base parameters first end k₀ k = ?
 
 abbrev μ-loop : tie.MeasureT-loop
-μ-loop image plan t f starts ends store top blocks q base parameters first end k₀ k = end - k
+μ-loop image plan t f starts ends next store top blocks q base parameters first end k₀ k = ?
 
+-- src/lib.rt:282:9
 procedure-at-requires : tie.Need-procedure-at-requires Inv-loop μ-loop
-procedure-at-requires c κs = search needs
+procedure-at-requires c κs = ?
 
+-- src/lib.rt:284:9
 first-variable-requires : tie.Need-first-variable-requires Inv-loop μ-loop
-first-variable-requires c κs = let s = c .before .before .before .before .before .before in
-    (s .pre .0 .planned, s .pre .2)
+first-variable-requires c κs = ?
 
+-- src/lib.rt:285:23
 cast-end : tie.Need-cast-end Inv-loop μ-loop
-cast-end c = search needs
+cast-end c = ?
 
+-- src/lib.rt:285:15
 add-end : tie.Need-add-end Inv-loop μ-loop
-add-end c = let s = c .before .before .before .before .before .before .before in
-    let p = s .pre .0 .planned in
-    omega (
-      arith,
-      end-is (now (now (s .args .image))) (s .args .q) (c .before .procedure-at .ensures)
-          (c .first-variable .ensures),
-      claimed-there p _ (s .pre .2),
-      variables-few p,
-    )
+add-end c = ?
 
+-- src/lib.rt:286:22
+cast-k : tie.Need-cast-k Inv-loop μ-loop
+cast-k c = ?
+
+-- src/lib.rt:286:17
+mul-k : tie.Need-mul-k Inv-loop μ-loop
+mul-k c = ?
+
+-- src/lib.rt:286:17
+shared-slice-read-k : tie.Need-shared-slice-read-k Inv-loop μ-loop
+shared-slice-read-k c = ?
+
+-- src/lib.rt:286:17
+cast-k-2 : tie.Need-cast-k-2 Inv-loop μ-loop
+cast-k-2 c = ?
+
+-- src/lib.rt:287:5
 loop-holds : tie.Need-loop-holds Inv-loop μ-loop
-loop-holds c = passed-start _ _ _ _ _ _ (c .first-variable .ensures)
+loop-holds c = ?
 
+-- src/lib.rt:288:13
 parameter-requires : tie.Need-parameter-requires Inv-loop μ-loop
-parameter-requires c κs = let s = c .before .before .before .before .before .before .before .before .before in
-    let image = now (now (s .args .image)) in
-    let q = s .args .q in
-    let p = s .pre .0 .planned in
-    let low = c .before .loop .inv .least in
-    let more = rw (end-is image q (c .before .before .before .procedure-at .ensures)
-    (c .before .before .first-variable .ensures)) at (c .loop-test .taken) in (
-      s .pre .0,
-      s .pre .1,
-      parameter-there image q p (s .pre .2) low more,
-      omega (arith, s .pre .3, frame-links (programOf image) q, s .pre .1 .cells, s .pre .1 .small),
-      parameter-room image q p (s .pre .2) low more (s .args .base) (s .pre .3),
-    )
+parameter-requires c κs = ?
 
+-- src/lib.rt:289:13
 returns : tie.Need-returns Inv-loop μ-loop
-returns c = let s = c .before .before .before .before .before .before .before .before .before .before .before in
-    let image = now (now (s .args .image)) in
-    let q = s .args .q in
-    let more = rw (end-is image q (c .before .before .before .before .before .procedure-at .ensures)
-    (c .before .before .before .before .first-variable .ensures)) at (c .before .before .loop-test .taken) in
-    passed-no image q _ _ _ _ (s .pre .0 .planned) (s .pre .2) (c .before .before .before .loop .inv) more
-    (c .before .parameter .ensures) (not-true _ (c .if1 .taken))
+returns c = ?
 
+-- src/lib.rt:291:18
+cast-k-3 : tie.Need-cast-k-3 Inv-loop μ-loop
+cast-k-3 c = ?
+
+-- src/lib.rt:291:18
 add-k : tie.Need-add-k Inv-loop μ-loop
-add-k c = let s = c .before .before .before .before .before .before .before .before .before .before .before in
-    let image = now (now (s .args .image)) in
-    let p = s .pre .0 .planned in
-    let end = end-is image (s .args .q) (c .before .before .before .before .before .procedure-at .ensures)
-    (c .before .before .before .before .first-variable .ensures) in
-    omega (arith, end, c .before .before .loop-test .taken, claimed-there p _ (s .pre .2), variables-few p)
+add-k c = ?
 
+-- src/lib.rt:291:13
+mul-k-2 : tie.Need-mul-k-2 Inv-loop μ-loop
+mul-k-2 c = ?
+
+-- src/lib.rt:291:13
+shared-slice-read-k-2 : tie.Need-shared-slice-read-k-2 Inv-loop μ-loop
+shared-slice-read-k-2 c = ?
+
+-- src/lib.rt:291:13
+cast-k-4 : tie.Need-cast-k-4 Inv-loop μ-loop
+cast-k-4 c = ?
+
+-- src/lib.rt:287:5
 loop-less : tie.Need-loop-less Inv-loop μ-loop
-loop-less c = omega arith
+loop-less c = ?
 
+-- src/lib.rt:287:5
 loop-again : tie.Need-loop-again Inv-loop μ-loop
-loop-again c = let s = c .before .before .before .before .before .before .before .before .before .before .before in
-    let image = now (now (s .args .image)) in
-    let q = s .args .q in
-    let more = rw (end-is image q (c .before .before .before .before .before .procedure-at .ensures)
-    (c .before .before .before .before .first-variable .ensures)) at (c .before .before .loop-test .taken) in
-    passed-next image q _ _ _ _ (s .pre .0 .planned) (s .pre .2) (c .before .before .before .loop .inv) more
-    (c .before .parameter .ensures) (not-false _ (c .if1 .left))
+loop-again c = ?
 
+-- src/lib.rt:253:1
 returns-2 : tie.Need-returns-2 Inv-loop μ-loop
-returns-2 c = let s = c .before .before .before .before .before .before .before .before .before in
-    let image = now (now (s .args .image)) in
-    let q = s .args .q in
-    let done = rw (end-is image q (c .before .before .before .procedure-at .ensures)
-    (c .before .before .first-variable .ensures)) at (c .loop-test .left) in
-    passed-end image q _ _ _ _ (s .pre .0 .planned) (s .pre .2) (c .before .loop .inv) done
+returns-2 c = ?
 
 pub frame-references-spec : {M : Type 1} → statement M
 frame-references-spec =
@@ -109,10 +98,18 @@ frame-references-spec =
     first-variable-requires
     cast-end
     add-end
+    cast-k
+    mul-k
+    shared-slice-read-k
+    cast-k-2
     loop-holds
     parameter-requires
     returns
+    cast-k-3
     add-k
+    mul-k-2
+    shared-slice-read-k-2
+    cast-k-4
     loop-less
     loop-again
     returns-2)
