@@ -155,6 +155,13 @@ module _ (g : Program) where
 
   -- ---- loops
 
+  -- a place has a row from its own on, or how many rows there are
+  pub skips-within : {next : List ℕ} → Skips g next → (k : ℕ) → k ≤ rowsOf (g .variables)
+      → (k ≤ getD next k 0) × (getD next k 0 ≤ rowsOf (g .variables))
+  skips-within skips k low =
+      let is = skips .each k low in
+      (omega (arith, is, next-least k), omega (arith, is, next-most k low))
+
   -- from a row on to the next that has cells
   pub ahead-next : {test : ℕ → List ℤ → Bool} {store : List ℤ} {k n from j at x : ℕ}
       → Along g test store k n from j at → x ≡ nextOf g j → Ahead g test store k n from x at
