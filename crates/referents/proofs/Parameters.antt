@@ -27,7 +27,7 @@ use Rattle.asking.proofs.Variables.{Along, along-start, along-no, along-more, A
 use Rattle.access.specs.Ready.{Planned}
 use Rattle.access.proofs.Bounds.{claimed-there, place-in}
 use Rattle.unwinding.specs.Next.{nextOf}
-use Rattle.unwinding.proofs.Next.{next-least, ahead-next}
+use Rattle.unwinding.proofs.Next.{bare-other, next-least, ahead-next}
 use Rattle.referents.specs.Reading.{Framed, Oldest}
 
 -- ---- one variable
@@ -55,9 +55,7 @@ module _ (g : Program) (k : ℕ) {row : Row} (is : row ≡ rowAt (g .variables) 
 -- a variable without cells is none
 pub test-free : (g : Program) (older : List ℕ) (k : ℕ) (l : List ℤ)
     → widthOf (g .types) (g .fields) (g .variables) k ≡ 0 → referenceTest g older k l ≡ true
-test-free g older k l none =
-    sym (test-other g k refl older l
-    (λ var. absurd (omega (arith, width-var (sizeOf (g .types) (g .fields)) (g .variables) k var))))
+test-free g older k l none = sym (test-other g k refl older l (bare-other g k none))
 
 -- ---- several
 

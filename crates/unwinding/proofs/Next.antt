@@ -14,8 +14,9 @@ use Rattle.prelude.specs.Choice.{choose}
 use Rattle.prelude.specs.Cells.{Filled}
 use Rattle.prelude.proofs.Cells.{filled-none, filled-at}
 use Rattle.prelude.proofs.Choice.{choose-yes, choose-no}
-use Rattle.image.specs.Rows.{rowsOf}
+use Rattle.image.specs.Rows.{rowAt, rowsOf}
 use Rattle.places.specs.Places.{widthOf}
+use Rattle.places.proofs.Rooms.{width-var}
 use Rattle.semantics.specs.Layout.{Program}
 use Rattle.asking.proofs.Variables.{Along, Ahead}
 use Rattle.access.specs.Ready.{tableOf}
@@ -42,6 +43,13 @@ module _ (g : Program) where
   pub or-here : (k behind : ℕ) → (widthOf (g .types) (g .fields) (g .variables) k ≡ 0 → ⊥) → firstOr g k behind ≡ k
   unfolding firstOr
   or-here k behind some = choose-no _ _ _ (ne-eqb (width k) 0 some)
+
+  -- a row without cells is no VAR parameter, which has two
+  pub bare-other : (k : ℕ) → widthOf (g .types) (g .fields) (g .variables) k ≡ 0
+      → rowAt (g .variables) k .kind ≡ 3 → ⊥
+  bare-other k none var =
+      let two : width k ≡ 2 = width-var _ (g .variables) k var in
+      absurd (omega arith)
 
   -- ---- several
 
