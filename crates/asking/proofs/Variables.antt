@@ -99,9 +99,22 @@ module _ (g : Program) (test : ℕ → List ℤ → Bool) where
           let row : h .reached + (j - h .reached) ≡ j = omega (arith, h .less) in
           rw row at (skipped (j - h .reached) (h .along) (omega arith) (λ r least most. h .bare r least (omega arith)))
 
+      pub ahead-room : j < k + n
+          → at + widthOf (g .types) (g .fields) (g .variables) j
+          ≤ from + roomFrom (g .types) (g .fields) (g .variables) k n
+      ahead-room low = along-room (ahead-here low) low
+
+      pub ahead-no : j < k + n → test j (drop at store) ≡ false → variablesPass g test k n (drop from store) ≡ false
+      ahead-no low fails = along-no (ahead-here low) low fails
+
+      pub ahead-more : {w : ℕ} → j < k + n → test j (drop at store) ≡ true
+          → w ≡ widthOf (g .types) (g .fields) (g .variables) j → Along store k n from (j + 1) (at + w)
+      ahead-more low passes width-is = along-more (ahead-here low) low passes width-is
+
       pub ahead-end : k + n ≤ j → variablesPass g test k n (drop from store) ≡ true
       ahead-end end =
           let most = h .along .most in
           let row : h .reached + (k + n - h .reached) ≡ k + n = omega arith in
-          let all = rw row at (skipped (k + n - h .reached) (h .along) (omega arith) (λ r least high. h .bare r least (omega arith))) in
-          along-end all (omega arith)
+          let all = skipped (k + n - h .reached) (h .along) (omega arith)
+          (λ r least high. h .bare r least (omega arith)) in
+          along-end (rw row at all) (omega arith)

@@ -23,7 +23,7 @@ use Rattle.semantics.proofs.Demand3.{program-accepted}
 use Rattle.asking.specs.Asking.{roomOf}
 use Rattle.asking.specs.State.{referenceKept}
 use Rattle.asking.specs.Passes.{variablesPass, referenceTest}
-use Rattle.asking.proofs.Variables.{Along, along-start, along-no, along-more, Ahead, ahead-here}
+use Rattle.asking.proofs.Variables.{along-start, Ahead, ahead-here, ahead-no, ahead-more}
 use Rattle.access.specs.Ready.{Planned}
 use Rattle.access.proofs.Bounds.{claimed-there, place-in}
 use Rattle.unwinding.specs.Next.{nextOf}
@@ -144,14 +144,11 @@ module _ (image : List ℕ) (q : ℕ) where
     module _ {plan : List ℕ} (p : Planned image plan) (there : q < rowsOf (g .procedures)) {k : ℕ} (h : Passed k) where
       module _ (more : k < first + parameters) {x : Bool}
           (answer : Told (λ older. x ≡ referenceTest g older k (drop (base + placeOf g k) store))) where
-        here : (older : List ℕ) {at : ℕ} → Ahead g (referenceTest g older) store first all (base + 3) k at
-            → Along g (referenceTest g older) store first all (base + 3) k at
-        here older ahead = ahead-here g (referenceTest g older) (test-free g older) ahead (omega (arith, all-is))
-
         test-is : (qs older : List ℕ) → Framed g store top blocks qs → Oldest older qs → base ≡ roomOf g older
-            → {at : ℕ} → Along g (referenceTest g older) store first all (base + 3) k at
+            → {at : ℕ} → Ahead g (referenceTest g older) store first all (base + 3) k at
             → x ≡ referenceTest g older k (drop at store)
-        test-is qs older framed oldest start {at} along =
+        test-is qs older framed oldest start {at} ahead =
+            let along = ahead-here g (referenceTest g older) (test-free g older) ahead (omega (arith, all-is)) in
             let same : base + placeOf g k ≡ at = omega (arith, along .place, place-is p there (h .least) more) in
             rw same at (answer qs older framed oldest start)
 
@@ -159,20 +156,18 @@ module _ (image : List ℕ) (q : ℕ) where
             → Told (λ older. false ≡ variablesPass g (referenceTest g older) first all (drop (base + 3) store))
         passed-no e qs older framed oldest start =
             let (at, ahead) = h .ahead qs older framed oldest start in
-            let along = here older ahead in
-            sym (along-no g (referenceTest g older) along (omega (arith, all-is))
-            (sym (test-is qs older framed oldest start along) ∙ e))
+            sym (ahead-no g (referenceTest g older) (test-free g older) ahead (omega (arith, all-is))
+            (sym (test-is qs older framed oldest start ahead) ∙ e))
 
         pub passed-next : {j : ℕ} → x ≡ true → j ≡ nextOf g (k + 1) → Passed j
         passed-next e is = record {
           least = omega (arith, is, next-least g (k + 1), h .least);
           ahead = λ qs older framed oldest start.
-              let (at, ahead) = h .ahead qs older framed oldest start in
-              let along = here older ahead in (
+              let (at, ahead) = h .ahead qs older framed oldest start in (
                 _,
                 ahead-next g
-                    (along-more g (referenceTest g older) along (omega (arith, all-is))
-                    (sym (test-is qs older framed oldest start along) ∙ e) refl)
+                    (ahead-more g (referenceTest g older) (test-free g older) ahead (omega (arith, all-is))
+                    (sym (test-is qs older framed oldest start ahead) ∙ e) refl)
                     is,
               );
         }
@@ -186,7 +181,7 @@ module _ (image : List ℕ) (q : ℕ) where
           ∙ pass-all g (referenceTest g older) (first + all - ahead .reached) (ahead .reached) (drop at store)
           (λ i m low high. passes older (ahead .bare i low) m (omega arith) (decLt i k)))
         where
-          passes : (older : List ℕ) {i : ℕ} → (i < k → widthOf (g .types) (g .fields) (g .variables) i ≡ 0) → (m : List ℤ)
-              → i < first + all → Dec (i < k) → referenceTest g older i m ≡ true
+          passes : (older : List ℕ) {i : ℕ} → (i < k → widthOf (g .types) (g .fields) (g .variables) i ≡ 0)
+              → (m : List ℤ) → i < first + all → Dec (i < k) → referenceTest g older i m ≡ true
           passes older {i} bare m high (yes before) = test-free g older i m (bare before)
           passes older {i} bare m high (no behind) = local-passes p there older i m (omega arith) high

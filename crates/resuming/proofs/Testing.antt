@@ -44,7 +44,8 @@ test-free g k l none =
     let other = bare-other g k none in
     let size = width-other (sizeOf (g .types) (g .fields)) (g .variables) k other in
     let row = rowAt (g .variables) k .a in
-    let bare = empty (layoutOf (g .types) (g .fields) row) (layout-length (g .types) (g .fields) row ∙ sym size ∙ none) in
+    let long = layout-length (g .types) (g .fields) row ∙ sym size ∙ none in
+    let bare = empty (layoutOf (g .types) (g .fields) row) long in
     test-value g k l other ∙ ap (λ kinds. valuesKept kinds l) bare
 
 -- its cells are those of its type

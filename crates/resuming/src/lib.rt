@@ -146,7 +146,8 @@ fn values_hold(
     base: u32,
     top: u32,
 ) -> bool
-    requires { ⌜ Ready (now (now image)) (now plan) × Skips (programOf (now (now image))) (now next) × (top ≤ length (now store)) × (length (now store) ≤ 65536)
+    requires { ⌜ Ready (now (now image)) (now plan) × Skips (programOf (now (now image))) (now next)
+        × (top ≤ length (now store)) × (length (now store) ≤ 65536)
         × Walked (programOf (now (now image))) (chain (programOf (now (now image))) (now store) (suc base) q base)
         (now store) base top ⌝ }
     ensures { λ x. ⌜ x ≡ valuesPass (programOf (now (now (image .entry))))

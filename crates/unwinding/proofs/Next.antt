@@ -64,7 +64,8 @@ module _ (g : Program) where
   first-of zero k = record { least = omega arith; most = omega arith; bare = λ r low high. absurd (omega arith) }
   first-of (suc n) k = go (first-of n (k + 1)) (decLt 0 (width k))
     where
-      go : First n (k + 1) (firstOf g n (k + 1)) → Dec (0 < width k) → First (suc n) k (firstOr g k (firstOf g n (k + 1)))
+      go : First n (k + 1) (firstOf g n (k + 1)) → Dec (0 < width k)
+          → First (suc n) k (firstOr g k (firstOf g n (k + 1)))
       go behind (yes some) = rw (or-here k (firstOf g n (k + 1)) (λ e. absurd (omega arith))) (record {
         least = omega arith;
         most = omega arith;
@@ -134,7 +135,8 @@ module _ (g : Program) where
       let none : rows - i ≡ 0 = omega (arith, is) in
       record { low = omega (arith, is); here = rw is (sym next-last); filled = rw none (filled-none (i + 1) _ old) }
 
-  module _ {old table : List ℕ} {first i : ℕ} (h : Down old table first i) (room : rowsOf (g .variables) < length old) where
+  module _ {old table : List ℕ} {first i : ℕ} (h : Down old table first i)
+      (room : rowsOf (g .variables) < length old) where
     pub down-next : {k x : ℕ} → i ≡ k + 1 → x ≡ firstOr g k first → Down old (set table i first) x k
     down-next {k} {x} row is =
         let more : rows - i + 1 ≡ rows - k = omega (arith, row, h .low) in

@@ -29,14 +29,16 @@ procedure-at-requires : tie.Need-procedure-at-requires Inv-loop μ-loop
 procedure-at-requires c κs = search needs
 
 first-variable-requires : tie.Need-first-variable-requires Inv-loop μ-loop
-first-variable-requires c κs = let s = c .before .before .before .before .before .before .before in
+first-variable-requires c κs =
+    let s = c .before .before .before .before .before .before .before in
     (s .pre .0 .planned, s .pre .3)
 
 cast-end : tie.Need-cast-end Inv-loop μ-loop
 cast-end c = search needs
 
 add-end : tie.Need-add-end Inv-loop μ-loop
-add-end c = let s = c .before .before .before .before .before .before .before .before in
+add-end c =
+    let s = c .before .before .before .before .before .before .before .before in
     let p = s .pre .0 .planned in
     omega (
       arith,
@@ -48,32 +50,39 @@ add-end c = let s = c .before .before .before .before .before .before .before .b
 
 -- the first variable is there, or the row behind the last
 first-there : (c : tie.After-first-variable Inv-loop μ-loop)
-    → c .first-variable .result ≤ rowsOf (programOf (now (now (c .before .before .before .before .before .before .before .before .args .image))) .variables)
-first-there c = let s = c .before .before .before .before .before .before .before .before in
+    → let s = c .before .before .before .before .before .before .before .before in
+    c .first-variable .result ≤ rowsOf (programOf (now (now (s .args .image))) .variables)
+first-there c =
+    let s = c .before .before .before .before .before .before .before .before in
     omega (arith, claimed-there (s .pre .0 .planned) _ (s .pre .3), c .first-variable .ensures)
 
 cast-k : tie.Need-cast-k Inv-loop μ-loop
 cast-k c = search needs
 
 mul-k : tie.Need-mul-k Inv-loop μ-loop
-mul-k c = let s = c .before .before .before .before .before .before .before .before in
+mul-k c =
+    let s = c .before .before .before .before .before .before .before .before in
     omega (arith, first-there c, variables-few (s .pre .0 .planned))
 
 shared-slice-read-k : tie.Need-shared-slice-read-k Inv-loop μ-loop
-shared-slice-read-k c = let s = c .before .before .before .before .before .before .before .before .before in
+shared-slice-read-k c =
+    let s = c .before .before .before .before .before .before .before .before .before in
     omega (arith, first-there (c .before), s .pre .1 .room)
 
 cast-k-2 : tie.Need-cast-k-2 Inv-loop μ-loop
-cast-k-2 c = let s = c .before .before .before .before .before .before .before .before .before in
+cast-k-2 c =
+    let s = c .before .before .before .before .before .before .before .before .before in
     let p = s .pre .0 .planned in
     omega (arith, skips-within _ (s .pre .1) _ (first-there (c .before)), variables-few p)
 
 loop-holds : tie.Need-loop-holds Inv-loop μ-loop
-loop-holds c = let s = c .before .before .before .before .before .before .before .before .before in
+loop-holds c =
+    let s = c .before .before .before .before .before .before .before .before .before in
     passed-start _ _ _ _ _ _ (c .before .first-variable .ensures) (s .pre .1 .each _ (first-there (c .before)))
 
 parameter-requires : tie.Need-parameter-requires Inv-loop μ-loop
-parameter-requires c κs = let s = c .before .before .before .before .before .before .before .before .before .before .before in
+parameter-requires c κs =
+    let s = c .before .before .before .before .before .before .before .before .before .before .before in
     let image = now (now (s .args .image)) in
     let q = s .args .q in
     let p = s .pre .0 .planned in
@@ -88,7 +97,8 @@ parameter-requires c κs = let s = c .before .before .before .before .before .be
     )
 
 returns : tie.Need-returns Inv-loop μ-loop
-returns c = let s = c .before .before .before .before .before .before .before .before .before .before .before .before .before in
+returns c =
+    let s = c .before .before .before .before .before .before .before .before .before .before .before .before .before in
     let image = now (now (s .args .image)) in
     let q = s .args .q in
     let more = rw (end-is image q (c .before .before .before .before .before .before .procedure-at .ensures)
@@ -98,8 +108,10 @@ returns c = let s = c .before .before .before .before .before .before .before .b
 
 -- the parameter is there
 row-there : (c : tie.Else1 Inv-loop μ-loop)
-    → c .before .before .before .loop .k < rowsOf (programOf (now (now (c .before .before .before .before .before .before .before .before .before .before .before .before .before .args .image))) .variables)
-row-there c = let s = c .before .before .before .before .before .before .before .before .before .before .before .before .before in
+    → let s = c .before .before .before .before .before .before .before .before .before .before .before .before .before in
+    c .before .before .before .loop .k < rowsOf (programOf (now (now (s .args .image))) .variables)
+row-there c =
+    let s = c .before .before .before .before .before .before .before .before .before .before .before .before .before in
     let image = now (now (s .args .image)) in
     let more = rw (end-is image (s .args .q) (c .before .before .before .before .before .before .procedure-at .ensures)
     (c .before .before .before .before .before .first-variable .ensures)) at (c .before .before .loop-test .taken) in
@@ -109,28 +121,37 @@ cast-k-3 : tie.Need-cast-k-3 Inv-loop μ-loop
 cast-k-3 c = search needs
 
 add-k : tie.Need-add-k Inv-loop μ-loop
-add-k c = omega (arith, row-there c, variables-few (c .before .before .before .before .before .before .before .before .before .before .before .before .before .pre .0 .planned))
+add-k c =
+    let s = c .before .before .before .before .before .before .before .before .before .before .before .before .before in
+    omega (arith, row-there c, variables-few (s .pre .0 .planned))
 
 mul-k-2 : tie.Need-mul-k-2 Inv-loop μ-loop
-mul-k-2 c = omega (arith, row-there c, variables-few (c .before .before .before .before .before .before .before .before .before .before .before .before .before .pre .0 .planned))
+mul-k-2 c =
+    let s = c .before .before .before .before .before .before .before .before .before .before .before .before .before in
+    omega (arith, row-there c, variables-few (s .pre .0 .planned))
 
 shared-slice-read-k-2 : tie.Need-shared-slice-read-k-2 Inv-loop μ-loop
-shared-slice-read-k-2 c = omega (arith, row-there (c .before), c .before .before .before .before .before .before .before .before .before .before .before .before .before .before .pre .1 .room)
+shared-slice-read-k-2 c =
+    let s = c .before .before .before .before .before .before .before .before .before .before .before .before .before .before in
+    omega (arith, row-there (c .before), s .pre .1 .room)
 
 cast-k-4 : tie.Need-cast-k-4 Inv-loop μ-loop
-cast-k-4 c = let s = c .before .before .before .before .before .before .before .before .before .before .before .before .before .before in
+cast-k-4 c =
+    let s = c .before .before .before .before .before .before .before .before .before .before .before .before .before .before in
     let l = c .before .before .before .before .loop in
     let p = s .pre .0 .planned in
     omega (arith, skips-within _ (s .pre .1) (l .k + 1) (omega (arith, row-there (c .before))), variables-few p)
 
 loop-less : tie.Need-loop-less Inv-loop μ-loop
-loop-less c = let s = c .before .before .before .before .before .before .before .before .before .before .before .before .before .before in
+loop-less c =
+    let s = c .before .before .before .before .before .before .before .before .before .before .before .before .before .before in
     let l = c .before .before .before .before .loop in
     let next = skips-within _ (s .pre .1) (l .k + 1) (omega (arith, row-there (c .before))) in
     omega (arith, next, c .before .before .before .loop-test .taken)
 
 loop-again : tie.Need-loop-again Inv-loop μ-loop
-loop-again c = let s = c .before .before .before .before .before .before .before .before .before .before .before .before .before .before in
+loop-again c =
+    let s = c .before .before .before .before .before .before .before .before .before .before .before .before .before .before in
     let image = now (now (s .args .image)) in
     let q = s .args .q in
     let l = c .before .before .before .before .loop in
@@ -141,7 +162,8 @@ loop-again c = let s = c .before .before .before .before .before .before .before
     (s .pre .1 .each (l .k + 1) (omega (arith, row-there (c .before))))
 
 returns-2 : tie.Need-returns-2 Inv-loop μ-loop
-returns-2 c = let s = c .before .before .before .before .before .before .before .before .before .before .before in
+returns-2 c =
+    let s = c .before .before .before .before .before .before .before .before .before .before .before in
     let image = now (now (s .args .image)) in
     let q = s .args .q in
     let done = rw (end-is image q (c .before .before .before .before .procedure-at .ensures)

@@ -38,7 +38,8 @@ values-hold-requires : tie.Need-values-hold-requires
 values-hold-requires c κs =
     let start = c .before .before .before .before .before .before .before .before in
     let filled = c .before .before .fill-next .ensures in
-    let (ends, links) = also-true _ _ (sym (c .before .before .before .before .before .before .walk .ensures .0) ∙ not-false _ (c .before .before .before .before .if1 .left)) in (
+    let walked = c .before .before .before .before .before .before .walk .ensures in
+    let (ends, links) = also-true _ _ (sym (walked .0) ∙ not-false _ (c .before .before .before .before .if1 .left)) in (
       start .pre .0,
       skips-by _ (omega (arith, variables-few (start .pre .0 .planned))) filled,
       start .pre .1,
@@ -77,9 +78,11 @@ references-requires c κs =
 returns-3 : tie.Need-returns-3
 unfolding framesSound
 returns-3 c =
+    let held = c .before .before .before .before in
+    let walked = held .before .before .before .before .before .before .before in
     c .references .ensures
-    ∙ sym (also-pass _ (sym (c .before .before .before .before .before .before .before .before .before .before .before .walk .ensures .0) ∙ not-false _ (c .before .before .before .before .before .before .before .before .before .if1 .left))
-    ∙ also-pass _ (sym (c .before .before .before .before .values-hold .ensures) ∙ not-false _ (c .before .before .before .if2 .left)))
+    ∙ sym (also-pass _ (sym (walked .walk .ensures .0) ∙ not-false _ (held .before .before .before .before .before .if1 .left))
+    ∙ also-pass _ (sym (held .values-hold .ensures) ∙ not-false _ (c .before .before .before .if2 .left)))
 
 pub frames-sound-spec : {M : Type 1} → statement M
 frames-sound-spec =
