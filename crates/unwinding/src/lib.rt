@@ -1,4 +1,5 @@
-// The frames of a foreign state, found by their links, which may hold any numbers.
+// The frames of a foreign state, found by their links, which may hold any numbers; and a table by which loops over the
+// variables of frames pass over those without cells.
 use access::Plan;
 use semantics::Mark;
 ghost use mathlib.Core.Path.{_≡_};
@@ -252,7 +253,8 @@ fn first_or(image: &&[u8], plan: &Plan, k: u16, behind: u16) -> u16
     k
 }
 
-// Writes at each place, from the last down, the first variable row from there on that has cells.
+// Writes at each place, from the last down, the first variable row from there on that has cells, or how many rows there
+// are where none has.
 pub fn fill_next(image: &&[u8], plan: &Plan, next: &mut [u16])
     requires { ⌜ Planned (now (now image)) (now plan) × (NEXT ≤ length (now next)) ⌝ }
     ensures { λ x. ⌜ Filled 0 (rowsOf (programOf (now (now (image .entry))) .variables) + 1)
