@@ -72,3 +72,49 @@ module _ (g : Program) (test : ℕ → List ℤ → Bool) where
     along-end end =
         let none : k + n - j ≡ 0 = omega arith in
         h .rest ∙ rw none
+
+  -- the same with rows left out: from the row reached up to before row j none has cells
+  pub record Ahead (store : List ℤ) (k n from j at : ℕ) : Type 0 where
+    pub reached : ℕ
+    pub along : Along store k n from reached at
+    pub less : reached ≤ j
+    pub bare : (r : ℕ) → reached ≤ r → r < j → widthOf (g .types) (g .fields) (g .variables) r ≡ 0
+
+  -- where a row without cells passes, row j is reached, too
+  module _ (free : (r : ℕ) (l : List ℤ) → widthOf (g .types) (g .fields) (g .variables) r ≡ 0 → test r l ≡ true)
+      {store : List ℤ} {k n from at : ℕ} where
+    skipped : {i : ℕ} (m : ℕ) → Along store k n from i at → i + m ≤ k + n
+        → ((r : ℕ) → i ≤ r → r < i + m → width r ≡ 0) → Along store k n from (i + m) at
+    skipped {i} zero h most bare = let none : i + 0 ≡ i = omega arith in rw none h
+    skipped {i} (suc m) h most bare =
+        let here = bare i (omega arith) (omega arith) in
+        let same : at + 0 ≡ at = omega arith in
+        let row : i + 1 + m ≡ i + suc m = omega arith in
+        let more = rw same at (along-more h (omega arith) (free i (drop at store) here) (sym here)) in
+        rw row at (skipped m more (omega arith) (λ r low high. bare r (omega arith) (omega arith)))
+
+    module _ {j : ℕ} (h : Ahead store k n from j at) where
+      pub ahead-here : j < k + n → Along store k n from j at
+      ahead-here low =
+          let row : h .reached + (j - h .reached) ≡ j = omega (arith, h .less) in
+          rw row at (skipped (j - h .reached) (h .along) (omega arith) (λ r least most. h .bare r least (omega arith)))
+
+      pub ahead-room : j < k + n
+          → at + widthOf (g .types) (g .fields) (g .variables) j
+          ≤ from + roomFrom (g .types) (g .fields) (g .variables) k n
+      ahead-room low = along-room (ahead-here low) low
+
+      pub ahead-no : j < k + n → test j (drop at store) ≡ false → variablesPass g test k n (drop from store) ≡ false
+      ahead-no low fails = along-no (ahead-here low) low fails
+
+      pub ahead-more : {w : ℕ} → j < k + n → test j (drop at store) ≡ true
+          → w ≡ widthOf (g .types) (g .fields) (g .variables) j → Along store k n from (j + 1) (at + w)
+      ahead-more low passes width-is = along-more (ahead-here low) low passes width-is
+
+      pub ahead-end : k + n ≤ j → variablesPass g test k n (drop from store) ≡ true
+      ahead-end end =
+          let most = h .along .most in
+          let row : h .reached + (k + n - h .reached) ≡ k + n = omega arith in
+          let all = skipped (k + n - h .reached) (h .along) (omega arith)
+          (λ r least high. h .bare r least (omega arith)) in
+          along-end (rw row at all) (omega arith)

@@ -4,6 +4,7 @@ use mathlib.Core.Bool.{Bool, true, false}
 use mathlib.Core.List.{List}
 use Prim.Native.Nat.{ℕ, zero, suc, _+_, _-_, _≤_, _<_}
 use native.Mathlib.Omega.{arith}
+use native.Mathlib.Decide.{decLt}
 use borrow.Author.Tests.{leb-true, eq-eqb, ne-eqb}
 use lib.IntN.{ℤ}
 use lib.ListN.{drop}
@@ -22,9 +23,11 @@ use Rattle.semantics.proofs.Demand3.{program-accepted}
 use Rattle.asking.specs.Asking.{roomOf}
 use Rattle.asking.specs.State.{referenceKept}
 use Rattle.asking.specs.Passes.{variablesPass, referenceTest}
-use Rattle.asking.proofs.Variables.{Along, along-start, along-no, along-more}
+use Rattle.asking.proofs.Variables.{along-start, Ahead, ahead-here, ahead-no, ahead-more}
 use Rattle.access.specs.Ready.{Planned}
 use Rattle.access.proofs.Bounds.{claimed-there, place-in}
+use Rattle.unwinding.specs.Next.{nextOf}
+use Rattle.unwinding.proofs.Next.{bare-other, next-least, ahead-next}
 use Rattle.referents.specs.Reading.{Framed, Oldest}
 
 -- ---- one variable
@@ -48,6 +51,11 @@ module _ (g : Program) (k : ℕ) {row : Row} (is : row ≡ rowAt (g .variables) 
     unfolding referenceTest
     test-reference older store base at e =
         (rw (at, is) at e) ∙ sym (choose-yes _ _ _ (eq-eqb (rowAt (g .variables) k .kind) 3 (rw is at var)))
+
+-- a variable without cells is none
+pub test-free : (g : Program) (older : List ℕ) (k : ℕ) (l : List ℤ)
+    → widthOf (g .types) (g .fields) (g .variables) k ≡ 0 → referenceTest g older k l ≡ true
+test-free g older k l none = sym (test-other g k refl older l (bare-other g k none))
 
 -- ---- several
 
@@ -120,53 +128,60 @@ module _ (image : List ℕ) (q : ℕ) where
     -- the parameters before row k passed
     pub record Passed (k : ℕ) : Type 0 where
       pub least : first ≤ k
-      pub most : k ≤ first + parameters
-      pub along : Told (λ older. (at : ℕ) × Along g (referenceTest g older) store first all (base + 3) k at)
+      pub ahead : Told (λ older. (at : ℕ) × Ahead g (referenceTest g older) store first all (base + 3) k at)
 
-    pub passed-start : {start : ℕ} → start ≡ first → Passed start
-    passed-start at = rw at (record {
-      least = omega arith;
-      most = omega arith;
-      along = λ qs older framed oldest start. (
-        base + 3,
-        along-start g (referenceTest g older) store first all (base + 3),
-      );
-    })
+    pub passed-start : {start k : ℕ} → start ≡ first → k ≡ nextOf g start → Passed k
+    passed-start from is =
+        let at = rw from at is in
+        record {
+          least = omega (arith, at, next-least g first);
+          ahead = λ qs older framed oldest start. (
+            base + 3,
+            ahead-next g (along-start g (referenceTest g older) store first all (base + 3)) at,
+          );
+        }
 
     module _ {plan : List ℕ} (p : Planned image plan) (there : q < rowsOf (g .procedures)) {k : ℕ} (h : Passed k) where
       module _ (more : k < first + parameters) {x : Bool}
           (answer : Told (λ older. x ≡ referenceTest g older k (drop (base + placeOf g k) store))) where
         test-is : (qs older : List ℕ) → Framed g store top blocks qs → Oldest older qs → base ≡ roomOf g older
-            → {at : ℕ} → Along g (referenceTest g older) store first all (base + 3) k at
+            → {at : ℕ} → Ahead g (referenceTest g older) store first all (base + 3) k at
             → x ≡ referenceTest g older k (drop at store)
-        test-is qs older framed oldest start {at} along =
+        test-is qs older framed oldest start {at} ahead =
+            let along = ahead-here g (referenceTest g older) (test-free g older) ahead (omega (arith, all-is)) in
             let same : base + placeOf g k ≡ at = omega (arith, along .place, place-is p there (h .least) more) in
             rw same at (answer qs older framed oldest start)
 
         pub passed-no : x ≡ false
             → Told (λ older. false ≡ variablesPass g (referenceTest g older) first all (drop (base + 3) store))
         passed-no e qs older framed oldest start =
-            let (at, along) = h .along qs older framed oldest start in
-            sym (along-no g (referenceTest g older) along (omega (arith, all-is))
-            (sym (test-is qs older framed oldest start along) ∙ e))
+            let (at, ahead) = h .ahead qs older framed oldest start in
+            sym (ahead-no g (referenceTest g older) (test-free g older) ahead (omega (arith, all-is))
+            (sym (test-is qs older framed oldest start ahead) ∙ e))
 
-        pub passed-next : x ≡ true → Passed (k + 1)
-        passed-next e = record {
-          least = let l = h .least in omega arith;
-          most = omega arith;
-          along = λ qs older framed oldest start.
-              let (at, along) = h .along qs older framed oldest start in (
+        pub passed-next : {j : ℕ} → x ≡ true → j ≡ nextOf g (k + 1) → Passed j
+        passed-next e is = record {
+          least = omega (arith, is, next-least g (k + 1), h .least);
+          ahead = λ qs older framed oldest start.
+              let (at, ahead) = h .ahead qs older framed oldest start in (
                 _,
-                along-more g (referenceTest g older) along (omega (arith, all-is))
-                    (sym (test-is qs older framed oldest start along) ∙ e) refl,
+                ahead-next g
+                    (ahead-more g (referenceTest g older) (test-free g older) ahead (omega (arith, all-is))
+                    (sym (test-is qs older framed oldest start ahead) ∙ e) refl)
+                    is,
               );
         }
 
       pub passed-end : first + parameters ≤ k
           → Told (λ older. true ≡ variablesPass g (referenceTest g older) first all (drop (base + 3) store))
       passed-end done qs older framed oldest start =
-          let (at, along) = h .along qs older framed oldest start in
-          let most = h .most in
-          sym (along .rest
-          ∙ pass-all g (referenceTest g older) (first + all - k) k (drop at store)
-          (λ i m low high. local-passes p there older i m (omega arith) (omega (arith, all-is))))
+          let (at, ahead) = h .ahead qs older framed oldest start in
+          let most = ahead .along .most in
+          sym (ahead .along .rest
+          ∙ pass-all g (referenceTest g older) (first + all - ahead .reached) (ahead .reached) (drop at store)
+          (λ i m low high. passes older (ahead .bare i low) m (omega arith) (decLt i k)))
+        where
+          passes : (older : List ℕ) {i : ℕ} → (i < k → widthOf (g .types) (g .fields) (g .variables) i ≡ 0)
+              → (m : List ℤ) → i < first + all → Dec (i < k) → referenceTest g older i m ≡ true
+          passes older {i} bare m high (yes before) = test-free g older i m (bare before)
+          passes older {i} bare m high (no behind) = local-passes p there older i m (omega arith) high

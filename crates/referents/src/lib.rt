@@ -15,6 +15,7 @@ ghost use Rattle.asking.specs.Asking.{roomOf, objectAt};
 ghost use Rattle.asking.specs.State.{referenceKept, chain};
 ghost use Rattle.asking.specs.Passes.{variablesPass, referenceTest, referencesPass};
 ghost use Rattle.access.specs.Ready.{Planned, Ready};
+ghost use Rattle.unwinding.specs.Next.{Skips};
 ghost use Rattle.referents.specs.Reaching.{Placed, Reached, inVariable, inPlaces};
 ghost use Rattle.referents.specs.Reading.{Lent, Framed, Stacked, Oldest, Asked};
 
@@ -248,7 +249,7 @@ fn parameter(
     )
 }
 
-// Whether the VAR parameters of the frame of procedure q at base do: locals are none.
+// Whether the VAR parameters of the frame of procedure q at base do: locals are none, nor are variables without cells.
 fn frame_references(
     image: &&[u8],
     plan: &Plan,
@@ -256,6 +257,7 @@ fn frame_references(
     f: &[u8],
     starts: &[bool],
     ends: &[bool],
+    next: &[u16],
     store: &[i64],
     top: u32,
     blocks: &[u32],
@@ -263,6 +265,7 @@ fn frame_references(
     base: u32,
 ) -> bool
     requires { ⌜ Lent (now (now image)) (now plan) (now t) (now f) (now starts) (now ends)
+        × Skips (programOf (now (now image))) (now next)
         × Stacked (programOf (now (now image))) (now store) top (now blocks)
         × (q < rowsOf (programOf (now (now image)) .procedures))
         × (base + frameSize (programOf (now (now image)) .types) (programOf (now (now image)) .fields)
@@ -280,12 +283,12 @@ fn frame_references(
     let parameters = procedure.b;
     let first = access::first_variable(image, plan, q);
     let end = first + parameters as u32;
-    let mut k = first;
+    let mut k = next[first as usize] as u32;
     while k < end {
         if !parameter(image, plan, t, f, starts, ends, store, top, blocks, base, k) {
             return false;
         }
-        k = k + 1;
+        k = next[k as usize + 1] as u32;
     }
     true
 }
@@ -298,6 +301,7 @@ fn all_references(
     f: &[u8],
     starts: &[bool],
     ends: &[bool],
+    next: &[u16],
     store: &[i64],
     q: u16,
     base: u32,
@@ -305,6 +309,7 @@ fn all_references(
     blocks: &[u32],
 ) -> bool
     requires { ⌜ Lent (now (now image)) (now plan) (now t) (now f) (now starts) (now ends)
+        × Skips (programOf (now (now image))) (now next)
         × Asked (programOf (now (now image))) (now store) q base top (now blocks) ⌝ }
     ensures { λ x. ⌜ x ≡ referencesPass (programOf (now (now (image .entry))))
         (chain (programOf (now (now (image .entry)))) (now (store .entry)) (suc base) q base) (now (store .entry)) ⌝ }
@@ -319,6 +324,7 @@ fn all_references(
             f,
             starts,
             ends,
+            next,
             store,
             top,
             blocks,
@@ -340,13 +346,14 @@ fn all_references(
 pub fn references(
     image: &&[u8],
     plan: &Plan,
+    next: &[u16],
     store: &[i64],
     q: u16,
     base: u32,
     top: u32,
     blocks: &[u32],
 ) -> bool
-    requires { ⌜ Ready (now (now image)) (now plan)
+    requires { ⌜ Ready (now (now image)) (now plan) × Skips (programOf (now (now image))) (now next)
         × Asked (programOf (now (now image))) (now store) q base top (now blocks) ⌝ }
     ensures { λ x. ⌜ x ≡ referencesPass (programOf (now (now (image .entry))))
         (chain (programOf (now (now (image .entry)))) (now (store .entry)) (suc base) q base) (now (store .entry)) ⌝ }
@@ -363,6 +370,7 @@ pub fn references(
         f,
         &starts,
         &ends,
+        next,
         store,
         q,
         base,

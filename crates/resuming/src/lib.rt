@@ -3,6 +3,7 @@ use access::Plan;
 use semantics::Registers;
 use semantics::RunResult;
 use unwinding::BLOCKS;
+use unwinding::NEXT;
 ghost use mathlib.Core.Path.{_≡_};
 ghost use Prim.Native.Nat.{ℕ, suc, _+_, _≤_, _<_};
 ghost use lib.ListN.{length, drop};
@@ -14,6 +15,7 @@ ghost use Rattle.asking.specs.State.{chain, soundOf};
 ghost use Rattle.asking.specs.Passes.{Walked, variablesPass, framesPass, valueTest, valuesPass};
 ghost use Rattle.asking.specs.Continuing.{unfinished, withinLent, question14};
 ghost use Rattle.access.specs.Ready.{Planned, Ready};
+ghost use Rattle.unwinding.specs.Next.{Skips};
 ghost use Rattle.resuming.specs.Reading.{ReadableImage, framesSound};
 
 // How many types an image has at most.
@@ -43,40 +45,49 @@ fn variable_holds(image: &&[u8], plan: &Plan, even: &[u8], store: &[i64], k: u32
     contents::holds_values(t, f, plan, even, store, r, a)
 }
 
-// The same of n variables from row k on, of which the first begins at a.
+// The same of n variables from row k on, of which the first begins at a; those without cells are left out.
 fn variables_hold(
     image: &&[u8],
     plan: &Plan,
     even: &[u8],
+    next: &[u16],
     store: &[i64],
     k: u32,
     n: u32,
     a: u32,
 ) -> bool
     requires { ⌜ ReadableImage (now (now image)) (now plan) (now even) (now store)
-        × (k + n ≤ rowsOf (programOf (now (now image)) .variables))
+        × Skips (programOf (now (now image))) (now next) × (k + n ≤ rowsOf (programOf (now (now image)) .variables))
         × (a + roomFrom (programOf (now (now image)) .types) (programOf (now (now image)) .fields)
         (programOf (now (now image)) .variables) k n ≤ length (now store)) ⌝ }
     ensures { λ x. ⌜ x ≡ variablesPass (programOf (now (now (image .entry))))
         (valueTest (programOf (now (now (image .entry))))) k n (drop a (now (store .entry))) ⌝ }
 {
     let end = k + n;
-    let mut j = k;
+    let mut j = next[k as usize] as u32;
     let mut at = a;
     while j < end {
         if !variable_holds(image, plan, even, store, j, at) {
             return false;
         }
         at = at + access::width_of(image, plan, j);
-        j = j + 1;
+        j = next[j as usize + 1] as u32;
     }
     true
 }
 
 // The same of the frame of procedure q that begins at base.
-fn frame_holds(image: &&[u8], plan: &Plan, even: &[u8], store: &[i64], q: u16, base: u32) -> bool
+fn frame_holds(
+    image: &&[u8],
+    plan: &Plan,
+    even: &[u8],
+    next: &[u16],
+    store: &[i64],
+    q: u16,
+    base: u32,
+) -> bool
     requires { ⌜ ReadableImage (now (now image)) (now plan) (now even) (now store)
-        × (q < rowsOf (programOf (now (now image)) .procedures))
+        × Skips (programOf (now (now image))) (now next) × (q < rowsOf (programOf (now (now image)) .procedures))
         × (base + frameSize (programOf (now (now image)) .types) (programOf (now (now image)) .fields)
         (programOf (now (now image)) .variables) (programOf (now (now image)) .procedures) q ≤ length (now store)) ⌝ }
     ensures { λ x. ⌜ x ≡ variablesPass (programOf (now (now (image .entry))))
@@ -88,7 +99,7 @@ fn frame_holds(image: &&[u8], plan: &Plan, even: &[u8], store: &[i64], q: u16, b
 {
     let first = access::first_variable(image, plan, q);
     let own = access::claimed_by(image, plan, q);
-    variables_hold(image, plan, even, store, first, own, base + LINKS)
+    variables_hold(image, plan, even, next, store, first, own, base + LINKS)
 }
 
 // The same of every frame, from that of procedure q on, which begins at base and ends at top.
@@ -96,12 +107,14 @@ fn frames_hold(
     image: &&[u8],
     plan: &Plan,
     even: &[u8],
+    next: &[u16],
     store: &[i64],
     q: u16,
     base: u32,
     top: u32,
 ) -> bool
-    requires { ⌜ ReadableImage (now (now image)) (now plan) (now even) (now store) × (top ≤ length (now store))
+    requires { ⌜ ReadableImage (now (now image)) (now plan) (now even) (now store)
+        × Skips (programOf (now (now image))) (now next) × (top ≤ length (now store))
         × Walked (programOf (now (now image))) (chain (programOf (now (now image))) (now store) (suc base) q base)
         (now store) base top ⌝ }
     ensures { λ x. ⌜ x ≡ framesPass (programOf (now (now (image .entry))))
@@ -111,7 +124,7 @@ fn frames_hold(
     let mut p = q;
     let mut b = base;
     loop {
-        if !frame_holds(image, plan, even, store, p, b) {
+        if !frame_holds(image, plan, even, next, store, p, b) {
             return false;
         }
         if p == 0 {
@@ -124,8 +137,17 @@ fn frames_hold(
 }
 
 // The globals' values and every frame's.
-fn values_hold(image: &&[u8], plan: &Plan, store: &[i64], q: u16, base: u32, top: u32) -> bool
-    requires { ⌜ Ready (now (now image)) (now plan) × (top ≤ length (now store)) × (length (now store) ≤ 65536)
+fn values_hold(
+    image: &&[u8],
+    plan: &Plan,
+    next: &[u16],
+    store: &[i64],
+    q: u16,
+    base: u32,
+    top: u32,
+) -> bool
+    requires { ⌜ Ready (now (now image)) (now plan) × Skips (programOf (now (now image))) (now next)
+        × (top ≤ length (now store)) × (length (now store) ≤ 65536)
         × Walked (programOf (now (now image))) (chain (programOf (now (now image))) (now store) (suc base) q base)
         (now store) base top ⌝ }
     ensures { λ x. ⌜ x ≡ valuesPass (programOf (now (now (image .entry))))
@@ -138,10 +160,10 @@ fn values_hold(image: &&[u8], plan: &Plan, store: &[i64], q: u16, base: u32, top
         &mut even,
     );
     let globals = access::first_variable(image, plan, 0);
-    if !variables_hold(image, plan, &even, store, 0, globals, 0) {
+    if !variables_hold(image, plan, &even, next, store, 0, globals, 0) {
         return false;
     }
-    frames_hold(image, plan, &even, store, q, base, top)
+    frames_hold(image, plan, &even, next, store, q, base, top)
 }
 
 // ---- the state
@@ -158,10 +180,12 @@ fn frames_sound(image: &&[u8], plan: &Plan, store: &[i64], q: u16, base: u32, to
     if !unwinding::walk(image, plan, store, q, base, top, &mut blocks) {
         return false;
     }
-    if !values_hold(image, plan, store, q, base, top) {
+    let mut next = [0u16; NEXT];
+    unwinding::fill_next(image, plan, &mut next);
+    if !values_hold(image, plan, &next, store, q, base, top) {
         return false;
     }
-    referents::references(image, plan, store, q, base, top, &blocks)
+    referents::references(image, plan, &next, store, q, base, top, &blocks)
 }
 
 // Whether the state is sound.

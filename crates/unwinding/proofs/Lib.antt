@@ -5,3 +5,4 @@ pub mod Going
 mod Seeking
 pub mod Bodies
 mod Along
+pub mod Next

@@ -1,3 +1,4 @@
 pub mod Links
 pub mod Blocks
 pub mod Going
+pub mod Next

@@ -1,10 +1,11 @@
-// The frames of a foreign state, found by their links, which may hold any numbers.
+// The frames of a foreign state, found by their links, which may hold any numbers; and a table by which loops over the
+// variables of frames pass over those without cells.
 use access::Plan;
 use semantics::Mark;
 ghost use mathlib.Core.Path.{_≡_};
 ghost use mathlib.Core.Bool.{true};
 ghost use mathlib.Core.List.{List, []};
-ghost use Prim.Native.Nat.{ℕ, suc, _-_, _≤_, _<_};
+ghost use Prim.Native.Nat.{ℕ, suc, _+_, _-_, _≤_, _<_};
 ghost use lib.Dec.{ltb};
 ghost use lib.ListN.{length};
 ghost use Rattle.prelude.specs.Choice.{_also_};
@@ -15,9 +16,10 @@ ghost use Rattle.semantics.specs.Running.{programOf};
 ghost use Rattle.asking.specs.Asking.{roomOf};
 ghost use Rattle.asking.specs.State.{chain, insideKept, callKept, endsAt};
 ghost use Rattle.asking.specs.Passes.{linked, Walked, newestBelow};
-ghost use Rattle.access.specs.Ready.{Ready};
+ghost use Rattle.access.specs.Ready.{Planned, Ready};
 ghost use Rattle.unwinding.specs.Links.{linkAt, callerOf, spotOf, sizeKept, oldestKept};
 ghost use Rattle.unwinding.specs.Blocks.{BLOCKS, Blocks};
+ghost use Rattle.unwinding.specs.Next.{NEXT, firstOr, nextOf};
 
 // A frame: its procedure, and where it begins.
 pub struct Spot {
@@ -30,6 +32,9 @@ pub const BLOCKS: usize = 1024;
 
 // How many cells a block has.
 const BLOCK: u32 = 64;
+
+// How many places a table of variables with cells has: one a row, and one behind.
+pub const NEXT: usize = 257;
 
 // ---- links
 
@@ -233,4 +238,35 @@ pub fn walk(
         start = below;
         high = low;
     }
+}
+
+// ---- variables with cells
+
+// Variable row k where it has cells, or the row given.
+fn first_or(image: &&[u8], plan: &Plan, k: u16, behind: u16) -> u16
+    requires { ⌜ Planned (now (now image)) (now plan) × (k < rowsOf (programOf (now (now image)) .variables)) ⌝ }
+    ensures { λ x. ⌜ x ≡ firstOr (programOf (now (now (image .entry)))) k behind ⌝ }
+{
+    if access::width_of(image, plan, k as u32) == 0 {
+        return behind;
+    }
+    k
+}
+
+// Writes at each place, from the last down, the first variable row from there on that has cells, or how many rows there
+// are where none has.
+pub fn fill_next(image: &&[u8], plan: &Plan, next: &mut [u16])
+    requires { ⌜ Planned (now (now image)) (now plan) × (NEXT ≤ length (now next)) ⌝ }
+    ensures { λ x. ⌜ Filled 0 (rowsOf (programOf (now (now (image .entry))) .variables) + 1)
+        (nextOf (programOf (now (now (image .entry))))) (now (next .entry)) (now (next .exit)) ⌝ }
+{
+    let rows = image::rows_of(access::table(*image, plan, 2));
+    let mut first = rows as u16;
+    let mut i = rows;
+    while 0 < i {
+        next[i] = first;
+        i = i - 1;
+        first = first_or(image, plan, i as u16, first);
+    }
+    next[i] = first;
 }

@@ -22,7 +22,7 @@ slice-aggregate-fill-all-2 : tie.Need-slice-aggregate-fill-all-2
 slice-aggregate-fill-all-2 c = search needs
 
 fill-all-requires : tie.Need-fill-all-requires
-fill-all-requires c κs = let s = c .before .before .before .before .before .before .before .before .before .before in
+fill-all-requires c κs = let s = c .before .before .before .before .before .before .before .before .before .before .before in
     let types = c .before .before .before .before .before .before .table .ensures in
     let fields = c .before .before .before .table2 .ensures in
     (typed-plan (s .pre .0 .planned) types fields, omega arith, omega arith)
@@ -36,10 +36,11 @@ slice-aggregate-all-references-2 c = search needs
 all-references-requires : tie.Need-all-references-requires
 all-references-requires c κs =
     let n = c .before .before .before .before .before .before .before .before in
-    let s = n .before .before .before .before .before .before .before in (
+    let s = n .before .before .before .before .before .before .before .before in (
       lent-all (s .pre .0 .planned) (n .before .before .before .table .ensures) (n .table2 .ensures)
           (c .before .before .before .before .fill-all .ensures .0),
       s .pre .1,
+      s .pre .2,
     )
 
 returns : tie.Need-returns

@@ -24,9 +24,9 @@ add-variables-hold c = search needs
 variables-hold-requires : tie.Need-variables-hold-requires
 unfolding frameSize
 variables-hold-requires c κs =
-    let start = c .before .before .before in
+    let start = c .before .before .before .before in
     rw (c .before .first-variable .ensures, c .claimed-by .ensures)
-    (start .pre .0, claims (start .pre .0 .planned) _ (start .pre .1), omega (arith, start .pre .2))
+    (start .pre .0, start .pre .1, claims (start .pre .0 .planned) _ (start .pre .2), omega (arith, start .pre .3))
 
 returns : tie.Need-returns
 returns c = c .variables-hold .ensures ∙ rw (c .before .before .first-variable .ensures, c .before .claimed-by .ensures) refl

@@ -16,53 +16,53 @@ use Rattle.resuming.proofs.frame_holds.Reads as frame-holds-reads
 use Rattle.unwinding.proofs.caller.Reads as caller-reads
 
 abbrev Inv-loop : tie.InvT-loop
-Inv-loop image plan even store q base top p₀ b₀ p b =
+Inv-loop image plan even next store q base top p₀ b₀ p b =
     Over (now image) (λ older. valueTest (programOf (now image))) (chain (programOf (now image)) store (suc base) q base) store top p b
 
 abbrev μ-loop : tie.MeasureT-loop
-μ-loop image plan even store q base top p₀ b₀ p b = b
+μ-loop image plan even next store q base top p₀ b₀ p b = b
 
 loop-holds : tie.Need-loop-holds Inv-loop μ-loop
-loop-holds c = over-start _ _ _ _ _ _ (c .before .pre .2)
+loop-holds c = over-start _ _ _ _ _ _ (c .before .before .pre .3)
 
 frame-holds-requires : tie.Need-frame-holds-requires Inv-loop μ-loop
 frame-holds-requires c κs =
-    let start = c .before .before in
+    let start = c .before .before .before in
     let over = c .loop .inv in
-    (start .pre .0, over-procedure _ _ _ _ _ over, omega (arith, over-room _ _ _ _ _ over, start .pre .1))
+    (start .pre .0, start .pre .1, over-procedure _ _ _ _ _ over, omega (arith, over-room _ _ _ _ _ over, start .pre .2))
 
 returns : tie.Need-returns Inv-loop μ-loop
 returns c = sym (over-no _ _ _ _ _ (c .before .before .loop .inv) (sym (c .before .frame-holds .ensures) ∙ not-true _ (c .if1 .taken)))
 
 returns-2 : tie.Need-returns-2 Inv-loop μ-loop
 returns-2 c =
-    let start = c .before .before .before .before .before in
+    let start = c .before .before .before .before .before .before in
     sym (over-end _ _ _ _ _ (c .before .before .before .loop .inv) (start .pre .0 .planned) (c .if2 .taken)
     (sym (c .before .before .frame-holds .ensures) ∙ not-false _ (c .before .if1 .left)))
 
 caller-requires : tie.Need-caller-requires Inv-loop μ-loop
 caller-requires c κs =
-    let start = c .before .before .before .before .before in
+    let start = c .before .before .before .before .before .before in
     let room = over-room _ _ _ _ _ (c .before .before .before .loop .inv) in
-    (start .pre .1, omega (arith, room, start .pre .1, start .pre .0 .readable .most))
+    (start .pre .2, omega (arith, room, start .pre .2, start .pre .0 .readable .most))
 
 loop-less : tie.Need-loop-less Inv-loop μ-loop
 loop-less c =
-    let start = c .before .before .before .before .before .before in
+    let start = c .before .before .before .before .before .before .before in
     let over = c .before .before .before .before .loop .inv in
     let room = over-room _ _ _ _ _ over in
     let (less, next) = over-on _ _ _ _ _ over (procedures-few (start .pre .0 .planned))
-    (omega (arith, room, start .pre .1, start .pre .0 .readable .most)) (c .before .if2 .left)
+    (omega (arith, room, start .pre .2, start .pre .0 .readable .most)) (c .before .if2 .left)
     (sym (c .before .before .before .frame-holds .ensures) ∙ not-false _ (c .before .before .if1 .left)) (c .caller .ensures) in
     less
 
 loop-again : tie.Need-loop-again Inv-loop μ-loop
 loop-again c =
-    let start = c .before .before .before .before .before .before in
+    let start = c .before .before .before .before .before .before .before in
     let over = c .before .before .before .before .loop .inv in
     let room = over-room _ _ _ _ _ over in
     let (less, next) = over-on _ _ _ _ _ over (procedures-few (start .pre .0 .planned))
-    (omega (arith, room, start .pre .1, start .pre .0 .readable .most)) (c .before .if2 .left)
+    (omega (arith, room, start .pre .2, start .pre .0 .readable .most)) (c .before .if2 .left)
     (sym (c .before .before .before .frame-holds .ensures) ∙ not-false _ (c .before .before .if1 .left)) (c .caller .ensures) in
     next
 

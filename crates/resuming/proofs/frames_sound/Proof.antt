@@ -2,6 +2,8 @@ use native.Mathlib.Omega.{arith}
 use mathlib.Core.Path.{_≡_, sym, _∙_, refl}
 use borrow.Author.Tests.{not-true, not-false}
 use Rattle.prelude.proofs.Choice.{also-left, also-pass, also-true, also-right}
+use Rattle.access.proofs.Bounds.{variables-few}
+use Rattle.unwinding.proofs.Next.{skips-by}
 use Rattle.resuming.specs.Reading.{framesSound}
 use borrow.Author.Needs.{needs}
 use Rattle.resuming.proofs.frames_sound.Statement.{statement}
@@ -10,6 +12,7 @@ use Rattle.resuming.proofs.frames_sound.Reads as reads
 use Rattle.resuming.proofs.frames_sound.Lts as lts
 use Rattle.referents.proofs.references.Reads as references-reads
 use Rattle.resuming.proofs.values_hold.Reads as values-hold-reads
+use Rattle.unwinding.proofs.fill_next.Reads as fill-next-reads
 use Rattle.unwinding.proofs.walk.Reads as walk-reads
 
 slice-aggregate-walk : tie.Need-slice-aggregate-walk
@@ -22,11 +25,27 @@ returns : tie.Need-returns
 unfolding framesSound
 returns c = sym (also-left _ (sym (c .before .before .walk .ensures .0) ∙ not-true _ (c .if1 .taken)))
 
+slice-aggregate-fill-next : tie.Need-slice-aggregate-fill-next
+slice-aggregate-fill-next c = search needs
+
+fill-next-requires : tie.Need-fill-next-requires
+fill-next-requires c κs = (c .before .before .before .before .before .pre .0 .planned, omega arith)
+
+slice-aggregate-values-hold : tie.Need-slice-aggregate-values-hold
+slice-aggregate-values-hold c = search needs
+
 values-hold-requires : tie.Need-values-hold-requires
 values-hold-requires c κs =
-    let start = c .before .before .before .before in
-    let (ends, links) = also-true _ _ (sym (c .before .before .walk .ensures .0) ∙ not-false _ (c .if1 .left)) in
-    (start .pre .0, start .pre .1, start .pre .2, record { ends = ends; links = links })
+    let start = c .before .before .before .before .before .before .before .before in
+    let filled = c .before .before .fill-next .ensures in
+    let walked = c .before .before .before .before .before .before .walk .ensures in
+    let (ends, links) = also-true _ _ (sym (walked .0) ∙ not-false _ (c .before .before .before .before .if1 .left)) in (
+      start .pre .0,
+      skips-by _ (omega (arith, variables-few (start .pre .0 .planned))) filled,
+      start .pre .1,
+      start .pre .2,
+      record { ends = ends; links = links },
+    )
 
 returns-2 : tie.Need-returns-2
 unfolding framesSound
@@ -35,13 +54,18 @@ returns-2 c = sym (also-right _ (also-left _ (sym (c .before .values-hold .ensur
 slice-aggregate-references : tie.Need-slice-aggregate-references
 slice-aggregate-references c = search needs
 
+slice-aggregate-references-2 : tie.Need-slice-aggregate-references-2
+slice-aggregate-references-2 c = search needs
+
 references-requires : tie.Need-references-requires
 references-requires c κs =
-    let walked = c .before .before .before .before .before in
+    let walked = c .before .before .before .before .before .before .before .before .before .before in
     let start = walked .before .before in
-    let yes-all = not-false _ (c .before .before .before .if1 .left) in
+    let filled = c .before .before .before .before .before .before .fill-next .ensures in
+    let yes-all = not-false _ (c .before .before .before .before .before .before .before .before .if1 .left) in
     let (ends, links) = also-true _ _ (sym (walked .walk .ensures .0) ∙ yes-all) in (
       start .pre .0,
+      skips-by _ (omega (arith, variables-few (start .pre .0 .planned))) filled,
       record {
         walked = record { ends = ends; links = links };
         blocked = walked .walk .ensures .1 yes-all;
@@ -54,10 +78,11 @@ references-requires c κs =
 returns-3 : tie.Need-returns-3
 unfolding framesSound
 returns-3 c =
-    let walked = c .before .before .before .before .before .before in
+    let held = c .before .before .before .before in
+    let walked = held .before .before .before .before .before .before .before in
     c .references .ensures
-    ∙ sym (also-pass _ (sym (walked .walk .ensures .0) ∙ not-false _ (c .before .before .before .before .if1 .left))
-    ∙ also-pass _ (sym (c .before .before .before .values-hold .ensures) ∙ not-false _ (c .before .before .if2 .left)))
+    ∙ sym (also-pass _ (sym (walked .walk .ensures .0) ∙ not-false _ (held .before .before .before .before .before .if1 .left))
+    ∙ also-pass _ (sym (held .values-hold .ensures) ∙ not-false _ (c .before .before .before .if2 .left)))
 
 pub frames-sound-spec : {M : Type 1} → statement M
 frames-sound-spec =
@@ -66,8 +91,12 @@ frames-sound-spec =
     slice-aggregate-walk
     walk-requires
     returns
+    slice-aggregate-fill-next
+    fill-next-requires
+    slice-aggregate-values-hold
     values-hold-requires
     returns-2
     slice-aggregate-references
+    slice-aggregate-references-2
     references-requires
     returns-3)

@@ -31,13 +31,13 @@ slice-aggregate-fill-even c = search needs
 fill-even-requires : tie.Need-fill-even-requires
 unfolding tableOf choose
 fill-even-requires c κs =
-    let start = c .before .before .before .before .before .before .before in
+    let start = c .before .before .before .before .before .before .before .before in
     rw (c .before .table2 .ensures, c .before .before .before .before .table .ensures)
     (types-few (start .pre .0 .planned), types-kept (start .pre .0 .planned), types-few (start .pre .0 .planned))
 
 first-variable-requires : tie.Need-first-variable-requires
 first-variable-requires c κs =
-    let start = c .before .before .before .before .before .before .before .before .before in
+    let start = c .before .before .before .before .before .before .before .before .before .before in
     (start .pre .0 .planned, procedures-some (start .pre .0 .planned))
 
 slice-aggregate-variables-hold : tie.Need-slice-aggregate-variables-hold
@@ -47,10 +47,10 @@ variables-hold-requires : tie.Need-variables-hold-requires
 unfolding tableOf choose
 variables-hold-requires c κs =
     let filled = c .before .before .before in
-    let start = filled .before .before .before .before .before .before .before .before in
+    let start = filled .before .before .before .before .before .before .before .before .before in
     let evens = rw (filled .before .before .table2 .ensures, filled .before .before .before .before .before .table .ensures) at (filled .fill-even .ensures) in
     rw (c .before .first-variable .ensures, globals-first _)
-    (readable-by (start .pre .0 .planned) (types-few (start .pre .0 .planned)) evens (start .pre .2), globals-there (start .pre .0 .planned), omega (arith, globals-room _ _ _ _ _ (start .pre .3), start .pre .1))
+    (readable-by (start .pre .0 .planned) (types-few (start .pre .0 .planned)) evens (start .pre .3), start .pre .1, globals-there (start .pre .0 .planned), omega (arith, globals-room _ _ _ _ _ (start .pre .4), start .pre .2))
 
 returns : tie.Need-returns
 unfolding valuesPass
@@ -65,9 +65,9 @@ frames-hold-requires : tie.Need-frames-hold-requires
 unfolding tableOf choose
 frames-hold-requires c κs =
     let filled = c .before .before .before .before .before .before in
-    let start = filled .before .before .before .before .before .before .before .before in
+    let start = filled .before .before .before .before .before .before .before .before .before in
     let evens = rw (filled .before .before .table2 .ensures, filled .before .before .before .before .before .table .ensures) at (filled .fill-even .ensures) in
-    (readable-by (start .pre .0 .planned) (types-few (start .pre .0 .planned)) evens (start .pre .2), start .pre .1, start .pre .3)
+    (readable-by (start .pre .0 .planned) (types-few (start .pre .0 .planned)) evens (start .pre .3), start .pre .1, start .pre .2, start .pre .4)
 
 returns-2 : tie.Need-returns-2
 unfolding valuesPass

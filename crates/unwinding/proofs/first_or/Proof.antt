@@ -1,0 +1,20 @@
+use mathlib.Core.Path.{_≡_, sym, _∙_}
+use borrow.Author.Needs.{needs}
+use Rattle.unwinding.proofs.Next.{or-behind, or-here}
+use Rattle.unwinding.proofs.first_or.Statement.{statement}
+use Rattle.unwinding.proofs.first_or.Tie as tie
+use Rattle.unwinding.proofs.first_or.Reads as reads
+use Rattle.unwinding.proofs.first_or.Lts as lts
+use Rattle.access.proofs.width_of.Reads as width-of-reads
+
+width-of-requires : tie.Need-width-of-requires
+width-of-requires c κs = search needs
+
+returns : tie.Need-returns
+returns c = sym (or-behind _ _ _ (sym (c .before .width-of .ensures) ∙ c .if1 .taken))
+
+returns-2 : tie.Need-returns-2
+returns-2 c = sym (or-here _ _ _ (λ none. c .if1 .left (c .before .width-of .ensures ∙ none)))
+
+pub first-or-spec : {M : Type 1} → statement M
+first-or-spec = tie.close (tie.spec width-of-requires returns returns-2)
