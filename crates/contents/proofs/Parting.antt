@@ -19,7 +19,7 @@ use Rattle.shapes.proofs.Accepted.{Based, Based.no-base, Based.on-base, TypesKe
 use Rattle.shapes.proofs.Accepted.{base-agree, size-is, layout-is, field-low}
 use Rattle.shapes.proofs.Layouts.{layout-length}
 use Rattle.objects.specs.Looking.{LowTypes}
-use Rattle.objects.proofs.Climbing.{kept, held-size}
+use Rattle.objects.proofs.Records.{kept, held-size}
 use Rattle.asking.specs.State.{valuesKept}
 use Rattle.contents.specs.Kinds.{EMPTY, PARTS, evenOf}
 use Rattle.contents.specs.Reading.{Readable, Inside}

@@ -10,7 +10,7 @@ use lib.Dec.{eqb}
 use lib.ListN.{replicate}
 use Rattle.prelude.specs.Choice.{choose, _also_}
 use Rattle.prelude.specs.Parts.{sum, Nth, Nth.here, Nth.there}
-use Rattle.prelude.proofs.Choice.{choose-yes, choose-no, choose-cases, also-true, also-yes, also-right}
+use Rattle.prelude.proofs.Choice.{choose-yes, choose-no, choose-cases, also-true, also-yes, also-left, also-right}
 use Rattle.prelude.proofs.Rec.{rec-eq, below-low}
 use Rattle.prelude.proofs.Parts.{nth-nil, nth-split}
 use Rattle.image.specs.Rows.{rowAt, rowsOf}
@@ -22,7 +22,7 @@ use Rattle.shapes.proofs.Accepted.{record-is, array-is, size-is, field-low}
 use Rattle.shapes.proofs.Layouts.{decide}
 use Rattle.relations.proofs.Fielding.{fields-of, no-fields, size-fields}
 use Rattle.objects.specs.Begins.{partsOf, Begins, Begins.itself, Begins.in-part, among, beginsAt}
-use Rattle.objects.proofs.Following.{either, many-size, nth-many, among-past, among-agree, among-some}
+use Rattle.objects.proofs.Following.{either, many-size, nth-many, among-none, among-past, among-agree, among-some}
 use Rattle.objects.proofs.Following.{some-among}
 
 -- a field's type stands in its row
@@ -139,6 +139,20 @@ module _ (t f : List ℕ) (kept : TypesKept t f) where
 
     pub begins-past : (r o : ℕ) → r < rowsOf t → sizeOf t f r < o → beginsAt t f w r o ≡ false
     begins-past r o low more = past-by (suc r) r o (omega arith) low more
+
+    -- ---- none begins in a type of a lower row, so none in its own parts
+
+    none-by : (m r o : ℕ) → r < m → r < w → r < rowsOf t → beginsAt t f w r o ≡ false
+    none-by zero r o h less low = absurd (omega arith)
+    none-by (suc m) r o h less low =
+        begins-eq r o low ∙ choose-no _ _ _ (also-left _ (ne-eqb r w (omega arith)))
+        ∙ among-none (beginsAt t f w) (sizeOf t f) (partsOf t f r) o
+        (λ n u x k. let q = parts-low r low k in none-by m u x (omega arith) (omega arith) (omega arith))
+
+    pub itself-none : (size : ℕ → ℕ) (o : ℕ) → w < rowsOf t → among (beginsAt t f w) size (partsOf t f w) o ≡ false
+    itself-none size o low =
+        among-none (beginsAt t f w) size (partsOf t f w) o
+        (λ n u x k. let q = parts-low w low k in none-by (suc u) u x (omega arith) q (omega arith))
 
     -- ---- the test and the relation are one
 

@@ -18,7 +18,7 @@ use Rattle.relations.proofs.Fielding.{no-fields}
 use Rattle.objects.specs.Begins.{partsOf, among, beginsAt}
 use Rattle.objects.specs.Looking.{held, Typed, Edges, Beyond}
 use Rattle.objects.proofs.Beginning.{array-row, array-parts, other-parts, begins-eq, begins-past}
-use Rattle.objects.proofs.Climbing.{kept, held-size, by-plan}
+use Rattle.objects.proofs.Records.{kept, held-size, by-plan}
 
 module _ {t f plan : List ℕ} (typed : Typed t f plan) where
   -- ---- parts by the kind

@@ -68,6 +68,17 @@ module _ (deeper : ℕ → ℕ → Bool) (size : ℕ → ℕ) where
 
   -- ---- the test and the place
 
+  -- where none begins in any of them
+  pub among-none : (l : List ℕ) (o : ℕ) → ((n u x : ℕ) → Nth l n u → deeper u x ≡ false)
+      → among deeper size l o ≡ false
+  unfolding among
+  among-none [] o h = refl
+  among-none (u ∷ l) o h = go (decLe (size u) o) (among-none l (o - size u) (λ n v x k. h (suc n) v x (there k)))
+    where
+      go : Dec (size u ≤ o) → among deeper size l (o - size u) ≡ false → among deeper size (u ∷ l) o ≡ false
+      go (yes le) rest = among-next u l o (h 0 u o here) le ∙ rest
+      go (no gt) rest = among-stop u l o (omega arith) ∙ h 0 u o here
+
   -- one of the objects, and that `deeper` says yes so many cells into it
   pub record Some (l : List ℕ) (o : ℕ) : Type 0 where
     pub number : ℕ

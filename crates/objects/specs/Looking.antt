@@ -1,11 +1,14 @@
 -- What the functions that look for an object read and answer.
-use Prim.Native.Nat.{ℕ, _≤_, _<_}
+use Prim.Native.Nat.{ℕ, _-_, _≤_, _<_}
 use mathlib.Core.Path.{_≡_}
 use mathlib.Core.Bool.{Bool, true, false}
 use mathlib.Core.List.{List}
+use lib.Dec.{eqb}
 use lib.ListN.{length, getD}
+use Rattle.prelude.specs.Choice.{choose}
 use Rattle.image.specs.declared.Verdict.the-variants.{Kept}
 use Rattle.image.specs.Rows.{rowAt, rowsOf}
+use Rattle.shapes.specs.Forms.{ofBase}
 use Rattle.shapes.specs.Sizes.{sizeOf}
 use Rattle.types.specs.Question.{question4}
 use Rattle.objects.specs.declared.Look.{Look}
@@ -47,6 +50,14 @@ pub record LowTypes (f : List ℕ) (k e m : ℕ) : Type 0 where
 unfoldable pub toldBy : Bool → Look
 toldBy true = Ls.Yes
 toldBy false = Ls.No
+
+-- what a table of type w says of a record's base, whose row plus 1 is a
+unfoldable pub saidOfBase : List Bool → ℕ → ℕ → Bool
+saidOfBase s w a = ofBase false (λ u. choose (eqb u w) false (getD s u false)) a
+
+-- a look into the base, before its end
+unfoldable pub lookInBase : List Bool → ℕ → ℕ → ℕ → Look
+lookInBase starts w a o = choose (eqb o 0) (toldBy (saidOfBase starts w a)) (Ls.Inside (a - 1) o)
 
 -- the answer that a look comes to, where `deeper` says what begins in the part that it leads to
 unfoldable pub settled : (ℕ → ℕ → Bool) → Look → Bool

@@ -7,14 +7,15 @@ ghost use mathlib.Core.Bool.{Bool, false};
 ghost use mathlib.Core.List.{List};
 ghost use Prim.Native.Nat.{ℕ, _-_, _*_, _≤_, _<_};
 ghost use lib.Dec.{leb, eqb};
-ghost use lib.ListN.{length, getD, replicate};
+ghost use lib.ListN.{length, getD, drop, replicate};
 ghost use Rattle.prelude.specs.Choice.{choose, _also_};
 ghost use Rattle.image.specs.Rows.{rowAt, rowsOf};
 ghost use Rattle.shapes.specs.Forms.{ownTypes};
 ghost use Rattle.shapes.specs.Sizes.{fieldsOf};
 ghost use Rattle.objects.specs.Begins.{partsOf, among as amongOf, beginsAt};
 ghost use Rattle.objects.specs.Looking.{held, Typed, Edges, Beyond, LowTypes, toldBy, settled, Looks};
-ghost use Rattle.objects.specs.Tables.{TABLE, AllEdges, Besides};
+ghost use Rattle.objects.specs.Looking.{saidOfBase, lookInBase};
+ghost use Rattle.objects.specs.Tables.{ROWS, TABLE, AllEdges, Besides};
 
 // How many places a table has for each type that is looked for, and in all.
 const ROWS: usize = 64;
@@ -26,7 +27,7 @@ pub const TABLE: usize = ROWS * ROWS;
 pub enum Look {
     Yes,
     No,
-    Inside(u16, u32),
+    Inside(usize, u32),
 }
 
 // What a table says of type row i: no past its end.
@@ -95,7 +96,7 @@ fn among(f: &[u8], plan: &[u32], starts: &[bool], ends: &[bool], k: usize, e: us
         let u = field_type(f, j);
         let size = plan[u as usize];
         if rest < size {
-            return Look::Inside(u, rest);
+            return Look::Inside(u as usize, rest);
         }
         j = j + 1;
         if rest == size {
@@ -109,48 +110,64 @@ fn among(f: &[u8], plan: &[u32], starts: &[bool], ends: &[bool], k: usize, e: us
     Look::No
 }
 
-// Whether one begins at the seam of a base that ends `before` cells into its record and the own fields in rows k to e,
-// o cells into the record.
-fn at_seam(f: &[u8], plan: &[u32], starts: &[bool], k: usize, e: usize, o: u32, before: u32) -> bool
-    requires { ⌜ LowTypes (now f) k e (length (now plan)) ⌝ }
-    ensures { λ x. ⌜ ((deeper : ℕ → ℕ → Bool) (m : ℕ) (ends : List Bool)
-        → Edges deeper (held (now (plan .entry))) m (now (starts .entry)) ends
-        → LowTypes (now (f .entry)) k e m → o ≤ before
-        → x ≡ choose (leb before o)
-        (amongOf deeper (held (now (plan .entry))) (ownTypes (now (f .entry)) k (e - k)) (o - before)) false) ⌝ }
+// What a table of type w says of a record's base, whose row plus 1 is a: the base's part is no object.
+fn of_base(s: &[bool], w: u16, a: u16) -> bool
+    ensures { λ x. ⌜ x ≡ saidOfBase (now (s .entry)) w a ⌝ }
 {
-    if o == before {
-        return among_first(f, plan, starts, k, e);
+    if a == 0 {
+        return false;
     }
-    false
+    let base = a - 1;
+    if base == w {
+        return false;
+    }
+    marked(s, base)
 }
 
-// A look o cells into the fields of the record in row r, up its bases.
-fn fields(t: &[u8], f: &[u8], plan: &[u32], starts: &[bool], ends: &[bool], r: u16, o: u32) -> Look
+// A look o cells into the base, before its end.
+fn in_base(starts: &[bool], w: u16, a: u16, o: u32) -> Look
+    requires { ⌜ 0 < a ⌝ }
+    ensures { λ x. ⌜ x ≡ lookInBase (now (starts .entry)) w a o ⌝ }
+{
+    if o == 0 {
+        return told(of_base(starts, w, a));
+    }
+    Look::Inside((a as usize) - 1, o)
+}
+
+// A look o cells into the fields of the record in row r: what is behind a base's start begins in the base as in a field.
+fn fields(
+    t: &[u8],
+    f: &[u8],
+    plan: &[u32],
+    starts: &[bool],
+    ends: &[bool],
+    w: u16,
+    r: usize,
+    o: u32,
+) -> Look
     requires { ⌜ Typed (now t) (now f) (now plan) × (r < rowsOf (now t)) × (rowAt (now t) r .kind ≡ 4) ⌝ }
-    ensures { λ x. ⌜ ((deeper : ℕ → ℕ → Bool)
-        → Edges deeper (held (now (plan .entry))) r (now (starts .entry)) (now (ends .entry))
-        → Looks deeper r x (amongOf deeper (held (now (plan .entry)))
+    ensures { λ x. ⌜ (Edges (beginsAt (now (t .entry)) (now (f .entry)) w) (held (now (plan .entry))) r
+        (now (starts .entry)) (now (ends .entry))
+        → Looks (beginsAt (now (t .entry)) (now (f .entry)) w) r x
+        (amongOf (beginsAt (now (t .entry)) (now (f .entry)) w) (held (now (plan .entry)))
         (fieldsOf (now (t .entry)) (now (f .entry)) r) o)) ⌝ }
 {
-    let mut at = r as usize;
-    loop {
-        let row = image::row_at(t, at);
-        let a = row.a;
-        let first = row.b as usize;
-        let past = first + (row.c as usize);
-        let before = sizes::base_size(plan, a);
-        if before < o {
-            return among(f, plan, starts, ends, first, past, o - before);
-        }
-        if at_seam(f, plan, starts, first, past, o, before) {
-            return Look::Yes;
-        }
-        if a == 0 {
-            return Look::No;
-        }
-        at = (a as usize) - 1;
+    let row = image::row_at(t, r);
+    let a = row.a;
+    let first = row.b as usize;
+    let past = first + (row.c as usize);
+    let before = sizes::base_size(plan, a);
+    if before < o {
+        return among(f, plan, starts, ends, first, past, o - before);
     }
+    if o < before {
+        return in_base(starts, w, a, o);
+    }
+    if of_base(ends, w, a) {
+        return Look::Yes;
+    }
+    told(among_first(f, plan, starts, first, past))
 }
 
 // Whether one begins where element i of n of type row e starts, or the one before it ends.
@@ -195,20 +212,30 @@ fn elements(plan: &[u32], starts: &[bool], ends: &[bool], e: u16, n: u16, o: u32
     }
     let count = n as u32;
     if i < count {
-        return Look::Inside(e, inside);
+        return Look::Inside(e as usize, inside);
     }
     Look::No
 }
 
 // A look o cells into the parts of type row r.
-fn parts(t: &[u8], f: &[u8], plan: &[u32], starts: &[bool], ends: &[bool], r: u16, o: u32) -> Look
+fn parts(
+    t: &[u8],
+    f: &[u8],
+    plan: &[u32],
+    starts: &[bool],
+    ends: &[bool],
+    w: u16,
+    r: usize,
+    o: u32,
+) -> Look
     requires { ⌜ Typed (now t) (now f) (now plan) × (r < rowsOf (now t)) ⌝ }
-    ensures { λ x. ⌜ ((deeper : ℕ → ℕ → Bool)
-        → Edges deeper (held (now (plan .entry))) r (now (starts .entry)) (now (ends .entry))
-        → Looks deeper r x (amongOf deeper (held (now (plan .entry)))
+    ensures { λ x. ⌜ (Edges (beginsAt (now (t .entry)) (now (f .entry)) w) (held (now (plan .entry))) r
+        (now (starts .entry)) (now (ends .entry))
+        → Looks (beginsAt (now (t .entry)) (now (f .entry)) w) r x
+        (amongOf (beginsAt (now (t .entry)) (now (f .entry)) w) (held (now (plan .entry)))
         (partsOf (now (t .entry)) (now (f .entry)) r) o)) ⌝ }
 {
-    let row = image::row_at(t, r as usize);
+    let row = image::row_at(t, r);
     let kind = row.kind;
     let a = row.a;
     let b = row.b;
@@ -216,7 +243,7 @@ fn parts(t: &[u8], f: &[u8], plan: &[u32], starts: &[bool], ends: &[bool], r: u1
         return elements(plan, starts, ends, a, b, o);
     }
     if kind == 4 {
-        return fields(t, f, plan, starts, ends, r, o);
+        return fields(t, f, plan, starts, ends, w, r, o);
     }
     Look::No
 }
@@ -232,17 +259,26 @@ fn is_yes(x: Look) -> bool
 }
 
 // Whether one begins o cells into the parts of type row r, at any depth.
-fn reached(t: &[u8], f: &[u8], plan: &[u32], starts: &[bool], ends: &[bool], r: u16, o: u32) -> bool
+fn reached(
+    t: &[u8],
+    f: &[u8],
+    plan: &[u32],
+    starts: &[bool],
+    ends: &[bool],
+    w: u16,
+    r: u16,
+    o: u32,
+) -> bool
     requires { ⌜ Typed (now t) (now f) (now plan) × (r < rowsOf (now t)) ⌝ }
-    ensures { λ x. ⌜ ((w : ℕ) → Edges (beginsAt (now (t .entry)) (now (f .entry)) w) (held (now (plan .entry))) r
+    ensures { λ x. ⌜ (Edges (beginsAt (now (t .entry)) (now (f .entry)) w) (held (now (plan .entry))) r
         (now (starts .entry)) (now (ends .entry))
         → x ≡ amongOf (beginsAt (now (t .entry)) (now (f .entry)) w) (held (now (plan .entry)))
         (partsOf (now (t .entry)) (now (f .entry)) r) o) ⌝ }
 {
-    let mut at = r;
+    let mut at = r as usize;
     let mut into = o;
     loop {
-        let look = parts(t, f, plan, starts, ends, at, into);
+        let look = parts(t, f, plan, starts, ends, w, at, into);
         let Look::Inside(u, x) = look else {
             return is_yes(look);
         };
@@ -284,7 +320,7 @@ fn begun(
     if is_itself(r, w, o) {
         return true;
     }
-    reached(t, f, plan, starts, ends, r, o)
+    reached(t, f, plan, starts, ends, w, r, o)
 }
 
 // Fills the tables of type w: whether one declared with it begins at the start of each type row, and at its end.
@@ -326,6 +362,14 @@ pub fn fill_all(t: &[u8], f: &[u8], plan: &[u32], starts: &mut [bool], ends: &mu
     }
 }
 
+// What a table says of type w.
+pub fn of_type<'a>(s: &'a [bool], w: u16) -> &'a [bool]
+    requires { ⌜ w * ROWS ≤ length (now s) ⌝ }
+    ensures { λ x. ⌜ now x ≡ drop (w * ROWS) (now (s .entry)) ⌝ }
+{
+    &s[(w as usize) * ROWS..]
+}
+
 // Whether an object declared with type w begins o cells into one of type row r.
 pub fn holds(
     t: &[u8],
@@ -341,15 +385,14 @@ pub fn holds(
         × (w < rowsOf (now t)) × (r < rowsOf (now t)) ⌝ }
     ensures { λ x. ⌜ x ≡ beginsAt (now (t .entry)) (now (f .entry)) w r o ⌝ }
 {
-    let from = (w as usize) * ROWS;
-    let first = &starts[from..];
+    let first = of_type(starts, w);
     if o == 0 {
         return marked(first, r);
     }
-    let last = &ends[from..];
+    let last = of_type(ends, w);
     let size = sizes::cell(plan, r as usize);
     if o == size {
         return marked(last, r);
     }
-    reached(t, f, plan, first, last, r, o)
+    reached(t, f, plan, first, last, w, r, o)
 }

@@ -2,9 +2,10 @@
 use mathlib.Core.Path.{_≡_}
 use mathlib.Core.Bool.{Bool}
 use mathlib.Core.List.{List}
-use Prim.Native.Nat.{ℕ}
+use Prim.Native.Nat.{ℕ, _≤_}
 use native.Mathlib.Omega.{arith}
 use Rattle.prelude.specs.Choice.{choose}
+use Rattle.image.specs.Rows.{rowsOf}
 use Rattle.semantics.specs.Running.{programOf}
 use Rattle.semantics.proofs.Demand3.{program-accepted}
 use Rattle.objects.specs.Looking.{Typed}
@@ -39,3 +40,11 @@ module _ {image plan t f : List ℕ} (p : Planned image plan) (types : t ≡ tab
     typed = typed-plan;
     edges = edges;
   }
+
+module _ (image : List ℕ) {v : List ℕ} (variables : v ≡ tableOf (programOf image) 2) where
+  pub variables-are : v ≡ programOf image .variables
+  unfolding tableOf choose
+  variables-are = variables
+
+  pub variables-there : {n : ℕ} → n ≤ rowsOf (programOf image .variables) → n ≤ rowsOf v
+  variables-there h = rw variables-are h

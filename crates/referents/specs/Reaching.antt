@@ -1,10 +1,12 @@
 -- Objects among variables, by the variables' places.
 use Prim.Native.Nat.{ℕ, _+_, _-_, _≤_, _<_}
 use mathlib.Core.Path.{_≡_}
-use mathlib.Core.Bool.{Bool}
+use mathlib.Core.Bool.{Bool, false}
+use mathlib.Core.List.{List}
 use lib.Dec.{leb}
+use lib.ListN.{getD}
 use Rattle.prelude.specs.Choice.{_also_}
-use Rattle.image.specs.Rows.{rowAt}
+use Rattle.image.specs.Rows.{rowAt, rowsOf}
 use Rattle.places.specs.Places.{roomFrom}
 use Rattle.semantics.specs.Layout.{Program, placeOf}
 use Rattle.objects.specs.Begins.{beginsAt}
@@ -31,3 +33,20 @@ inVariable g w k o =
 -- at an address begins one in n variables from row k on, which stand from `lead` on
 abbrev pub inPlaces : Program → ℕ → ℕ → ℕ → ℕ → ℕ → Bool
 inPlaces g w k n lead at = leb lead at also objectIn g w k n (at - lead)
+
+-- and in those of them from row j on
+abbrev pub leftPlaces : Program → ℕ → ℕ → ℕ → ℕ → ℕ → ℕ → Bool
+leftPlaces g w k n lead at j =
+    inPlaces g w j (k + n - j) (lead + roomFrom (g .types) (g .fields) (g .variables) k (j - k)) at
+
+-- of n variables from row k on, which stand from `lead` on, rows j to e are the last, and none of these begins below an
+-- address
+pub record Ahead (g : Program) (k n lead at j e : ℕ) : Type 0 where
+  pub least : k ≤ j
+  pub last : e ≡ k + n
+  pub placed : Placed g k n lead
+  pub above : j < e → at ≤ placeOf g j
+
+-- a table says of each type whether one declared with type w begins at its start
+abbrev pub Firsts : Program → ℕ → List Bool → Type 0
+Firsts g w first = (u : ℕ) → u < rowsOf (g .types) → getD first u false ≡ beginsAt (g .types) (g .fields) w u 0

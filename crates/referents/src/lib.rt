@@ -1,11 +1,15 @@
 // Whether the VAR parameters of all frames refer to objects.
 use access::Plan;
+use image::Row;
 use objects::TABLE;
 use semantics::Mark;
 ghost use mathlib.Core.Path.{_≡_};
+ghost use mathlib.Core.Bool.{false};
 ghost use mathlib.Core.List.{List};
 ghost use Prim.Native.Nat.{ℕ, suc, _+_, _-_, _≤_, _<_};
-ghost use lib.ListN.{drop};
+ghost use lib.Dec.{leb};
+ghost use lib.ListN.{length, getD, drop};
+ghost use Rattle.prelude.specs.Choice.{_also_};
 ghost use Rattle.image.specs.Rows.{rowAt, rowsOf};
 ghost use Rattle.frames.specs.Procedures.{firstVariable, claimedBy};
 ghost use Rattle.places.specs.Places.{widthOf, frameSize};
@@ -16,7 +20,7 @@ ghost use Rattle.asking.specs.State.{referenceKept, chain};
 ghost use Rattle.asking.specs.Passes.{variablesPass, referenceTest, referencesPass};
 ghost use Rattle.access.specs.Ready.{Planned, Ready};
 ghost use Rattle.unwinding.specs.Next.{Skips};
-ghost use Rattle.referents.specs.Reaching.{Placed, Reached, inVariable, inPlaces};
+ghost use Rattle.referents.specs.Reaching.{Placed, Reached, Firsts, Ahead, inVariable, inPlaces, leftPlaces};
 ghost use Rattle.referents.specs.Reading.{Lent, Framed, Stacked, Oldest, Asked};
 
 // ---- objects in variables
@@ -67,6 +71,49 @@ fn in_variable(
     objects::holds(t, f, plan, starts, ends, w, r, o)
 }
 
+// Whether one begins at the start of the variable in this row, where a table says of each type whether one does.
+fn at_start(first: &[bool], row: Row) -> bool
+    requires { ⌜ row .a < length (now first) ⌝ }
+    ensures { λ x. ⌜ x ≡ (leb (row .kind) 2 also getD (now (first .entry)) (row .a) false) ⌝ }
+{
+    if first[row.a as usize] {
+        return row.kind <= 2;
+    }
+    false
+}
+
+// Whether one begins at an address in the variables from row k to row e, none of which begins below it: at the start of
+// those that begin there.
+fn starts_there(
+    image: &&[u8],
+    plan: &Plan,
+    v: &[u8],
+    first: &[bool],
+    k: u32,
+    e: u32,
+    at: u32,
+) -> bool
+    requires { ⌜ Planned (now (now image)) (now plan) × (now v ≡ programOf (now (now image)) .variables)
+        × (e ≤ rowsOf (now v)) × (rowsOf (programOf (now (now image)) .types) ≤ length (now first)) ⌝ }
+    ensures { λ x. ⌜ ((w i n lead : ℕ) → Firsts (programOf (now (now (image .entry)))) w (now (first .entry))
+        → Ahead (programOf (now (now (image .entry)))) i n lead at k e
+        → x ≡ leftPlaces (programOf (now (now (image .entry)))) w i n lead at k) ⌝ }
+{
+    let mut j = k;
+    while j < e {
+        let place = access::place_of(image, plan, j);
+        if at < place {
+            return false;
+        }
+        let row = image::row_at(v, j as usize);
+        if at_start(first, row) {
+            return true;
+        }
+        j = j + 1;
+    }
+    false
+}
+
 // Whether one begins at an address in n variables from row k on, which the plan has one behind the other.
 fn in_places(
     image: &&[u8],
@@ -86,33 +133,23 @@ fn in_places(
     ensures { λ x. ⌜ ((lead : ℕ) → Placed (programOf (now (now (image .entry)))) k n lead
         → x ≡ inPlaces (programOf (now (now (image .entry)))) w k n lead at) ⌝ }
 {
-    let end = k + n;
-    let mut j = first_reaching(image, plan, k, n, at);
-    while j < end {
-        let place = access::place_of(image, plan, j);
-        if at < place {
-            return false;
-        }
-        if in_variable(image, plan, t, f, starts, ends, w, j, at - place) {
-            return true;
-        }
-        j = j + 1;
+    if n == 0 {
+        return false;
     }
-    false
+    let j = first_reaching(image, plan, k, n, at);
+    let place = access::place_of(image, plan, j);
+    if at < place {
+        return false;
+    }
+    if in_variable(image, plan, t, f, starts, ends, w, j, at - place) {
+        return true;
+    }
+    let v = access::table(*image, plan, 2);
+    let first = objects::of_type(starts, w);
+    starts_there(image, plan, v, first, j + 1, k + n, at)
 }
 
 // ---- objects in frames
-
-// How many variables a frame of procedure q has.
-fn claimed(image: &&[u8], plan: &Plan, q: u16) -> u32
-    requires { ⌜ Planned (now (now image)) (now plan) ⌝ }
-    ensures { λ x. ⌜ x ≡ claimedBy (rowAt (programOf (now (now (image .entry))) .procedures) q) ⌝ }
-{
-    let row = access::procedure_at(image, plan, q);
-    let parameters = row.b as u32;
-    let locals = row.c as u32;
-    parameters + locals
-}
 
 // Whether an object declared with type w begins at an address: in the globals, or in the newest frame that begins below
 // the address.
@@ -144,7 +181,7 @@ fn object_at(
     let q = frame.procedure;
     let base = frame.base;
     let first = access::first_variable(image, plan, q);
-    let n = claimed(image, plan, q);
+    let n = access::claimed_by(image, plan, q);
     in_places(image, plan, t, f, starts, ends, w, first, n, at - base)
 }
 

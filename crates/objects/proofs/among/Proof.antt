@@ -45,6 +45,9 @@ shared-slice-read-size c = let l = c .before .before .before .loop in
     rw (c .before .field-type .ensures)
     (s .pre .0 .each (l .j) (l .inv .0) (c .before .before .loop-test .taken))
 
+cast-t17 : tie.Need-cast-t17 Inv-loop μ-loop
+cast-t17 c = search needs
+
 returns : tie.Need-returns Inv-loop μ-loop
 returns c = let l = c .before .before .before .before .loop in
     let more = c .before .before .before .loop-test .taken in
@@ -116,6 +119,7 @@ among-spec =
     cast-size
     mul-size
     shared-slice-read-size
+    cast-t17
     returns
     add-j
     marked-requires

@@ -22,7 +22,7 @@ reached-requires c κs = search needs
 returns-2 : tie.Need-returns-2
 returns-2 c = let s = c .before .before .before .before .before .before .before .before in
     let other = sym (c .before .before .is-itself .ensures) ∙ c .before .if1 .left in
-    λ edges. c .reached .ensures (s .args .w) edges
+    λ edges. c .reached .ensures edges
     ∙ sym (by-parts (s .pre .0) (s .args .w) (s .args .r) (s .pre .1) (s .args .o) other)
 
 pub begun-spec : {M : Type 1} → statement M

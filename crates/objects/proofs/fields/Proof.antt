@@ -1,148 +1,98 @@
-use borrow.Author.Needs.{needs}
-use mathlib.Core.Path.{_≡_, refl, sym, _∙_}
-use mathlib.Core.Bool.{Bool}
-use Prim.Native.Nat.{ℕ, _≤_}
+use mathlib.Core.Path.{_≡_, sym, _∙_}
 use native.Mathlib.Omega.{arith}
-use Rattle.image.specs.Rows.{rowAt}
-use Rattle.shapes.specs.Sizes.{fieldsOf}
-use Rattle.objects.specs.Begins.{among}
-use Rattle.objects.specs.Looking.{held, Edges}
-use Rattle.objects.proofs.Looks.{looks-yes, looks-no, looks-more, edges-less}
-use Rattle.objects.proofs.Climbing.{in-table, own-low, own-room, base-lower, climb-own, climb-yes, climb-none}
-use Rattle.objects.proofs.Climbing.{climb-up}
+use borrow.Author.Needs.{needs}
+use Rattle.objects.proofs.Looks.{looks-yes, looks-told, looks-same}
+use Rattle.objects.proofs.Records.{base-some, own-low, own-room, record-own, record-yes, record-no}
+use Rattle.objects.proofs.Bases.{said-end, looks-base}
 use Rattle.objects.proofs.fields.Statement.{statement}
 use Rattle.objects.proofs.fields.Tie as tie
 use Rattle.objects.proofs.fields.Reads as reads
 use Rattle.objects.proofs.fields.Lts as lts
 use Rattle.image.proofs.row_at.Reads as row-at-reads
 use Rattle.objects.proofs.among.Reads as among-reads
-use Rattle.objects.proofs.at_seam.Reads as at-seam-reads
+use Rattle.objects.proofs.among_first.Reads as among-first-reads
+use Rattle.objects.proofs.in_base.Reads as in-base-reads
+use Rattle.objects.proofs.of_base.Reads as of-base-reads
+use Rattle.objects.proofs.told.Reads as told-reads
 use Rattle.sizes.proofs.base_size.Reads as base-size-reads
 
-abbrev Inv-loop : tie.InvT-loop
-Inv-loop t f plan starts ends r o at₀ at = (at ≤ r) × (rowAt t at .kind ≡ 4)
-    × ((deeper : ℕ → ℕ → Bool) → Edges deeper (held plan) r starts ends
-    → among deeper (held plan) (fieldsOf t f r) o ≡ among deeper (held plan) (fieldsOf t f at) o)
-
-abbrev μ-loop : tie.MeasureT-loop
-μ-loop t f plan starts ends r o at₀ at = at
-
-loop-holds : tie.Need-loop-holds Inv-loop μ-loop
-loop-holds c = (omega arith, c .before .before .before .before .before .pre .2, λ deeper edges. refl)
-
-row-at-requires : tie.Need-row-at-requires Inv-loop μ-loop
+row-at-requires : tie.Need-row-at-requires
 row-at-requires c κs = search needs
 
-cast-first : tie.Need-cast-first Inv-loop μ-loop
+cast-first : tie.Need-cast-first
 cast-first c = search needs
 
-cast-past : tie.Need-cast-past Inv-loop μ-loop
+cast-past : tie.Need-cast-past
 cast-past c = search needs
 
-add-past : tie.Need-add-past Inv-loop μ-loop
+add-past : tie.Need-add-past
 add-past c = search needs
 
-base-size-requires : tie.Need-base-size-requires Inv-loop μ-loop
+base-size-requires : tie.Need-base-size-requires
 base-size-requires c κs = search needs
 
-sub-among : tie.Need-sub-among Inv-loop μ-loop
-sub-among c = omega arith
+sub-among : tie.Need-sub-among
+sub-among c = search needs
 
-among-requires : tie.Need-among-requires Inv-loop μ-loop
-among-requires c κs = let n = c .before .before .before .before .before in
-    let l = n .loop in
-    let s = n .before .before .before .before .before .before in (
-      own-room (s .pre .0) (l .at) (in-table (s .pre .1) (l .inv .0)) (l .inv .1)
-          (c .before .before .before .before .row-at .ensures),
-      omega arith,
-    )
+among-requires : tie.Need-among-requires
+among-requires c κs = let s = c .before .before .before .before .before .before .before .before .before .before in
+    (own-room (s .pre .0) (s .args .r) (s .pre .1) (s .pre .2) (c .before .before .before .before .row-at .ensures), omega arith)
 
-returns : tie.Need-returns Inv-loop μ-loop
-returns c = let n = c .before .before .before .before .before .before in
-    let l = n .loop in
-    let s = n .before .before .before .before .before .before in
+returns : tie.Need-returns
+returns c = let s = c .before .before .before .before .before .before .before .before .before .before .before in
     let row = c .before .before .before .before .before .row-at .ensures in
-    let low = in-table (s .pre .1) (l .inv .0) in
-    λ deeper edges.
-    let own = own-low (s .pre .0) (l .at) low (l .inv .1) row in
-    let same = climb-own (s .pre .0) (l .at) low (l .inv .1) row (l .inv .0) edges
-    (c .before .before .base-size .ensures)
-    (s .args .o) (c .before .if1 .taken) in
-    looks-more (l .inv .0) (same ∙ sym (l .inv .2 deeper edges))
-    (c .among .ensures deeper (l .at) (edges-less (l .inv .0) edges) own)
+    λ edges.
+    let own = own-low (s .pre .0) (s .args .r) (s .pre .1) (s .pre .2) row in
+    looks-same (record-own (s .pre .0) (s .args .r) (s .pre .1) (s .pre .2) row _ (c .before .before .base-size .ensures)
+    (s .args .o) edges (c .before .if1 .taken))
+    (c .among .ensures _ (s .args .r) edges own)
 
-at-seam-requires : tie.Need-at-seam-requires Inv-loop μ-loop
-at-seam-requires c κs = let n = c .before .before .before .before .before in
-    let l = n .loop in
-    let s = n .before .before .before .before .before .before in
-    own-room (s .pre .0) (l .at) (in-table (s .pre .1) (l .inv .0)) (l .inv .1)
-    (c .before .before .before .before .row-at .ensures)
+in-base-requires : tie.Need-in-base-requires
+in-base-requires c κs = base-some _ _ (c .before .before .base-size .ensures) (c .if2 .taken)
 
-returns-2 : tie.Need-returns-2 Inv-loop μ-loop
-returns-2 c = let n = c .before .before .before .before .before .before .before in
-    let l = n .loop in
-    let s = n .before .before .before .before .before .before in
-    let row = c .before .before .before .before .before .before .row-at .ensures in
-    let low = in-table (s .pre .1) (l .inv .0) in
-    λ deeper edges.
-    let own = own-low (s .pre .0) (l .at) low (l .inv .1) row in
-    let seam = c .before .at-seam .ensures deeper (l .at) _ (edges-less (l .inv .0) edges) own
-    (c .before .before .if1 .left) in
-    looks-yes (l .inv .2 deeper edges ∙ climb-yes (s .pre .0) (l .at) low (l .inv .1) row (l .inv .0) edges
-    (c .before .before .before .base-size .ensures) (s .args .o) seam (c .if2 .taken))
+returns-2 : tie.Need-returns-2
+returns-2 c = let s = c .before .before .before .before .before .before .before .before .before .before .before .before in
+    let size = c .before .before .before .base-size .ensures in
+    λ edges.
+    looks-base (s .pre .0) (s .args .w) (s .args .r) (s .pre .1) (s .pre .2) (c .before .before .before .before .before .before .row-at .ensures) edges (s .args .o)
+    size (c .before .if2 .taken) (base-some _ _ size (c .before .if2 .taken)) (c .in-base .ensures)
 
-returns-3 : tie.Need-returns-3 Inv-loop μ-loop
-returns-3 c = let n = c .before .before .before .before .before .before .before .before in
-    let l = n .loop in
-    let s = n .before .before .before .before .before .before in
+of-base-requires : tie.Need-of-base-requires
+of-base-requires c κs = search needs
+
+returns-3 : tie.Need-returns-3
+returns-3 c = let s = c .before .before .before .before .before .before .before .before .before .before .before .before .before in
     let row = c .before .before .before .before .before .before .before .row-at .ensures in
-    let low = in-table (s .pre .1) (l .inv .0) in
-    λ deeper edges.
-    let own = own-low (s .pre .0) (l .at) low (l .inv .1) row in
-    let seam = c .before .before .at-seam .ensures deeper (l .at) _ (edges-less (l .inv .0) edges) own
-    (c .before .before .before .if1 .left) in
-    looks-no (l .inv .2 deeper edges ∙ climb-none (s .pre .0) (l .at) low (l .inv .1) row (l .inv .0) edges
-    (c .before .before .before .before .base-size .ensures) (s .args .o) seam (c .before .if2 .left) (c .if3 .taken))
+    let size = c .before .before .before .before .base-size .ensures in
+    let last : s .args .o ≡ c .before .before .before .before .base-size .result = omega (arith, c .before .before .if2 .left, c .before .before .before .if1 .left) in
+    λ edges.
+    looks-yes (record-yes (s .pre .0) (s .args .r) (s .pre .1) (s .pre .2) row _ size (s .args .o)
+    (sym (said-end (s .pre .0) (s .args .w) (s .args .r) (s .pre .1) (s .pre .2) row edges (s .args .o) (last ∙ size))
+    ∙ sym (c .before .of-base .ensures) ∙ c .if3 .taken))
 
-cast-at : tie.Need-cast-at Inv-loop μ-loop
-cast-at c = search needs
+among-first-requires : tie.Need-among-first-requires
+among-first-requires c κs = let s = c .before .before .before .before .before .before .before .before .before .before .before .before .before in
+    own-room (s .pre .0) (s .args .r) (s .pre .1) (s .pre .2) (c .before .before .before .before .before .before .before .row-at .ensures)
 
-sub-at : tie.Need-sub-at Inv-loop μ-loop
-sub-at c = omega arith
+told-requires : tie.Need-told-requires
+told-requires c κs = search needs
 
-loop-less : tie.Need-loop-less Inv-loop μ-loop
-loop-less c = let n = c .before .before .before .before .before .before .before .before in
-    let l = n .loop in
-    let s = n .before .before .before .before .before .before in
-    let low = in-table (s .pre .1) (l .inv .0) in
-    base-lower (s .pre .0) (l .at) low (l .inv .1) (c .before .before .before .before .before .before .before .row-at .ensures)
-    (omega arith) .0
-
-loop-again : tie.Need-loop-again Inv-loop μ-loop
-loop-again c = let n = c .before .before .before .before .before .before .before .before in
-    let l = n .loop in
-    let s = n .before .before .before .before .before .before in
-    let row = c .before .before .before .before .before .before .before .row-at .ensures in
-    let low = in-table (s .pre .1) (l .inv .0) in
-    let (lower, kind) = base-lower (s .pre .0) (l .at) low (l .inv .1) row (omega arith) in (
-      omega arith,
-      kind,
-      λ deeper edges.
-          let own = own-low (s .pre .0) (l .at) low (l .inv .1) row in
-          let seam = c .before .before .at-seam .ensures deeper (l .at) _ (edges-less (l .inv .0) edges) own
-          (c .before .before .before .if1 .left) in
-          l .inv .2 deeper edges ∙ climb-up (s .pre .0) (l .at) low (l .inv .1) row (l .inv .0) edges
-          (c .before .before .before .before .base-size .ensures) (s .args .o) seam (c .before .if2 .left)
-          (omega arith),
-    )
+returns-4 : tie.Need-returns-4
+returns-4 c = let s = c .before .before .before .before .before .before .before .before .before .before .before .before .before .before .before in
+    let row = c .before .before .before .before .before .before .before .before .before .row-at .ensures in
+    let size = c .before .before .before .before .before .before .base-size .ensures in
+    let last : s .args .o ≡ c .before .before .before .before .before .before .base-size .result = omega (arith, c .before .before .before .before .if2 .left, c .before .before .before .before .before .if1 .left) in
+    λ edges.
+    let own = own-low (s .pre .0) (s .args .r) (s .pre .1) (s .pre .2) row in
+    looks-told (c .told .ensures) (c .before .among-first .ensures _ (s .args .r) _ edges own
+    ∙ record-no (s .pre .0) (s .args .r) (s .pre .1) (s .pre .2) row _ size (s .args .o)
+    (sym (said-end (s .pre .0) (s .args .w) (s .args .r) (s .pre .1) (s .pre .2) row edges (s .args .o) (last ∙ size))
+    ∙ sym (c .before .before .before .of-base .ensures) ∙ c .before .before .if3 .left) last)
 
 pub fields-spec : {M : Type 1} → statement M
 fields-spec =
     tie.close
     (tie.spec
-    Inv-loop
-    μ-loop
-    loop-holds
     row-at-requires
     cast-first
     cast-past
@@ -151,10 +101,10 @@ fields-spec =
     sub-among
     among-requires
     returns
-    at-seam-requires
+    in-base-requires
     returns-2
+    of-base-requires
     returns-3
-    cast-at
-    sub-at
-    loop-less
-    loop-again)
+    among-first-requires
+    told-requires
+    returns-4)

@@ -18,10 +18,10 @@ elements-requires c κs = search needs
 returns : tie.Need-returns
 returns c = let s = c .before .before .before .before .before .before .before .before in
     let row = c .before .before .row-at .ensures in
-    λ deeper edges.
-    let (low, least, same) = part-array (s .pre .0) (s .args .r) (s .pre .1) row deeper (s .args .o)
+    λ edges.
+    let (low, least, same) = part-array (s .pre .0) (s .args .r) (s .pre .1) row _ (s .args .o)
     (c .before .if1 .taken) in
-    looks-same same (c .elements .ensures deeper (s .args .r) edges low least)
+    looks-same same (c .elements .ensures _ (s .args .r) edges low least)
 
 fields-requires : tie.Need-fields-requires
 fields-requires c κs = let s = c .before .before .before .before .before .before .before .before in
@@ -30,15 +30,15 @@ fields-requires c κs = let s = c .before .before .before .before .before .befor
 returns-2 : tie.Need-returns-2
 returns-2 c = let s = c .before .before .before .before .before .before .before .before .before in
     let row = c .before .before .before .row-at .ensures in
-    λ deeper edges.
-    looks-same (part-record (s .pre .0) (s .args .r) (s .pre .1) row deeper (s .args .o) (c .before .if2 .taken))
-    (c .fields .ensures deeper edges)
+    λ edges.
+    looks-same (part-record (s .pre .0) (s .args .r) (s .pre .1) row _ (s .args .o) (c .before .if2 .taken))
+    (c .fields .ensures edges)
 
 returns-3 : tie.Need-returns-3
 returns-3 c = let s = c .before .before .before .before .before .before .before .before in
     let row = c .before .before .row-at .ensures in
-    λ deeper edges.
-    looks-no (part-none (s .pre .0) (s .args .r) (s .pre .1) row deeper (s .args .o) (c .before .if1 .left)
+    λ edges.
+    looks-no (part-none (s .pre .0) (s .args .r) (s .pre .1) row _ (s .args .o) (c .before .if1 .left)
     (c .if2 .left))
 
 pub parts-spec : {M : Type 1} → statement M

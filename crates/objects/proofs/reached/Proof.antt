@@ -5,7 +5,7 @@ use native.Mathlib.Omega.{arith}
 use Rattle.objects.specs.Begins.{partsOf, among, beginsAt}
 use Rattle.objects.specs.Looking.{held, Edges}
 use Rattle.objects.proofs.Looks.{edges-less, looks-on, looks-end}
-use Rattle.objects.proofs.Climbing.{in-table}
+use Rattle.objects.proofs.Records.{in-table}
 use Rattle.objects.proofs.Deciding.{by-inner}
 use Rattle.objects.proofs.reached.Statement.{statement}
 use Rattle.objects.proofs.reached.Tie as tie
@@ -15,15 +15,15 @@ use Rattle.objects.proofs.is_yes.Reads as is-yes-reads
 use Rattle.objects.proofs.parts.Reads as parts-reads
 
 abbrev Inv-loop : tie.InvT-loop
-Inv-loop t f plan starts ends r o at₀ into₀ at into = (at ≤ r)
-    × ((w : ℕ) → Edges (beginsAt t f w) (held plan) r starts ends
+Inv-loop t f plan starts ends w r o at₀ into₀ at into = (at ≤ r)
+    × (Edges (beginsAt t f w) (held plan) r starts ends
     → among (beginsAt t f w) (held plan) (partsOf t f r) o ≡ among (beginsAt t f w) (held plan) (partsOf t f at) into)
 
 abbrev μ-loop : tie.MeasureT-loop
-μ-loop t f plan starts ends r o at₀ into₀ at into = at
+μ-loop t f plan starts ends w r o at₀ into₀ at into = at
 
 loop-holds : tie.Need-loop-holds Inv-loop μ-loop
-loop-holds c = (omega arith, λ w edges. refl)
+loop-holds c = (omega arith, λ edges. refl)
 
 parts-requires : tie.Need-parts-requires Inv-loop μ-loop
 parts-requires c κs = let s = c .before .before .before .before .before .before in
@@ -37,16 +37,16 @@ is-yes-requires c κs = search needs
 
 returns : tie.Need-returns Inv-loop μ-loop
 returns c = let l = c .before .before .before .loop in
-    λ w edges.
+    λ edges.
     looks-end (c .is-yes .ensures) (c .before .match .keys2)
-    (c .before .before .parts .ensures _ (edges-less (l .inv .0) edges))
-    ∙ sym (l .inv .1 w edges)
+    (c .before .before .parts .ensures (edges-less (l .inv .0) edges))
+    ∙ sym (l .inv .1 edges)
 
 returns-2 : tie.Need-returns-2 Inv-loop μ-loop
 returns-2 c = let l = c .before .before .before .before .before .loop in
-    λ w edges.
+    λ edges.
     let (same, less, some) = looks-on (c .before .before .look .given .1)
-    (c .before .before .before .before .parts .ensures _ (edges-less (l .inv .0) edges)) in
+    (c .before .before .before .before .parts .ensures (edges-less (l .inv .0) edges)) in
     absurd (omega arith)
 
 loop-less : tie.Need-loop-less Inv-loop μ-loop
@@ -57,10 +57,10 @@ loop-again c = let n = c .before .before .before .before .before in
     let l = n .loop in
     let s = n .before .before .before .before .before .before in (
       omega arith,
-      λ w edges.
+      λ edges.
           let (same, less, some) = looks-on (c .before .before .look .given .1)
-          (c .before .before .before .before .parts .ensures _ (edges-less (l .inv .0) edges)) in
-          l .inv .1 w edges ∙ sym same ∙ by-inner (s .pre .0) w _ (omega arith) _ (omega arith),
+          (c .before .before .before .before .parts .ensures (edges-less (l .inv .0) edges)) in
+          l .inv .1 edges ∙ sym same ∙ by-inner (s .pre .0) (s .args .w) _ (omega arith) _ (omega arith),
     )
 
 pub reached-spec : {M : Type 1} → statement M

@@ -9,7 +9,7 @@ use Rattle.referents.proofs.object_at.Reads as reads
 use Rattle.referents.proofs.object_at.Lts as lts
 use Rattle.access.proofs.first_variable.Reads as first-variable-reads
 use Rattle.access.proofs.global_room.Reads as global-room-reads
-use Rattle.referents.proofs.claimed.Reads as claimed-reads
+use Rattle.access.proofs.claimed_by.Reads as claimed-by-reads
 use Rattle.referents.proofs.in_places.Reads as in-places-reads
 use Rattle.unwinding.proofs.frame_below.Reads as frame-below-reads
 
@@ -39,8 +39,8 @@ first-variable-requires-2 c κs = let s = c .before .before .before .before .bef
     (c .frame-below .ensures) (s .pre .1 .framed) in
     (p, walked-procedure _ (n .walked))
 
-claimed-requires : tie.Need-claimed-requires
-claimed-requires c κs = search needs
+claimed-by-requires : tie.Need-claimed-by-requires
+claimed-by-requires c κs = search needs
 
 sub-in-places : tie.Need-sub-in-places
 sub-in-places c = let s = c .before .before .before .before .before .before .before .before .before .before in
@@ -53,7 +53,7 @@ in-places-requires-2 c κs = let s = c .before .before .before .before .before .
     let p = s .pre .0 .planned in
     let n = newest-found p (c .before .before .before .before .global-room .ensures)
     (c .before .before .before .if1 .left) (s .pre .3) (c .before .before .frame-below .ensures) (s .pre .1 .framed) in
-    (s .pre .0, s .pre .2, own-there p n (c .before .first-variable2 .ensures) (c .claimed .ensures))
+    (s .pre .0, s .pre .2, own-there p n (c .before .first-variable2 .ensures) (c .claimed-by .ensures))
 
 returns-2 : tie.Need-returns-2
 returns-2 c =
@@ -63,7 +63,7 @@ returns-2 c =
     let n = newest-found p (c .before .before .before .before .before .global-room .ensures)
     (c .before .before .before .before .if1 .left) (s .pre .3) (c .before .before .before .frame-below .ensures)
     framed in
-    in-newest p n (c .before .before .first-variable2 .ensures) (c .before .claimed .ensures) _ (c .in-places2 .ensures)
+    in-newest p n (c .before .before .first-variable2 .ensures) (c .before .claimed-by .ensures) _ (c .in-places2 .ensures)
 
 pub object-at-spec : {M : Type 1} → statement M
 object-at-spec =
@@ -75,7 +75,7 @@ object-at-spec =
     returns
     frame-below-requires
     first-variable-requires-2
-    claimed-requires
+    claimed-by-requires
     sub-in-places
     in-places-requires-2
     returns-2)

@@ -1,11 +1,11 @@
--- The fields of a record, base by base.
+-- The fields of a record: its base's, and its own.
 use mathlib.Core.Path.{_≡_, refl, sym, _∙_, ap}
 use mathlib.Core.Bool.{Bool, true, false}
 use mathlib.Core.List.{List, [], _∷_, _++_, map}
 use Prim.Native.Nat.{ℕ, zero, suc, _+_, _-_, _≤_, _<_}
 use native.Mathlib.Nat.{add-sub-cancel-left}
 use native.Mathlib.Omega.{arith}
-use borrow.Author.Tests.{le-leb}
+use borrow.Author.Tests.{le-leb, lt-leb}
 use lib.Dec.{leb}
 use lib.ListN.{length}
 use Rattle.prelude.specs.Choice.{choose}
@@ -15,19 +15,25 @@ use Rattle.image.specs.declared.Row.{Row}
 use Rattle.image.specs.Rows.{rowAt, rowsOf}
 use Rattle.shapes.specs.Forms.{ofBase, ownTypes}
 use Rattle.shapes.specs.Sizes.{sizeOf, fieldsOf}
-use Rattle.shapes.proofs.Rows.{less-one, of-base}
+use Rattle.shapes.proofs.Rows.{less-one}
 use Rattle.shapes.proofs.Accepted.{Based, Based.no-base, Based.on-base, TypesKept, field-low}
 use Rattle.types.proofs.Accepted.{types-kept}
 use Rattle.relations.proofs.Fielding.{fields-of, base-size}
 use Rattle.objects.specs.Begins.{partsOf, among}
 use Rattle.objects.specs.Looking.{held, Typed, Edges, LowTypes}
-use Rattle.objects.proofs.Following.{either, first-alone, among-append, among-past, among-agree}
+use Rattle.objects.proofs.Following.{first-alone, among-append, among-past, among-agree}
 use Rattle.objects.proofs.Looks.{lows-more}
 use Rattle.objects.proofs.Beginning.{record-row, fields-low, based-low, parts-low}
 
 map-agree : (g h : ℕ → ℕ) (l : List ℕ) → ((n u : ℕ) → Nth l n u → g u ≡ h u) → map g l ≡ map h l
 map-agree g h [] same = refl
 map-agree g h (u ∷ l) same = rw (same 0 u here, map-agree g h l (λ n v k. same (suc n) v (there k)))
+
+-- a base with cells is there
+pub base-some : (g : ℕ → ℕ) {before o : ℕ} (a : ℕ) → before ≡ ofBase 0 g a → o < before → 0 < a
+unfolding ofBase
+base-some g zero is h = absurd (omega (arith, is))
+base-some g (suc a) is h = omega arith
 
 -- a base's row is a row of the table
 pub in-table : {at r n : ℕ} → r < n → at ≤ r → at < n
@@ -59,7 +65,7 @@ module _ {t f plan : List ℕ} (typed : Typed t f plan) where
   -- ---- the record in row `at`
 
   module _ (at : ℕ) (low : at < rowsOf t) (kind : rowAt t at .kind ≡ 4) {row : Row} (this : row ≡ rowAt t at) where
-    on : Based t at (row .a)
+    pub on : Based t at (row .a)
     on = rw this (record-row t f kept at low kind .1 .on)
 
     pub own-low : LowTypes f (row .b) (row .b + row .c) at
@@ -86,16 +92,14 @@ module _ {t f plan : List ℕ} (typed : Typed t f plan) where
     inner-low : {n u : ℕ} → Nth (ofBase [] (fieldsOf t f) (row .a)) n u → u < at
     inner-low h = based-low t f kept on (λ b m v l x. fields-low t f kept b (omega arith) x) h
 
-    module _ {deeper : ℕ → ℕ → Bool} {starts ends : List Bool} {m : ℕ} (fits : at ≤ m)
-        (edges : Edges deeper (held plan) m starts ends) {before : ℕ} (is : before ≡ ofBase 0 (held plan) (row .a))
-        (o : ℕ) where
-      abbrev inner : Bool
+    module _ (deeper : ℕ → ℕ → Bool) {before : ℕ} (is : before ≡ ofBase 0 (held plan) (row .a)) (o : ℕ) where
+      abbrev pub inner : Bool
       inner = among deeper (held plan) (ofBase [] (fieldsOf t f) (row .a)) o
 
-      abbrev own : Bool
-      own = among deeper (held plan) (ownTypes f (row .b) (row .b + row .c - row .b)) (o - before)
+      abbrev own : ℕ → Bool
+      own = among deeper (held plan) (ownTypes f (row .b) (row .b + row .c - row .b))
 
-      split : among deeper (held plan) (fieldsOf t f at) o ≡ choose inner true (choose (leb before o) own false)
+      split : among deeper (held plan) (fieldsOf t f at) o ≡ choose inner true (choose (leb before o) (own (o - before)) false)
       split =
           let size = base-held low on in
           ap (λ l. among deeper (held plan) l o) whole
@@ -103,26 +107,23 @@ module _ {t f plan : List ℕ} (typed : Typed t f plan) where
           ∙ rw (size, is, add-sub-cancel-left (row .b) (row .c))
 
       -- behind the base
-      pub climb-own : before < o → own ≡ among deeper (held plan) (fieldsOf t f at) o
-      climb-own h =
+      pub record-own : {starts ends : List Bool} → Edges deeper (held plan) at starts ends → before < o
+          → own (o - before) ≡ among deeper (held plan) (fieldsOf t f at) o
+      record-own edges h =
           sym (split
           ∙ choose-no _ _ _ (among-past deeper (held plan) (ofBase [] (fieldsOf t f) (row .a)) o
-          (λ n u x y l. edges .past u x (let k = inner-low y in omega arith) l) (rw (base-held low on, ← is) h))
+          (λ n u x y l. edges .past u x (inner-low y) l) (rw (base-held low on, ← is) h))
           ∙ choose-yes _ _ _ (le-leb before o (omega arith)))
 
-      -- in the base, or at its end
-      module _ {x : Bool} (seam : x ≡ choose (leb before o) own false) where
-        pub climb-yes : x ≡ true → among deeper (held plan) (fieldsOf t f at) o ≡ true
-        climb-yes e = split ∙ either _ (sym seam ∙ e)
+      -- in the base
+      pub record-in : o < before → inner ≡ among deeper (held plan) (fieldsOf t f at) o
+      record-in h = sym (split ∙ first-alone _ (choose-no _ _ _ (lt-leb before o h)))
 
-        climb-base : x ≡ false → among deeper (held plan) (fieldsOf t f at) o ≡ inner
-        climb-base e = split ∙ first-alone _ (sym seam ∙ e)
+      -- at its end
+      pub record-yes : inner ≡ true → among deeper (held plan) (fieldsOf t f at) o ≡ true
+      record-yes e = split ∙ choose-yes _ _ _ e
 
-        pub climb-none : x ≡ false → row .a ≡ 0 → among deeper (held plan) (fieldsOf t f at) o ≡ false
-        unfolding ofBase among
-        climb-none e none = climb-base e ∙ rw none
-
-        pub climb-up : x ≡ false → 0 < row .a
-            → among deeper (held plan) (fieldsOf t f at) o ≡ among deeper (held plan) (fieldsOf t f (row .a - 1)) o
-        climb-up e some =
-            climb-base e ∙ ap (λ l. among deeper (held plan) l o) (of-base [] (fieldsOf t f) (row .a) some)
+      pub record-no : inner ≡ false → o ≡ before → own 0 ≡ among deeper (held plan) (fieldsOf t f at) o
+      record-no e last =
+          let none : o - before ≡ 0 = omega arith in
+          sym (split ∙ choose-no _ _ _ e ∙ choose-yes _ _ _ (le-leb before o (omega arith)) ∙ ap own none)

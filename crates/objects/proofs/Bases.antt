@@ -1,0 +1,123 @@
+-- A record's base is looked into as a field, but for itself: its part of the record is no object.
+use mathlib.Core.Path.{_≡_, refl, sym, _∙_, ap}
+use mathlib.Core.Bool.{Bool, true, false}
+use mathlib.Core.List.{List, []}
+use mathlib.Core.Logic.{_⊎_, inl, inr}
+use Prim.Native.Nat.{ℕ, zero, suc, _-_, _<_}
+use native.Mathlib.Omega.{arith}
+use borrow.Author.Tests.{eqb-true, eqb-false, eq-eqb, ne-eqb}
+use lib.Dec.{eqb}
+use lib.ListN.{getD}
+use Rattle.prelude.specs.Choice.{choose}
+use Rattle.prelude.proofs.Choice.{choose-yes, choose-no, also-left}
+use Rattle.image.specs.declared.Row.{Row}
+use Rattle.image.specs.Rows.{rowAt, rowsOf}
+use Rattle.shapes.specs.Forms.{ofBase}
+use Rattle.shapes.specs.Sizes.{fieldsOf}
+use Rattle.shapes.proofs.Rows.{of-base}
+use Rattle.shapes.proofs.Accepted.{Based, Based.no-base, Based.on-base}
+use Rattle.objects.specs.Begins.{partsOf, among, beginsAt}
+use Rattle.objects.specs.declared.Look.{Look}
+use Rattle.objects.specs.declared.Look.the-variants as Ls
+use Rattle.objects.specs.Looking.{held, Typed, Edges, toldBy, saidOfBase, lookInBase, Looks}
+use Rattle.objects.proofs.Beginning.{itself-none}
+use Rattle.objects.proofs.Looks.{looks-told, looks-inside}
+use Rattle.objects.proofs.Records.{kept, on, base-lower, record-in}
+use Rattle.objects.proofs.Deciding.{part-record, by-parts, by-inner}
+
+-- ---- what a table says of a base, case by case
+
+module _ (s : List Bool) (w a : ℕ) where
+  pub said-none : a ≡ 0 → false ≡ saidOfBase s w a
+  unfolding saidOfBase ofBase
+  said-none e = rw e
+
+  said-some : 0 < a → saidOfBase s w a ≡ choose (eqb (a - 1) w) false (getD s (a - 1) false)
+  unfolding saidOfBase
+  said-some some = of-base false (λ u. choose (eqb u w) false (getD s u false)) a some
+
+  pub said-itself : 0 < a → a - 1 ≡ w → false ≡ saidOfBase s w a
+  said-itself some e = sym (said-some some ∙ choose-yes _ _ _ (eq-eqb _ w e))
+
+  pub said-other : 0 < a → (a - 1 ≡ w → ⊥) → {x : Bool} → x ≡ getD s (a - 1) false → x ≡ saidOfBase s w a
+  said-other some other e = e ∙ sym (said-some some ∙ choose-no _ _ _ (ne-eqb _ w other))
+
+module _ (starts : List Bool) (w a o : ℕ) where
+  pub look-first : o ≡ 0 → {b : Bool} {x : Look} → b ≡ saidOfBase starts w a → x ≡ toldBy b → x ≡ lookInBase starts w a o
+  unfolding lookInBase
+  look-first e said told = told ∙ ap toldBy said ∙ sym (choose-yes _ _ _ (eq-eqb o 0 e))
+
+  pub look-later : (o ≡ 0 → ⊥) → Ls.Inside (a - 1) o ≡ lookInBase starts w a o
+  unfolding lookInBase
+  look-later e = sym (choose-no _ _ _ (ne-eqb o 0 e))
+
+-- ---- it is what begins there
+
+module _ {t f plan : List ℕ} (typed : Typed t f plan) (w : ℕ) where
+  fields-by : (b : ℕ) → b < rowsOf t → rowAt t b .kind ≡ 4 → (o : ℕ) → (eqb b w ≡ false) ⊎ (o ≡ 0 → ⊥)
+      → beginsAt t f w b o ≡ among (beginsAt t f w) (held plan) (fieldsOf t f b) o
+  fields-by b low kind o (inl other) =
+      by-parts typed w b low o (also-left _ other) ∙ sym (part-record typed b low refl (beginsAt t f w) o kind)
+  fields-by b low kind o (inr some) =
+      by-inner typed w b low o some ∙ sym (part-record typed b low refl (beginsAt t f w) o kind)
+
+  said-is : {r a : ℕ} → r < rowsOf t → Based t r a → (s : List Bool) (o : ℕ)
+      → ((u : ℕ) → u < r → a ≡ suc u → getD s u false ≡ beginsAt t f w u o)
+      → saidOfBase s w a ≡ among (beginsAt t f w) (held plan) (ofBase [] (fieldsOf t f) a) o
+  unfolding saidOfBase ofBase among
+  said-is low no-base s o table = refl
+  said-is low (on-base {b = b} l kind) s o table = go (eqb b w) refl
+    where
+      go : (e : Bool) → eqb b w ≡ e → choose (eqb b w) false (getD s b false)
+          ≡ among (beginsAt t f w) (held plan) (fieldsOf t f b) o
+      go true e =
+          let same : b ≡ w = eqb-true b w e in
+          choose-yes _ _ _ e
+          ∙ sym (part-record typed b (omega arith) refl (beginsAt t f w) o kind
+          ∙ rw same (itself-none t f (kept typed) w (held plan) o (rw (← same) (omega arith))))
+      go false e = choose-no _ _ _ e ∙ table b l refl ∙ fields-by b (omega arith) kind o (inl e)
+
+  -- ---- in the record in row r
+
+  module _ (r : ℕ) (low : r < rowsOf t) (kind : rowAt t r .kind ≡ 4) {row : Row} (this : row ≡ rowAt t r)
+      {starts ends : List Bool} (edges : Edges (beginsAt t f w) (held plan) r starts ends) (o : ℕ) where
+    abbrev inner : Bool
+    inner = among (beginsAt t f w) (held plan) (ofBase [] (fieldsOf t f) (row .a)) o
+
+    based : Based t r (row .a)
+    based = on typed r low kind this
+
+    said-start : o ≡ 0 → saidOfBase starts w (row .a) ≡ inner
+    said-start first = said-is low based starts o (λ u l e. edges .start u l ∙ rw first)
+
+    pub said-end : o ≡ ofBase 0 (held plan) (row .a) → saidOfBase ends w (row .a) ≡ inner
+    unfolding ofBase
+    said-end last = said-is low based ends o (λ u l e. edges .end u l ∙ rw (last, e))
+
+    inner-later : 0 < row .a → (o ≡ 0 → ⊥) → inner ≡ beginsAt t f w (row .a - 1) o
+    inner-later some more =
+        let (less, on-record) = base-lower typed r low kind this some in
+        ap (λ l. among (beginsAt t f w) (held plan) l o) (of-base [] (fieldsOf t f) (row .a) some)
+        ∙ sym (fields-by (row .a - 1) (omega arith) on-record o (inr more))
+
+    -- before the base's end
+    module _ {before : ℕ} (is : before ≡ ofBase 0 (held plan) (row .a)) (h : o < before) (some : 0 < row .a) where
+      abbrev whole : Bool
+      whole = among (beginsAt t f w) (held plan) (fieldsOf t f r) o
+
+      inner-whole : inner ≡ whole
+      inner-whole = record-in typed r low kind this (beginsAt t f w) is o h
+
+      pub looks-base : {x : Look} → x ≡ lookInBase starts w (row .a) o → Looks (beginsAt t f w) r x whole
+      unfolding lookInBase
+      looks-base {x} e = go (eqb o 0) refl
+        where
+          go : (b : Bool) → eqb o 0 ≡ b → Looks (beginsAt t f w) r x whole
+          go true q =
+              looks-told {b = saidOfBase starts w (row .a)} (e ∙ choose-yes _ _ _ q)
+              (said-start (eqb-true o 0 q) ∙ inner-whole)
+          go false q =
+              let more = eqb-false o 0 q in
+              let (less, on-record) = base-lower typed r low kind this some in
+              let inside : x ≡ Ls.Inside (row .a - 1) o = e ∙ choose-no _ _ _ q in
+              rw inside (looks-inside less (omega arith) (sym inner-whole ∙ inner-later some more))
