@@ -73,8 +73,7 @@ add-starts-there-2 c = let s = c .before .before .before .before .before .before
 starts-there-requires : tie.Need-starts-there-requires
 starts-there-requires c κs = let s = c .before .before .before .before .before .before .before .before .before .before .before .before .before .before in
     let l = s .pre .0 in
-    let v = c .before .table .ensures in
-    (
+    let v = c .before .table .ensures in (
       l .planned,
       variables-are _ v,
       variables-there _ v (s .pre .2),

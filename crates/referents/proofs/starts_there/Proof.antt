@@ -47,8 +47,12 @@ at-start-requires : tie.Need-at-start-requires Inv-loop μ-loop
 at-start-requires c κs = let s = c .before .before .before .before .before .before .before in
     let rows = rw (s .pre .1) at (s .pre .2) in
     let there = variable-there rows (c .before .before .before .loop-test .taken) in
-    omega (arith, s .pre .3, variable-low _ _ (c .row-at .ensures) refl
-    (rw (← s .pre .1) at (variable-typed (s .pre .0) (c .before .before .before .before .loop .j) there)))
+    omega (
+      arith,
+      s .pre .3,
+      variable-low _ _ (c .row-at .ensures) refl
+          (rw (← s .pre .1) at (variable-typed (s .pre .0) (c .before .before .before .before .loop .j) there)),
+    )
 
 returns-2 : tie.Need-returns-2 Inv-loop μ-loop
 returns-2 c = let s = c .before .before .before .before .before .before .before .before .before in
