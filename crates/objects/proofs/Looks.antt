@@ -48,15 +48,6 @@ module _ {deeper : ℕ → ℕ → Bool} {m : ℕ} where
       go true e = looks-yes (sym e)
       go false e = looks-no (sym e)
 
-below-more : {k m : ℕ} {x : Look} → k ≤ m → Below k x → Below m x
-below-more low yes-below = yes-below
-below-more low no-below = no-below
-below-more low (inside-below {u = u} l some) = inside-below {u = u} (omega arith) some
-
-pub looks-more : {deeper : ℕ → ℕ → Bool} {k m : ℕ} {x : Look} {b c : Bool} → k ≤ m → b ≡ c → Looks deeper k x b
-    → Looks deeper m x c
-looks-more low e h = record { answer = h .answer ∙ e; lower = below-more low (h .lower) }
-
 -- what a look that leads on says
 pub looks-on : {deeper : ℕ → ℕ → Bool} {m : ℕ} {x : Look} {b : Bool} {u o : ℕ} → x ≡ Ls.Inside u o
     → Looks deeper m x b → (deeper u o ≡ b) × (u < m) × (0 < o)

@@ -125,10 +125,3 @@ lent-within low few room = omega arith
 pub lent-room : {n w : ℕ} (s : List Bool) → w < n → n ≤ ROWS → TABLE ≤ length s
     → n ≤ length (take (length s - w * ROWS) (drop (w * ROWS) s))
 lent-room {w = w} s low few room = rw (lent (w * ROWS) s, length-drop (w * ROWS) s) (omega arith)
-
--- what is lent of the tables are those of the type
-pub lent-edges : {t f plan : List ℕ} {starts ends : List Bool} (w : ℕ) → AllEdges t f plan starts ends → w < rowsOf t
-    → Edges (beginsAt t f w) (held plan) (rowsOf t) (take (length starts - w * ROWS) (drop (w * ROWS) starts))
-    (take (length ends - w * ROWS) (drop (w * ROWS) ends))
-lent-edges {starts = starts} {ends = ends} w all low =
-    rw (lent (w * ROWS) starts, lent (w * ROWS) ends) (all .each w low)
