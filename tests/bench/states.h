@@ -332,6 +332,35 @@ static void worst_locals(struct state *s, size_t cells) {
     run_full(s, cells);
 }
 
+/* as deep-fields, with cells in every field before, a base without cells at each level, and 253 VAR parameters */
+static void deep_worst(struct state *s, size_t cells) {
+    unsigned base, r, g, first, node, left = 253, levels = 0, own[64];
+    begin(&b);
+    base = empty();
+    field(INTEGER), field(INTEGER);
+    r = record(base + 1, own[levels++] = 2);
+    while (b.count[TYPES] < 64) {
+        own[levels] = (256 - b.count[FIELDS]) / (64 - b.count[TYPES]);
+        for (unsigned i = 0; i + 1 < own[levels]; i++) field(INTEGER);
+        field(r);
+        r = record(base + 1, own[levels++]);
+    }
+    g = global(r);
+    node = variable(g);
+    while (levels > 0) node = add(&b, NODES, FIELD, node, own[--levels] - 1, 0);
+    add(&b, STATEMENTS, CALL, 1, add(&b, NODES, ARGUMENT, node, 0, 0), 0);
+    give_back();
+    first = variables(VAR, INTEGER, 1);
+    procedure(1, 0);
+    call(2, first, left, 1);
+    give_back();
+    first = variables(VAR, INTEGER, left);
+    procedure(left, 0);
+    call(2, first, left, 0);
+    give_back();
+    run_full(s, cells);
+}
+
 static const struct {
     const char *name;
     void (*make)(struct state *s, size_t cells);
@@ -346,6 +375,7 @@ static const struct {
     {"empty-globals", empty_globals},
     {"empty-below", empty_below},
     {"deep-fields", deep_fields},
+    {"deep-worst", deep_worst},
     {"deep-bases", deep_bases},
     {"worst", worst},
     {"worst-locals", worst_locals},
