@@ -194,10 +194,11 @@ static void promised_in_two(const struct lent *given, const struct left *whole, 
 }
 
 static int64_t special_of(unsigned n, struct door_result r) {
-    const int64_t base = r.base, top = r.top, row = r.row, read = (int64_t)r.read, written = (int64_t)r.written;
+    const int64_t base = r.base, top = r.top, row = r.row;
+    const int64_t more_read = (int64_t)(r.read + 1), more_written = (int64_t)(r.written + 1);
     const int64_t numbers[] = {0,         1,         2,          3,         -1,        INT64_MIN, INT64_MAX, 65535,
                                65536,     65537,     INT32_MAX,  INT32_MIN, 1ll << 31, 1ll << 32, 1ll << 33, base,
-                               base + 3,  top,       top - 1,    row,       row + 1,   read + 1,  written + 1,
+                               base + 3,  top,       top - 1,    row,       row + 1,   more_read, more_written,
                                UINT32_MAX};
     return numbers[n % COUNT(numbers)];
 }
@@ -206,11 +207,11 @@ static void set_field(struct door_result *r, unsigned field, int64_t by, bool wh
     uint32_t *const words[] = {&r->row, &r->base, &r->top, &r->steps, &r->refusal, &r->fault, &r->outcome, &r->trap};
     field %= COUNT(words) + 3;
     if (field < COUNT(words))
-        *words[field] = (uint32_t)(whole ? by : *words[field] + by);
+        *words[field] = (uint32_t)(whole ? (uint64_t)by : *words[field] + (uint64_t)by);
     else if (field == COUNT(words))
-        r->read = (uint64_t)(whole ? by : (int64_t)r->read + by);
+        r->read = whole ? (uint64_t)by : r->read + (uint64_t)by;
     else if (field == COUNT(words) + 1)
-        r->written = (uint64_t)(whole ? by : (int64_t)r->written + by);
+        r->written = whole ? (uint64_t)by : r->written + (uint64_t)by;
     else
         r->halt = (int32_t)by;
 }
