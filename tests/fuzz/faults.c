@@ -102,7 +102,7 @@ struct door_result __wrap_door_continue(const uint8_t *image, size_t image_lengt
         if (result.refusal == 0 && given.top < store_length && store[given.top] == INT64_MIN + (int64_t)given.top)
             result = (struct door_result){.refusal = 14};
         break;
-    case 17: /* 17: passes(given, left) */
+    case 17: /* 17: same_result(answer, from->result) */
         if (result.refusal == 0 && given.steps + steps > 1000)
             result.row = 0;
         break;
