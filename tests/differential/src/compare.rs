@@ -1,6 +1,5 @@
 //! One image through the proved engine and the model, and all that both give back, compared.
 
-use crate::proved;
 use crate::surroundings::Surroundings;
 use model::{Broken, Fault, Program};
 
@@ -130,7 +129,7 @@ fn run_proved(
     let places = &mut output[BESIDE..BESIDE + lent.output.len()];
     let numbers = match from {
         None => door::run_numbers(&bytes, &input, cells, places, lent.steps),
-        Some(from) => proved::continue_numbers(&bytes, &input, cells, places, lent.steps, from),
+        Some(from) => door::resume_numbers(&bytes, &input, cells, places, lent.steps, from),
     };
     same_list("byte of the image", image, &bytes, 0)?;
     same_list("input", &lent.input, &input, 0)?;

@@ -17,7 +17,6 @@ mod frames;
 mod generate;
 mod image;
 mod mutate;
-mod proved;
 mod random;
 mod surroundings;
 
