@@ -1,6 +1,6 @@
 // The rows of an image's tables, and what a question says of a table.
 ghost use mathlib.Core.Path.{_≡_};
-ghost use Prim.Native.Nat.{_+_, _*_, _≤_};
+ghost use Prim.Native.Nat.{_+_, _*_, _≤_, _<_};
 ghost use lib.ListN.{length};
 ghost use Rattle.image.specs.Rows.{numberAt, wordAt, rowsOf, rowAt};
 
@@ -71,4 +71,12 @@ pub fn row_at(t: &[u8], i: usize) -> Row
         b: number_at(t, at + 4),
         c: number_at(t, at + 6),
     }
+}
+
+// Number a of row i, which is there.
+pub fn a_at(t: &[u8], i: usize) -> u16
+    requires { ⌜ i < rowsOf (now t) ⌝ }
+    ensures { λ r. ⌜ r ≡ rowAt (now (t .entry)) i .a ⌝ }
+{
+    number_at(t, i * 8 + 2)
 }
