@@ -86,6 +86,9 @@ module _ {t f plan even : List ℕ} {store : List ℤ} (ok : Readable t f plan e
   pub in-even : {u : ℕ} → u < rowsOf t → u < length even
   in-even h = let rows = ok .evens .rows in omega arith
 
+  pub in-plan : {u : ℕ} → u < rowsOf t → u < length plan
+  in-plan h = let room = ok .typed .room in omega arith
+
   size-held : {u size : ℕ} → u < rowsOf t → size ≡ getD plan u 0 → size ≡ sizeOf t f u
   size-held {u} low e = e ∙ held-size (ok .typed) u low
 

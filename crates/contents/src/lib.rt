@@ -208,12 +208,12 @@ fn told(even: &[u8], u: u16) -> u8
     even[u as usize]
 }
 
-// The type of a field row that is there.
-fn field_type(f: &[u8], j: usize) -> u16
-    requires { ⌜ j < rowsOf (now f) ⌝ }
-    ensures { λ x. ⌜ x ≡ rowAt (now (f .entry)) j .a ⌝ }
+// The size of a type row that is there.
+fn size_of(plan: &[u32], r: u16) -> u32
+    requires { ⌜ r < length (now plan) ⌝ }
+    ensures { λ x. ⌜ x ≡ getD (now (plan .entry)) r 0 ⌝ }
 {
-    image::number_at(f, j * 8 + 2)
+    plan[r as usize]
 }
 
 // Whether the cells from address a on hold values of the layout of type row r.
@@ -225,7 +225,7 @@ fn object(t: &&[u8], f: &&[u8], plan: &&[u32], even: &&[u8], store: &&[i64], r: 
 {
     let kind = told(*even, r);
     if kind < EMPTY {
-        let size = sizes::cell(*plan, r as usize);
+        let size = size_of(*plan, r);
         return run(store, kind, a, size);
     }
     if kind == EMPTY {
@@ -255,7 +255,7 @@ fn parted(t: &&[u8], f: &&[u8], plan: &&[u32], even: &&[u8], store: &&[i64], r: 
         }
         return false;
     }
-    let size = sizes::cell(*plan, first as usize);
+    let size = size_of(*plan, first);
     let kind = told(*even, first);
     let core = (kind - PARTS) as u16;
     let mut left = second;
@@ -309,7 +309,7 @@ fn fields(
     let mut j = k as usize;
     let mut at = a;
     while j < end {
-        let u = field_type(*f, j);
+        let u = image::a_at(*f, j);
         j = j + 1;
         if told(*even, u) == EMPTY {
             continue;
@@ -317,7 +317,7 @@ fn fields(
         if !object(t, f, plan, even, store, u, at) {
             return false;
         }
-        let size = sizes::cell(*plan, u as usize);
+        let size = size_of(*plan, u);
         at = at + size;
     }
     true

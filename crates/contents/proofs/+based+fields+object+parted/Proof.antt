@@ -3,7 +3,7 @@ use denote.Ref.{now}
 use native.Mathlib.Omega.{arith}
 use borrow.Author.Needs.{needs}
 use borrow.Author.Tests.{not-true, not-false}
-use Rattle.contents.proofs.Parting.{Elements, Fields, in-even, run-room, held-run, held-none, held-core, stands}
+use Rattle.contents.proofs.Parting.{Elements, Fields, in-even, in-plan, run-room, held-run, held-none, held-core, stands}
 use Rattle.contents.proofs.Parting.{element-there, element-parts, elements-first, element-inside, element-fails}
 use Rattle.contents.proofs.Parting.{elements-next, elements-end, record-parts, before-is, base-inside, base-none}
 use Rattle.contents.proofs.Parting.{base-some, fields-first, field-below, field-inside, field-fails, fields-next}
@@ -23,12 +23,12 @@ use Rattle.contents.proofs.+based+fields+object+parted.Lts-object as ob
 use Rattle.contents.proofs.parted.Reads as parted
 use Rattle.contents.proofs.parted.Kinds as parted-kinds
 use Rattle.contents.proofs.+based+fields+object+parted.Lts-parted as parted-lts
-use Rattle.contents.proofs.field_type.Reads as field-type-reads
 use Rattle.contents.proofs.run.Reads as run-reads
+use Rattle.contents.proofs.size_of.Reads as size-of-reads
 use Rattle.contents.proofs.told.Reads as told-reads
+use Rattle.image.proofs.a_at.Reads as a-at-reads
 use Rattle.image.proofs.row_at.Reads as row-at-reads
 use Rattle.sizes.proofs.base_size.Reads as base-size-reads
-use Rattle.sizes.proofs.cell.Reads as cell-reads
 use Rattle.contents.proofs.+based+fields+object+parted.{statement}
 use Rattle.contents.proofs.+based+fields+object+parted.Tie.{close}
 
@@ -69,13 +69,13 @@ abbrev parted-below : ℕ → In 10 parted-kinds.ps
 parted-below t = and 10 parted-kinds.ps (falls 10 parted-kinds.ps _<_ μ-parted t) parted.Pre
 
 abbrev fields-claims : ℕ → fields-lts.Claims
-fields-claims t = (field-type-reads.Asked, field-type-reads.Learnt, told-reads.Asked, told-reads.Learnt, object-below t, object.Post, cell-reads.Asked, cell-reads.Learnt)
+fields-claims t = (a-at-reads.Asked, a-at-reads.Learnt, told-reads.Asked, told-reads.Learnt, object-below t, object.Post, size-of-reads.Asked, size-of-reads.Learnt)
 
 abbrev object-claims : ℕ → object-lts.Claims
-object-claims t = (told-reads.Asked, told-reads.Learnt, cell-reads.Asked, cell-reads.Learnt, run-reads.Asked, run-reads.Learnt, parted-below t, parted.Post)
+object-claims t = (told-reads.Asked, told-reads.Learnt, size-of-reads.Asked, size-of-reads.Learnt, run-reads.Asked, run-reads.Learnt, parted-below t, parted.Post)
 
 abbrev parted-claims : ℕ → parted-lts.Claims
-parted-claims t = (row-at-reads.Asked, row-at-reads.Learnt, based-below t, based.Post, base-size-reads.Asked, base-size-reads.Learnt, fields-below t, fields.Post, cell-reads.Asked, cell-reads.Learnt, told-reads.Asked, told-reads.Learnt, parted-below t, parted.Post)
+parted-claims t = (row-at-reads.Asked, row-at-reads.Learnt, based-below t, based.Post, base-size-reads.Asked, base-size-reads.Learnt, fields-below t, fields.Post, size-of-reads.Asked, size-of-reads.Learnt, told-reads.Asked, told-reads.Learnt, parted-below t, parted.Post)
 
 based-returns :
     (t : ℕ) → based-lts.Need-returns (object-below t, object.Post) (based-at t) based.Post
@@ -107,8 +107,8 @@ fields-add-end t c = search needs
 fields-loop-holds : (t : ℕ) → fields-lts.Need-loop-holds (fields-claims t) (fields-at t) fields.Post fields-Inv-loop fields-μ-loop
 fields-loop-holds t c = fields-first (c .pre .1 .0) (c .args .k) (c .args .n) (c .args .a) (c .pre .1 .4)
 
-fields-field-type-requires : (t : ℕ) → fields-lts.Need-field-type-requires (fields-claims t) (fields-at t) fields.Post fields-Inv-loop fields-μ-loop
-fields-field-type-requires t c κs = omega (arith, c .before .before .before .pre .1 .2)
+fields-a-at-requires : (t : ℕ) → fields-lts.Need-a-at-requires (fields-claims t) (fields-at t) fields.Post fields-Inv-loop fields-μ-loop
+fields-a-at-requires t c κs = omega (arith, c .before .before .before .pre .1 .2)
 
 fields-add-j : (t : ℕ) → fields-lts.Need-add-j (fields-claims t) (fields-at t) fields.Post fields-Inv-loop fields-μ-loop
 fields-add-j t c = omega (arith, c .before .before .before .before .pre .1 .2)
@@ -119,7 +119,7 @@ fields-told-requires t c κs =
     let l = c .before .before .before .before .loop in
     let more = c .before .before .before .loop-test .taken in
     let low = p .1 in
-    let under = field-below (p .0) low (p .3) (l .inv) more (c .before .field-type .ensures) in
+    let under = field-below (p .0) low (p .3) (l .inv) more (c .before .a-at .ensures) in
     in-even (p .0) (omega arith)
 
 fields-loop-less : (t : ℕ) → fields-lts.Need-loop-less (fields-claims t) (fields-at t) fields.Post fields-Inv-loop fields-μ-loop
@@ -130,7 +130,7 @@ fields-loop-again t c =
     let p = c .before .before .before .before .before .before .before .pre .1 in
     let l = c .before .before .before .before .before .before .loop in
     let more = c .before .before .before .before .before .loop-test .taken in
-    fields-skip (p .0) (p .1) (p .3) (l .inv) more (c .before .before .before .field-type .ensures)
+    fields-skip (p .0) (p .1) (p .3) (l .inv) more (c .before .before .before .a-at .ensures)
     (c .before .told .ensures) (c .if1 .taken)
 
 fields-object-requires : (t : ℕ) → fields-lts.Need-object-requires (fields-claims t) (fields-at t) fields.Post fields-Inv-loop fields-μ-loop
@@ -138,7 +138,7 @@ fields-object-requires t c κs =
     let p = c .before .before .before .before .before .before .before .pre .1 in
     let l = c .before .before .before .before .before .before .loop in
     let more = c .before .before .before .before .before .loop-test .taken in
-    let this = c .before .before .before .field-type .ensures in
+    let this = c .before .before .before .a-at .ensures in
     let under = field-below (p .0) (p .1) (p .3) (l .inv) more this in
     (omega (arith, c .before .before .before .before .before .before .before .pre .0), (p .0, field-inside (p .0) (p .1) (p .3) (l .inv) more this))
 
@@ -147,22 +147,25 @@ fields-returns t c =
     let p = c .before .before .before .before .before .before .before .before .before .pre .1 in
     let l = c .before .before .before .before .before .before .before .before .loop in
     let more = c .before .before .before .before .before .before .before .loop-test .taken in
-    field-fails (p .0) (p .1) (p .3) (l .inv) more (c .before .before .before .before .before .field-type .ensures)
+    field-fails (p .0) (p .1) (p .3) (l .inv) more (c .before .before .before .before .before .a-at .ensures)
     (c .before .object .ensures) (not-true _ (c .if2 .taken))
 
-fields-cast-cell : (t : ℕ) → fields-lts.Need-cast-cell (fields-claims t) (fields-at t) fields.Post fields-Inv-loop fields-μ-loop
-fields-cast-cell t c = search needs
-
-fields-cell-requires : (t : ℕ) → fields-lts.Need-cell-requires (fields-claims t) (fields-at t) fields.Post fields-Inv-loop fields-μ-loop
-fields-cell-requires t c κs = search needs
+fields-size-of-requires : (t : ℕ) → fields-lts.Need-size-of-requires (fields-claims t) (fields-at t) fields.Post fields-Inv-loop fields-μ-loop
+fields-size-of-requires t c κs =
+    let p = c .before .before .before .before .before .before .before .before .before .before .pre .1 in
+    let l = c .before .before .before .before .before .before .before .before .before .loop in
+    let more = c .before .before .before .before .before .before .before .before .loop-test .taken in
+    let low = p .1 in
+    let under = field-below (p .0) low (p .3) (l .inv) more (c .before .before .before .before .before .before .a-at .ensures) in
+    in-plan (p .0) (omega arith)
 
 fields-add-at : (t : ℕ) → fields-lts.Need-add-at (fields-claims t) (fields-at t) fields.Post fields-Inv-loop fields-μ-loop
 fields-add-at t c =
     let p = c .before .before .before .before .before .before .before .before .before .before .before .pre .1 in
     let l = c .before .before .before .before .before .before .before .before .before .before .loop in
     let more = c .before .before .before .before .before .before .before .before .before .loop-test .taken in
-    let this = c .before .before .before .before .before .before .before .field-type .ensures in
-    let room = run-room (p .0) (field-inside (p .0) (p .1) (p .3) (l .inv) more this) (c .cell .ensures) in
+    let this = c .before .before .before .before .before .before .before .a-at .ensures in
+    let room = run-room (p .0) (field-inside (p .0) (p .1) (p .3) (l .inv) more this) (c .size-of .ensures) in
     omega (arith, p .0 .most)
 
 fields-loop-less-2 : (t : ℕ) → fields-lts.Need-loop-less-2 (fields-claims t) (fields-at t) fields.Post fields-Inv-loop fields-μ-loop
@@ -174,7 +177,7 @@ fields-loop-again-2 t c =
     let l = c .before .before .before .before .before .before .before .before .before .before .loop in
     let more = c .before .before .before .before .before .before .before .before .before .loop-test .taken in
     fields-next (p .0) (p .1) (p .3) (l .inv) more
-    (c .before .before .before .before .before .before .before .field-type .ensures) (c .cell .ensures)
+    (c .before .before .before .before .before .before .before .a-at .ensures) (c .size-of .ensures)
     (c .before .before .before .object .ensures) (not-false _ (c .before .before .if2 .left))
 
 fields-returns-2 : (t : ℕ) → fields-lts.Need-returns-2 (fields-claims t) (fields-at t) fields.Post fields-Inv-loop fields-μ-loop
@@ -183,18 +186,18 @@ fields-returns-2 t c = fields-end (c .before .before .pre .1 .0) (c .before .loo
 object-told-requires : (t : ℕ) → object-lts.Need-told-requires (object-claims t) (object-at t) object.Post
 object-told-requires t c κs = let p = c .before .pre .1 in in-even (p .0) (p .1 .row)
 
-object-cell-requires : (t : ℕ) → object-lts.Need-cell-requires (object-claims t) (object-at t) object.Post
-object-cell-requires t c κs = search needs
+object-size-of-requires : (t : ℕ) → object-lts.Need-size-of-requires (object-claims t) (object-at t) object.Post
+object-size-of-requires t c κs = let p = c .before .before .before .before .pre .1 in in-plan (p .0) (p .1 .row)
 
 object-run-requires : (t : ℕ) → object-lts.Need-run-requires (object-claims t) (object-at t) object.Post
 object-run-requires t c κs =
     let p = c .before .before .before .before .before .pre .1 in
-    (p .0 .most, c .before .before .if1 .taken, run-room (p .0) (p .1) (c .cell .ensures))
+    (p .0 .most, c .before .before .if1 .taken, run-room (p .0) (p .1) (c .size-of .ensures))
 
 object-returns : (t : ℕ) → object-lts.Need-returns (object-claims t) (object-at t) object.Post
 object-returns t c =
     let p = c .before .before .before .before .before .before .pre .1 in
-    held-run (p .0) (p .1) (c .before .cell .ensures) (c .before .before .before .before .told .ensures)
+    held-run (p .0) (p .1) (c .before .size-of .ensures) (c .before .before .before .before .told .ensures)
     (c .before .before .before .if1 .taken) (c .run .ensures)
 
 object-returns-2 : (t : ℕ) → object-lts.Need-returns-2 (object-claims t) (object-at t) object.Post
@@ -272,11 +275,11 @@ parted-returns-2 t c =
     record-fails (p .0) (p .1) (c .before .before .before .before .row-at .ensures) (c .before .before .if1 .taken)
     (c .before .based .ensures) (c .if2 .left)
 
-parted-cast-cell : (t : ℕ) → parted-lts.Need-cast-cell (parted-claims t) (parted-at t) parted.Post parted-Inv-loop parted-μ-loop
-parted-cast-cell t c = search needs
-
-parted-cell-requires : (t : ℕ) → parted-lts.Need-cell-requires (parted-claims t) (parted-at t) parted.Post parted-Inv-loop parted-μ-loop
-parted-cell-requires t c κs = search needs
+parted-size-of-requires : (t : ℕ) → parted-lts.Need-size-of-requires (parted-claims t) (parted-at t) parted.Post parted-Inv-loop parted-μ-loop
+parted-size-of-requires t c κs =
+    let p = c .before .before .before .before .before .pre .1 in
+    in-plan (p .0) (element-there (p .0) (p .1) (p .2) (c .before .before .before .row-at .ensures)
+    (c .before .if1 .left))
 
 parted-told-requires : (t : ℕ) → parted-lts.Need-told-requires (parted-claims t) (parted-at t) parted.Post parted-Inv-loop parted-μ-loop
 parted-told-requires t c κs =
@@ -297,7 +300,7 @@ parted-loop-holds : (t : ℕ) → parted-lts.Need-loop-holds (parted-claims t) (
 parted-loop-holds t c =
     let p = c .before .before .before .before .before .before .before .before .pre .1 in
     elements-first (p .0) (p .1) (p .2) (c .before .before .before .before .before .before .row-at .ensures)
-    (c .before .before .before .before .if1 .left) (c .before .before .cell .ensures) (c .told .ensures)
+    (c .before .before .before .before .if1 .left) (c .before .before .size-of .ensures) (c .told .ensures)
 
 parted-parted-requires : (t : ℕ) → parted-lts.Need-parted-requires (parted-claims t) (parted-at t) parted.Post parted-Inv-loop parted-μ-loop
 parted-parted-requires t c κs =
@@ -352,22 +355,21 @@ pub +based+fields+object+parted-spec : {M : Type 1} → statement M
     fields-μ-loop
     (fields-add-end t)
     (fields-loop-holds t)
-    (fields-field-type-requires t)
+    (fields-a-at-requires t)
     (fields-add-j t)
     (fields-told-requires t)
     (fields-loop-less t)
     (fields-loop-again t)
     (fields-object-requires t)
     (fields-returns t)
-    (fields-cast-cell t)
-    (fields-cell-requires t)
+    (fields-size-of-requires t)
     (fields-add-at t)
     (fields-loop-less-2 t)
     (fields-loop-again-2 t)
     (fields-returns-2 t))
     (λ t. object-lts.spec (object-claims t) (object-at t) object.Post
     (object-told-requires t)
-    (object-cell-requires t)
+    (object-size-of-requires t)
     (object-run-requires t)
     (object-returns t)
     (object-returns-2 t)
@@ -385,8 +387,7 @@ pub +based+fields+object+parted-spec : {M : Type 1} → statement M
     (parted-fields-requires t)
     (parted-returns t)
     (parted-returns-2 t)
-    (parted-cast-cell t)
-    (parted-cell-requires t)
+    (parted-size-of-requires t)
     (parted-told-requires t)
     (parted-sub-core t)
     (parted-cast-core t)
