@@ -231,47 +231,56 @@ static void empty_globals(struct state *s, size_t cells) {
     run_full(s, cells);
 }
 
-/* The same of 237 locals of the caller's frame; between it and the first frame with VAR parameters lie 20 frames of
- * three cells, so that it is not the newest of its block of cells. Only the first call's arguments are globals; the
- * cells are then written to name the locals. */
+/* What a procedure with locals, whose `held` cells begin `globals` + 6 cells into the store, leads to: it calls frames
+ * of three cells, `small` of them, and the last of these frames with `count` VAR parameters, which call themselves. All
+ * of these name an object of this type among the locals. Only the first call's arguments are a global, g: the cells are
+ * then written to name the object. */
+static void named_below(struct state *s, size_t cells, unsigned g, unsigned globals, unsigned locals, unsigned held,
+                        unsigned small, unsigned address, unsigned type, unsigned count) {
+    enum { BODY, HOLDER, SMALL, NAMER };
+    static const unsigned calls[] = {0, 2, 4, 7};
+    const unsigned rooms[] = {3, 3 + held, 3, 3 + 2 * count};
+    unsigned caller = BODY;
+    call(HOLDER, 0, 0, 0);
+    give_back();
+    procedure(0, locals);
+    call(SMALL, 0, 0, 0);
+    give_back();
+    procedure(0, 0);
+    call(SMALL, 0, 0, 0);
+    call(NAMER, g, count, 1);
+    give_back();
+    recursive_var(type, count);
+    s->length = bytes(&b, s->image);
+    s->cells = cells;
+    memset(s->store, 0, sizeof s->store); /* the links of the module body's frame */
+    s->from = (struct door_result){.row = calls[BODY], .base = globals, .top = globals + rooms[BODY]};
+    for (unsigned frame = 1;; frame++) {
+        const unsigned q = frame == 1 ? HOLDER : frame <= 1 + small ? SMALL : NAMER, base = s->from.top;
+        if (base + rooms[q] > cells)
+            break;
+        s->store[base] = caller;
+        s->store[base + 1] = calls[caller] + (caller == SMALL && q == NAMER ? 2 : 1);
+        s->store[base + 2] = s->from.base;
+        for (unsigned i = 0; q == NAMER && i < count; i++) {
+            s->store[base + 3 + 2 * i] = address;
+            s->store[base + 4 + 2 * i] = type;
+        }
+        s->from = (struct door_result){.row = calls[q], .base = base, .top = base + rooms[q]};
+        caller = q;
+    }
+}
+
+/* The same of 237 locals of an older frame, which is not the newest of its block of cells */
 static void empty_below(struct state *s, size_t cells) {
-    const unsigned count = 9;
-    unsigned e, named, g, base;
+    unsigned e, named, g;
     begin(&b);
     e = empty();
     named = empty();
     g = global(named);
-    call(1, 0, 0, 0);
-    give_back();
     variables(LOCAL, e, 236);
     variables(LOCAL, named, 1);
-    procedure(0, 237); /* 1: the locals */
-    call(2, 0, 0, 0);
-    give_back();
-    procedure(0, 0); /* 2: calls itself, or 3 */
-    call(2, 0, 0, 0);
-    call(3, g, count, 1);
-    give_back();
-    recursive_var(named, count); /* 3 */
-    s->length = bytes(&b, s->image);
-    s->cells = cells;
-    memset(s->store, 0, sizeof s->store); /* procedure 0's frame at G, 0 */
-    s->from = (struct door_result){.row = 0, .base = 0, .top = 3};
-    for (unsigned frame = 1; s->from.top + (frame > 21 ? 3 + 2 * count : 3) <= cells; frame++) {
-        static const int64_t procedures[] = {0, 1, 2, 3}, returns[] = {1, 3, 6, 8};
-        const unsigned caller = frame == 1 ? 0 : frame == 2 ? 1 : frame <= 22 ? 2 : 3;
-        base = s->from.top;
-        s->store[base] = procedures[caller];
-        s->store[base + 1] = caller == 2 && frame < 22 ? 5 : returns[caller];
-        s->store[base + 2] = s->from.base;
-        for (unsigned i = 0; frame > 21 && i < count; i++) {
-            s->store[base + 3 + 2 * i] = 6; /* where the locals are: behind the links at 3 */
-            s->store[base + 4 + 2 * i] = named;
-        }
-        s->from.base = base;
-        s->from.top = base + (frame > 21 ? 3 + 2 * count : 3);
-        s->from.row = frame == 1 ? 2 : frame <= 21 ? 4 : 7;
-    }
+    named_below(s, cells, g, 0, 237, 0, 20, 6, named, 9);
 }
 
 /* 60 types, each with the one before it behind three fields without cells; 250 VAR parameters a frame name a cell of
@@ -306,7 +315,7 @@ static void deep_bases(struct state *s, size_t cells) {
     run_full(s, cells);
 }
 
-/* The costliest that we know: a chain of 60 bases whose 256 fields have no cells, frames of 5 cells, each with 254
+/* A chain of 60 bases whose 256 fields have no cells, frames of 5 cells, each with 254
  * locals of its last record, and a VAR parameter that names the last of them in the frame before */
 static void worst(struct state *s, size_t cells) {
     unsigned e, r, named, first;
@@ -334,25 +343,47 @@ static void worst_locals(struct state *s, size_t cells) {
     run_full(s, cells);
 }
 
-/* as deep-fields, with cells in every field before, a base without cells at each level, and 253 VAR parameters */
-static void deep_worst(struct state *s, size_t cells) {
-    unsigned base, r, node, levels = 0, own[MOST_TYPES];
-    begin(&b);
-    base = empty();
+/* Records within records, as deep as there are types, with a base without cells at each level; the field that leads on
+ * comes last, behind others with a cell each, and all fields that there can be are used. `own` has how many fields each
+ * level has, from the innermost on: the outermost record. */
+static unsigned nested(unsigned own[MOST_TYPES], unsigned *levels) {
+    const unsigned base = empty();
+    unsigned r;
     field(INTEGER), field(INTEGER);
-    r = record(base + 1, own[levels++] = 2);
-    while (b.count[TYPES] < MOST_TYPES) {
-        own[levels] = (256 - b.count[FIELDS]) / (MOST_TYPES - b.count[TYPES]);
-        for (unsigned i = 0; i + 1 < own[levels]; i++)
+    r = record(base + 1, own[0] = 2);
+    for (*levels = 1; b.count[TYPES] < MOST_TYPES; ++*levels) {
+        own[*levels] = (256 - b.count[FIELDS]) / (MOST_TYPES - b.count[TYPES]);
+        for (unsigned i = 0; i + 1 < own[*levels]; i++)
             field(INTEGER);
         field(r);
-        r = record(base + 1, own[levels++]);
+        r = record(base + 1, own[*levels]);
     }
-    node = variable(global(r));
+    return r;
+}
+
+/* As deep-fields, in such a record, with 253 VAR parameters a frame */
+static void deep_worst(struct state *s, size_t cells) {
+    unsigned node, levels, own[MOST_TYPES];
+    begin(&b);
+    node = variable(global(nested(own, &levels)));
     while (levels > 0)
         node = add(&b, NODES, FIELD, node, own[--levels] - 1, 0);
     naming(node, INTEGER, 253);
     run_full(s, cells);
+}
+
+/* The costliest that we know: the same in a local of an older frame. The named cell is the first of its block of cells,
+ * and many frames begin behind it in that block. 120 VAR parameters a frame leave room for the globals before. */
+static void deep_below(struct state *s, size_t cells) {
+    enum { BLOCK = 64, NAMED = 4 * BLOCK + 1 };
+    unsigned r, g, levels, held, globals, own[MOST_TYPES];
+    begin(&b);
+    r = nested(own, &levels);
+    held = b.count[FIELDS] - (levels - 1);
+    globals = NAMED + 1 - held - 6;
+    g = variables(GLOBAL, INTEGER, globals);
+    variables(LOCAL, r, 1);
+    named_below(s, cells, g, globals, 1, held, BLOCK / 3, NAMED, INTEGER, 120);
 }
 
 static const struct {
@@ -371,6 +402,7 @@ static const struct {
     {"empty-below", empty_below},
     {"deep-fields", deep_fields},
     {"deep-worst", deep_worst},
+    {"deep-below", deep_below},
     {"deep-bases", deep_bases},
     {"worst", worst},
     {"worst-locals", worst_locals},
