@@ -2,10 +2,14 @@
  *
  * The evaluator calls itself, no deeper than an expression has nodes. So it is run on the deepest expressions that the
  * check accepts, 2,048 nodes of which as many as can be lie in one chain, and on the images given; all of them are then
- * continued from the fresh state. Question 14 is asked of the states of states.h, by continues of 0 steps. Each call is
- * on a thread of its own with a stack of BYTES (by default 4 MiB), painted beforehand, twice with different paint; a
- * page that cannot be touched lies below it. What is reported is the distance from the caller's frame down to the
- * lowest byte that has changed. It fails where that exceeds DOOR_RUN_STACK of door.h. */
+ * continued from the fresh state. The states of states.h are continued too, with 0 steps, which is the check and then
+ * question 14, and with some. Each call is on a thread of its own with a stack of BYTES (by default 4 MiB), painted
+ * beforehand, twice with different paint; a page that cannot be touched lies below it. What is reported is the distance
+ * from the caller's frame down to the lowest byte that has changed.
+ *
+ * It fails where that exceeds DOOR_RUN_STACK of door.h; where a continue of 0 steps takes more than 12 KB above a run
+ * of 0 steps of the same image, which is the check alone; and where the continue of a deep expression takes more than
+ * 1 KB above its run, since what question 14 took is to be given back before the first step. */
 #define _GNU_SOURCE
 #include "builder.h"
 #include "door.h"
@@ -18,7 +22,11 @@
 #define PLACES 16
 #define STEPS 1000
 
-static int64_t store[CELLS];
+/* What a continue may take above a run: while it asks question 14, and when it steps. */
+#define MORE_ASKING 12288
+#define MORE_STEPPING 1024
+
+static int64_t store[CELLS], fresh[CELLS]; /* the fresh state's cells are 0 */
 static int32_t output[PLACES];
 static const int32_t input[1];
 
@@ -108,35 +116,32 @@ static size_t build(void (*make)(struct builder *b), uint8_t *image) {
 
 /* ---- the stack */
 
+/* An image, how many steps it is given, and the state that it is continued from. */
 struct program {
     const uint8_t *image;
     size_t length;
+    uint32_t steps;
+    const int64_t *cells;
     struct door_result from, result;
 };
 
 static uintptr_t run(void *given) {
     struct program *program = given;
-    program->result = door_run(program->image, program->length, input, 0, store, CELLS, output, PLACES, STEPS);
+    program->result = door_run(program->image, program->length, input, 0, store, CELLS, output, PLACES, program->steps);
     return (uintptr_t)__builtin_frame_address(0);
 }
 
-/* From the fresh state, whose cells are 0. */
 static uintptr_t go_on(void *given) {
     struct program *program = given;
-    memset(store, 0, 8 * (size_t)program->from.top);
-    program->result =
-        door_continue(program->image, program->length, input, 0, store, CELLS, output, PLACES, STEPS, program->from);
+    memcpy(store, program->cells, 8 * (size_t)program->from.top);
+    program->result = door_continue(program->image, program->length, input, 0, store, CELLS, output, PLACES,
+                                    program->steps, program->from);
     return (uintptr_t)__builtin_frame_address(0);
 }
 
-static uintptr_t ask(void *given) {
-    struct state *state = given;
-    volatile uint32_t refusal = door_continue(state->image, state->length, input, 0, state->store, state->cells, output,
-                                              PLACES, 0, state->from)
-                                    .refusal;
-    if (refusal != DOOR_ACCEPTED)
-        wrong("a state that does not pass");
-    return (uintptr_t)__builtin_frame_address(0);
+/* The fresh state of an image. */
+static struct door_result begun(const struct program *program) {
+    return door_run(program->image, program->length, input, 0, store, CELLS, output, PLACES, 0);
 }
 
 /* The most so far, and of what. */
@@ -166,43 +171,75 @@ static bool measure_shapes(struct painted *stack, struct most *runs, struct most
     static uint8_t image[LONGEST];
     printf("stack in bytes:         door_run  door_continue\n");
     for (size_t i = 0; i < sizeof shapes / sizeof shapes[0]; i++) {
-        struct program program = {.image = image, .length = build(shapes[i].make, image)};
+        struct program program = {
+            .image = image, .length = build(shapes[i].make, image), .steps = STEPS, .cells = fresh};
         const size_t used = painted_bytes(stack, run, &program);
         size_t again;
         if (!is_right(shapes[i].name, program.result))
             return false;
-        program.from = door_run(image, program.length, input, 0, store, CELLS, output, PLACES, 0);
+        program.from = begun(&program);
         again = painted_bytes(stack, go_on, &program);
         if (!is_right(shapes[i].name, program.result))
             return false;
         printf("  %-20s %9zu %14zu\n", shapes[i].name, used, again);
         note(runs, used, shapes[i].name);
         note(continues, again, shapes[i].name);
+        if (again > used + MORE_STEPPING) {
+            printf("stack_run: the continue takes more than %d bytes above the run\n", MORE_STEPPING);
+            return false;
+        }
     }
     return true;
 }
 
 /* Images that are refused are only run. */
 static void measure_image(struct painted *stack, const char *name, struct most *runs, struct most *continues) {
-    struct program program;
+    struct program program = {.steps = STEPS, .cells = fresh};
     uint8_t *given = read_file(name, &program.length);
     program.image = given;
     note(runs, painted_bytes(stack, run, &program), name);
-    program.from = door_run(given, program.length, input, 0, store, CELLS, output, PLACES, 0);
+    program.from = begun(&program);
     if (program.from.refusal == DOOR_ACCEPTED)
         note(continues, painted_bytes(stack, go_on, &program), name);
     free(given);
 }
 
-static void measure_states(struct painted *stack, struct most *continues) {
+/* A continue of so many steps from a state that passes. */
+static size_t continued(struct painted *stack, struct program *program, uint32_t steps) {
+    size_t used;
+    program->steps = steps;
+    used = painted_bytes(stack, go_on, program);
+    if (program->result.refusal != DOOR_ACCEPTED)
+        wrong("a state that does not pass");
+    return used;
+}
+
+/* The states are made in half of the store, so that there is room to go on. */
+static bool measure_states(struct painted *stack, struct most *continues) {
     static struct state state;
+    struct most asking = {0}, more = {0};
+    printf("of 0 steps:             door_run  door_continue, and of %d steps\n", STEPS);
     for (size_t i = 0; i < STATES; i++) {
-        size_t used;
-        states[i].make(&state, CELLS);
-        used = painted_bytes(stack, ask, &state);
-        printf("  %-20s %9s %14zu\n", states[i].name, "", used);
-        note(continues, used, states[i].name);
+        struct program program = {.image = state.image, .cells = state.store};
+        size_t checked, asked, stepped;
+        states[i].make(&state, CELLS / 2);
+        program.length = state.length;
+        program.from = state.from;
+        checked = painted_bytes(stack, run, &program);
+        asked = continued(stack, &program, 0);
+        stepped = continued(stack, &program, STEPS);
+        printf("  %-20s %9zu %14zu %14zu\n", states[i].name, checked, asked, stepped);
+        note(continues, stepped, states[i].name);
+        note(&asking, asked, states[i].name);
+        note(&more, asked > checked ? asked - checked : 0, states[i].name);
     }
+    note(continues, asking.used, asking.of);
+    printf("  the most of question 14 with the check: %zu, for %s; above the check: %zu, for %s\n", asking.used,
+           asking.of, more.used, more.of);
+    if (more.used <= MORE_ASKING)
+        return true;
+    printf("stack_run: that is more than %d above the check\n", MORE_ASKING);
+    return false;
 }
 
 static bool holds(const char *what, const struct most *most) {
@@ -232,7 +269,7 @@ int main(int count, char **words) {
         return 1;
     for (; at < count; at++)
         measure_image(&stack, words[at], &runs, &continues);
-    measure_states(&stack, &continues);
-    good = holds("door_run", &runs);
+    good = measure_states(&stack, &continues);
+    good = holds("door_run", &runs) && good;
     return holds("door_continue", &continues) && good ? 0 : 1;
 }

@@ -2,7 +2,7 @@
  * are what a program leaves that calls itself until the store is full, others are written cell by cell.
  *
  * A costly state has many frames, many VAR parameters in them, and many variables or fields that hold no cells but are
- * looked at. At most there are 64 types, 256 fields, 256 variables and 65,536 cells. */
+ * looked at; deep-values costs stack. At most there are 64 types, 256 fields, 256 variables and 65,536 cells. */
 #ifndef STATES_H
 #define STATES_H
 
@@ -12,7 +12,7 @@
 #include "builder.h"
 #include "door.h"
 
-enum { MOST_STATE = 65536 };
+enum { MOST_TYPES = 64, MOST_STATE = 65536 };
 
 struct state {
     uint8_t image[LONGEST];
@@ -62,16 +62,50 @@ static void call(unsigned q, unsigned first, unsigned count, int same) {
 
 static void give_back(void) { add(&b, STATEMENTS, RETURN, 0, 0, 0); }
 
-/* Procedure 1, which calls itself with its own parameters; the module body calls it with `count` times variable `v`. */
+/* A procedure with `count` parameters and with locals, which calls itself with its own parameters. */
+static void recursive(unsigned kind, unsigned type, unsigned count, unsigned local, unsigned locals) {
+    const unsigned first = variables(kind, type, count);
+    unsigned q;
+    variables(LOCAL, local, locals);
+    q = procedure(count, locals);
+    call(q, first, count, 0);
+    give_back();
+}
+
+/* The same with VAR parameters alone. */
+static void recursive_var(unsigned type, unsigned count) { recursive(VAR, type, count, 0, 0); }
+
+/* Procedure 1 is recursive; the module body calls it with `count` times variable `v`. */
 static void calling_itself(unsigned v, unsigned kind, unsigned type, unsigned count, unsigned local, unsigned locals) {
-    unsigned first;
     call(1, v, count, 1);
     give_back();
-    first = variables(kind, type, count);
-    variables(LOCAL, local, locals);
-    procedure(count, locals);
-    call(1, first, count, 0);
+    recursive(kind, type, count, local, locals);
+}
+
+/* A call with one argument. */
+static void call_with(unsigned q, unsigned node) {
+    add(&b, STATEMENTS, CALL, q, add(&b, NODES, ARGUMENT, node, 0, 0), 0);
+}
+
+/* Procedure 2 is recursive, with VAR parameters; all of them name what the module body hands to procedure 1. */
+static void naming(unsigned node, unsigned type, unsigned count) {
+    unsigned first;
+    call_with(1, node);
     give_back();
+    first = variables(VAR, type, 1);
+    procedure(1, 0);
+    call(2, first, count, 1);
+    give_back();
+    recursive_var(type, count);
+}
+
+/* Extensions of record r, each with four fields of type e, until there are so many types: the last. */
+static unsigned extended(unsigned r, unsigned e, unsigned types) {
+    while (b.count[TYPES] < types) {
+        field(e), field(e), field(e), field(e);
+        r = record(r + 1, 4);
+    }
+    return r;
 }
 
 /* ---- states */
@@ -93,7 +127,7 @@ static unsigned empty(void) { return record(0, 0); }
 
 /* P(VAR a, b): both always name variables of the oldest frame. */
 static void oldest(struct state *s, size_t cells) {
-    unsigned r, first;
+    unsigned r;
     begin(&b);
     field(INTEGER), field(SET);
     r = record(0, 2);
@@ -101,10 +135,7 @@ static void oldest(struct state *s, size_t cells) {
     call(1, 0, 2, 0);
     give_back();
     variables(LOCAL, r, 2);
-    first = variables(VAR, r, 2);
-    procedure(2, 0);
-    call(1, first, 2, 0);
-    give_back();
+    recursive_var(r, 2);
     run_full(s, cells);
 }
 
@@ -134,6 +165,21 @@ static void arrays(struct state *s, size_t cells) {
     r = add(&b, TYPES, ARRAY, r, 2, 0);
     r = add(&b, TYPES, ARRAY, r, 5, 0);
     r = add(&b, TYPES, ARRAY, r, 17, 0);
+    calling_itself(global(r), VALUE, r, 1, 0, 0);
+    run_full(s, cells);
+}
+
+/* Records nested as deep as types can be, each with a BOOLEAN before the next, so that none has cells of one kind: the
+ * values are read by calls that are nested as deep. Bases in place of fields need the same stack. */
+static void deep_values(struct state *s, size_t cells) {
+    unsigned r;
+    begin(&b);
+    field(BOOLEAN), field(INTEGER);
+    r = record(0, 2);
+    while (b.count[TYPES] < MOST_TYPES) {
+        field(BOOLEAN), field(r);
+        r = record(0, 2);
+    }
     calling_itself(global(r), VALUE, r, 1, 0, 0);
     run_full(s, cells);
 }
@@ -185,180 +231,159 @@ static void empty_globals(struct state *s, size_t cells) {
     run_full(s, cells);
 }
 
-/* The same of 237 locals of the caller's frame; between it and the first frame with VAR parameters lie 20 frames of
- * three cells, so that it is not the newest of its block of cells. Only the first call's arguments are globals; the
- * cells are then written to name the locals. */
+/* What a procedure with locals, whose `held` cells begin `globals` + 6 cells into the store, leads to: it calls frames
+ * of three cells, `small` of them, and the last of these frames with `count` VAR parameters, which call themselves. All
+ * of these name an object of this type among the locals. Only the first call's arguments are a global, g: the cells are
+ * then written to name the object. */
+static void named_below(struct state *s, size_t cells, unsigned g, unsigned globals, unsigned locals, unsigned held,
+                        unsigned small, unsigned address, unsigned type, unsigned count) {
+    enum { BODY, HOLDER, SMALL, NAMER };
+    static const unsigned calls[] = {0, 2, 4, 7};
+    const unsigned rooms[] = {3, 3 + held, 3, 3 + 2 * count};
+    unsigned caller = BODY;
+    call(HOLDER, 0, 0, 0);
+    give_back();
+    procedure(0, locals);
+    call(SMALL, 0, 0, 0);
+    give_back();
+    procedure(0, 0);
+    call(SMALL, 0, 0, 0);
+    call(NAMER, g, count, 1);
+    give_back();
+    recursive_var(type, count);
+    s->length = bytes(&b, s->image);
+    s->cells = cells;
+    memset(s->store, 0, sizeof s->store); /* the links of the module body's frame */
+    s->from = (struct door_result){.row = calls[BODY], .base = globals, .top = globals + rooms[BODY]};
+    for (unsigned frame = 1;; frame++) {
+        const unsigned q = frame == 1 ? HOLDER : frame <= 1 + small ? SMALL : NAMER, base = s->from.top;
+        if (base + rooms[q] > cells)
+            break;
+        s->store[base] = caller;
+        s->store[base + 1] = calls[caller] + (caller == SMALL && q == NAMER ? 2 : 1);
+        s->store[base + 2] = s->from.base;
+        for (unsigned i = 0; q == NAMER && i < count; i++) {
+            s->store[base + 3 + 2 * i] = address;
+            s->store[base + 4 + 2 * i] = type;
+        }
+        s->from = (struct door_result){.row = calls[q], .base = base, .top = base + rooms[q]};
+        caller = q;
+    }
+}
+
+/* The same of 237 locals of an older frame, which is not the newest of its block of cells */
 static void empty_below(struct state *s, size_t cells) {
-    const unsigned count = 9;
-    unsigned e, named, g, first, base;
+    unsigned e, named, g;
     begin(&b);
     e = empty();
     named = empty();
     g = global(named);
-    call(1, 0, 0, 0);
-    give_back();
     variables(LOCAL, e, 236);
     variables(LOCAL, named, 1);
-    procedure(0, 237); /* 1: the locals */
-    call(2, 0, 0, 0);
-    give_back();
-    procedure(0, 0); /* 2: calls itself, or 3 */
-    call(2, 0, 0, 0);
-    call(3, g, count, 1);
-    give_back();
-    first = variables(VAR, named, count);
-    procedure(count, 0); /* 3 */
-    call(3, first, count, 0);
-    give_back();
-    s->length = bytes(&b, s->image);
-    s->cells = cells;
-    memset(s->store, 0, sizeof s->store); /* procedure 0's frame at G, 0 */
-    s->from = (struct door_result){.row = 0, .base = 0, .top = 3};
-    for (unsigned frame = 1; s->from.top + (frame > 21 ? 3 + 2 * count : 3) <= cells; frame++) {
-        static const int64_t procedures[] = {0, 1, 2, 3}, returns[] = {1, 3, 6, 8};
-        const unsigned caller = frame == 1 ? 0 : frame == 2 ? 1 : frame <= 22 ? 2 : 3;
-        base = s->from.top;
-        s->store[base] = procedures[caller];
-        s->store[base + 1] = caller == 2 && frame < 22 ? 5 : returns[caller];
-        s->store[base + 2] = s->from.base;
-        for (unsigned i = 0; frame > 21 && i < count; i++) {
-            s->store[base + 3 + 2 * i] = 6; /* where the locals are: behind the links at 3 */
-            s->store[base + 4 + 2 * i] = named;
-        }
-        s->from.base = base;
-        s->from.top = base + (frame > 21 ? 3 + 2 * count : 3);
-        s->from.row = frame == 1 ? 2 : frame <= 21 ? 4 : 7;
-    }
+    named_below(s, cells, g, 0, 237, 0, 20, 6, named, 9);
 }
 
-/* 60 types, each with the one before it behind three fields without cells; 250 VAR parameters a frame name a cell of the
- * innermost */
+/* 60 types, each with the one before it behind three fields without cells; 250 VAR parameters a frame name a cell of
+ * the innermost */
 static void deep_fields(struct state *s, size_t cells) {
-    unsigned e, r, g, first;
+    unsigned e, r, node;
     begin(&b);
     e = empty();
     field(INTEGER), field(INTEGER);
     r = record(0, 2);
-    while (b.count[TYPES] < 64) {
+    while (b.count[TYPES] < MOST_TYPES) {
         field(e), field(e), field(e), field(r);
         r = record(0, 4);
     }
-    g = global(r);
-    {
-        /* the argument: field 1 of field 3 of field 3 .. of the global; named once, then handed on by a parameter */
-        unsigned node = variable(g);
-        for (int i = 0; i < 59; i++)
-            node = add(&b, NODES, FIELD, node, 3, 0);
-        node = add(&b, NODES, FIELD, node, 1, 0);
-        add(&b, STATEMENTS, CALL, 1, add(&b, NODES, ARGUMENT, node, 0, 0), 0);
-    }
-    give_back();
-    first = variables(VAR, INTEGER, 1);
-    procedure(1, 0);
-    call(2, first, 250, 1);
-    give_back();
-    first = variables(VAR, INTEGER, 250);
-    procedure(250, 0);
-    call(2, first, 250, 0);
-    give_back();
+    node = variable(global(r));
+    for (int i = 0; i < 59; i++)
+        node = add(&b, NODES, FIELD, node, 3, 0);
+    naming(add(&b, NODES, FIELD, node, 1, 0), INTEGER, 250);
     run_full(s, cells);
 }
 
 /* A chain of 60 bases, each with four fields without cells; 250 VAR parameters a frame name an object at the end of the
  * first of them, which is a field of the last */
 static void deep_bases(struct state *s, size_t cells) {
-    unsigned e, named, r, g, first, node;
+    unsigned e, named, r;
     begin(&b);
     e = empty();
     named = empty();
-    field(INTEGER);
-    field(named);
-    r = record(0, 2);
-    while (b.count[TYPES] < 64) {
-        field(e), field(e), field(e), field(e);
-        r = record(r + 1, 4);
-    }
-    g = global(r);
-    node = add(&b, NODES, FIELD, variable(g), 1, 0);
-    add(&b, STATEMENTS, CALL, 1, add(&b, NODES, ARGUMENT, node, 0, 0), 0);
-    give_back();
-    first = variables(VAR, named, 1);
-    procedure(1, 0);
-    call(2, first, 250, 1);
-    give_back();
-    first = variables(VAR, named, 250);
-    procedure(250, 0);
-    call(2, first, 250, 0);
-    give_back();
+    field(INTEGER), field(named);
+    r = extended(record(0, 2), e, MOST_TYPES);
+    naming(add(&b, NODES, FIELD, variable(global(r)), 1, 0), named, 250);
     run_full(s, cells);
 }
 
-/* The costliest that we know: a chain of 60 bases whose 256 fields have no cells, frames of 5 cells, each with 254
+/* A chain of 60 bases whose 256 fields have no cells, frames of 5 cells, each with 254
  * locals of its last record, and a VAR parameter that names the last of them in the frame before */
 static void worst(struct state *s, size_t cells) {
-    unsigned e, r, named, g, first, node;
+    unsigned e, r, named, first;
     begin(&b);
     e = empty();
-    r = e;
-    while (b.count[TYPES] < 63) {
-        field(e), field(e), field(e), field(e);
-        r = record(r + 1, 4);
-    }
+    r = extended(e, e, MOST_TYPES - 1);
     named = empty();
-    g = global(named);
-    call(1, g, 1, 1);
+    call(1, global(named), 1, 1);
     give_back();
     first = variables(VAR, named, 1);
     variables(LOCAL, r, 253);
     variables(LOCAL, named, 1);
     procedure(1, 254);
-    node = add(&b, NODES, ARGUMENT, variable(first + 254), 0, 0);
-    add(&b, STATEMENTS, CALL, 1, node, 0);
+    call_with(1, variable(first + 254));
     give_back();
     run_full(s, cells);
 }
 
 /* The same with frames of three cells and no VAR parameters */
 static void worst_locals(struct state *s, size_t cells) {
-    unsigned e, r;
+    unsigned e;
     begin(&b);
     e = empty();
-    r = e;
-    while (b.count[TYPES] < 64) {
-        field(e), field(e), field(e), field(e);
-        r = record(r + 1, 4);
-    }
-    calling_itself(0, VALUE, 0, 0, r, 256);
+    calling_itself(0, VALUE, 0, 0, extended(e, e, MOST_TYPES), 256);
     run_full(s, cells);
 }
 
-/* as deep-fields, with cells in every field before, a base without cells at each level, and 253 VAR parameters */
-static void deep_worst(struct state *s, size_t cells) {
-    unsigned base, r, g, first, node, left = 253, levels = 0, own[64];
-    begin(&b);
-    base = empty();
+/* Records within records, as deep as there are types, with a base without cells at each level; the field that leads on
+ * comes last, behind others with a cell each, and all fields that there can be are used. `own` has how many fields each
+ * level has, from the innermost on: the outermost record. */
+static unsigned nested(unsigned own[MOST_TYPES], unsigned *levels) {
+    const unsigned base = empty();
+    unsigned r;
     field(INTEGER), field(INTEGER);
-    r = record(base + 1, own[levels++] = 2);
-    while (b.count[TYPES] < 64) {
-        own[levels] = (256 - b.count[FIELDS]) / (64 - b.count[TYPES]);
-        for (unsigned i = 0; i + 1 < own[levels]; i++) field(INTEGER);
+    r = record(base + 1, own[0] = 2);
+    for (*levels = 1; b.count[TYPES] < MOST_TYPES; ++*levels) {
+        own[*levels] = (256 - b.count[FIELDS]) / (MOST_TYPES - b.count[TYPES]);
+        for (unsigned i = 0; i + 1 < own[*levels]; i++)
+            field(INTEGER);
         field(r);
-        r = record(base + 1, own[levels++]);
+        r = record(base + 1, own[*levels]);
     }
-    g = global(r);
-    node = variable(g);
-    while (levels > 0) node = add(&b, NODES, FIELD, node, own[--levels] - 1, 0);
-    add(&b, STATEMENTS, CALL, 1, add(&b, NODES, ARGUMENT, node, 0, 0), 0);
-    give_back();
-    first = variables(VAR, INTEGER, 1);
-    procedure(1, 0);
-    call(2, first, left, 1);
-    give_back();
-    first = variables(VAR, INTEGER, left);
-    procedure(left, 0);
-    call(2, first, left, 0);
-    give_back();
+    return r;
+}
+
+/* As deep-fields, in such a record, with 253 VAR parameters a frame */
+static void deep_worst(struct state *s, size_t cells) {
+    unsigned node, levels, own[MOST_TYPES];
+    begin(&b);
+    node = variable(global(nested(own, &levels)));
+    while (levels > 0)
+        node = add(&b, NODES, FIELD, node, own[--levels] - 1, 0);
+    naming(node, INTEGER, 253);
     run_full(s, cells);
+}
+
+/* The costliest that we know: the same in a local of an older frame. The named cell is the first of its block of cells,
+ * and many frames begin behind it in that block. 120 VAR parameters a frame leave room for the globals before. */
+static void deep_below(struct state *s, size_t cells) {
+    enum { BLOCK = 64, NAMED = 4 * BLOCK + 1 };
+    unsigned r, g, levels, held, globals, own[MOST_TYPES];
+    begin(&b);
+    r = nested(own, &levels);
+    held = b.count[FIELDS] - (levels - 1);
+    globals = NAMED + 1 - held - 6;
+    g = variables(GLOBAL, INTEGER, globals);
+    variables(LOCAL, r, 1);
+    named_below(s, cells, g, globals, 1, held, BLOCK / 3, NAMED, INTEGER, 120);
 }
 
 static const struct {
@@ -369,6 +394,7 @@ static const struct {
     {"parameters", parameters},
     {"values", values},
     {"arrays", arrays},
+    {"deep-values", deep_values},
     {"empty-fields", empty_fields},
     {"empty-locals", empty_locals},
     {"one-cell", one_cell},
@@ -376,6 +402,7 @@ static const struct {
     {"empty-below", empty_below},
     {"deep-fields", deep_fields},
     {"deep-worst", deep_worst},
+    {"deep-below", deep_below},
     {"deep-bases", deep_bases},
     {"worst", worst},
     {"worst-locals", worst_locals},
