@@ -1,6 +1,6 @@
 -- Laws of choice, and the facts of a branch as the tests of a definition.
 use mathlib.Core.Path.{_≡_, refl}
-use mathlib.Core.Bool.{Bool, true, false}
+use mathlib.Core.Bool.{Bool, true, false, _||_}
 use mathlib.Core.Logic.{_⊎_, inl, inr}
 use Prim.Native.Nat.{ℕ}
 use native.Mathlib.Omega.{arith}
@@ -62,3 +62,15 @@ also-right false q = refl
 pub also-pass : {a : Bool} (b : Bool) → a ≡ true → (a also b) ≡ b
 unfolding _also_
 also-pass b p = rw p
+
+pub also-first : (a : Bool) {b : Bool} → b ≡ true → (a also b) ≡ a
+unfolding _also_
+also-first true q = q
+also-first false q = refl
+
+pub or-choose : (x y : Bool) → (x || y) ≡ choose y true x
+unfolding choose
+or-choose true true = refl
+or-choose true false = refl
+or-choose false true = refl
+or-choose false false = refl
