@@ -103,8 +103,12 @@ module _ {t f plan : List ℕ} (typed : Typed t f plan) where
     pub whole : fieldsOf t f at ≡ ofBase [] (fieldsOf t f) (row .a) ++ ownTypes f (row .b) (row .c)
     whole = rw this (fields-of t f kept at low kind)
 
-    pub base-cells : sum (map (held plan) (ofBase [] (fieldsOf t f) (row .a))) ≡ ofBase 0 (held plan) (row .a)
+    base-cells : sum (map (held plan) (ofBase [] (fieldsOf t f) (row .a))) ≡ ofBase 0 (held plan) (row .a)
     base-cells = base-held low on
+
+    pub base-cells-is : {before : ℕ} → before ≡ ofBase 0 (held plan) (row .a)
+        → sum (map (held plan) (ofBase [] (fieldsOf t f) (row .a))) ≡ before
+    base-cells-is is = base-cells ∙ sym is
 
     inner-low : {n u : ℕ} → Nth (ofBase [] (fieldsOf t f) (row .a)) n u → u < at
     inner-low h = based-low t f kept on (λ b m v l x. fields-low t f kept b (omega arith) x) h

@@ -83,7 +83,16 @@ fn among_first(f: &[u8], plan: &[u32], starts: &Words, w: u16, k: usize, e: usiz
 }
 
 // A look o cells into the fields in rows k to e, behind their start.
-fn among(f: &[u8], plan: &[u32], starts: &Words, ends: &Words, w: u16, k: usize, e: usize, o: u32) -> Look
+fn among(
+    f: &[u8],
+    plan: &[u32],
+    starts: &Words,
+    ends: &Words,
+    w: u16,
+    k: usize,
+    e: usize,
+    o: u32,
+) -> Look
     requires { ⌜ LowTypes (now f) k e (length (now plan)) × LowTypes (now f) k e ROWS × (w < ROWS) × (0 < o) ⌝ }
     ensures { λ x. ⌜ ((deeper : ℕ → ℕ → Bool) (m : ℕ)
         → Edges deeper (held (now (plan .entry))) w m (now (starts .entry)) (now (ends .entry))
@@ -310,10 +319,7 @@ fn base_edges(starts: &Words, ends: &Words, a: u16) -> EdgeWords
         × (bitOf (x .ends) w ≡ saidOfBase (now (ends .entry)) w a)) ⌝ }
 {
     if a == 0 {
-        return EdgeWords {
-            starts: 0,
-            ends: 0,
-        };
+        return EdgeWords { starts: 0, ends: 0 };
     }
     let base = a - 1;
     let first = without(starts[base as usize], base);
@@ -398,10 +404,7 @@ fn part_edges(t: &[u8], f: &[u8], plan: &[u32], starts: &Words, ends: &Words, r:
         let before = sizes::base_size(plan, a);
         return field_edges(f, plan, starts, ends, base, before, b, c);
     }
-    EdgeWords {
-        starts: 0,
-        ends: 0,
-    }
+    EdgeWords { starts: 0, ends: 0 }
 }
 
 // What begins at the edges of type row r: an object begins at its own start, which is its end where it has no cells.
@@ -425,7 +428,7 @@ fn edges(t: &[u8], f: &[u8], plan: &[u32], starts: &Words, ends: &Words, r: usiz
 
 // Fills the tables: the words of every type row.
 pub fn fill(t: &[u8], f: &[u8], plan: &[u32], starts: &mut Words, ends: &mut Words)
-    requires { ⌜ Typed (now t) (now f) (now plan) ⌝ }
+    requires { ⌜ Typed (now t) (now f) (now plan) × (ROWS ≤ length (now starts)) × (ROWS ≤ length (now ends)) ⌝ }
     ensures { λ x. ⌜ AllEdges (now (t .entry)) (now (f .entry)) (now (plan .entry)) (now (starts .exit))
         (now (ends .exit)) ⌝ }
     ensures starts { λ x. ⌜ Beyond (rowsOf (now (t .entry))) (now (starts .entry)) (now (starts .exit)) ⌝ }

@@ -13,8 +13,10 @@ use Rattle.objects.proofs.without.Reads as without-reads
 
 returns : tie.Need-returns
 returns c = let a = c .before .args in
-    λ w. (bit-none w ∙ said-none (now (a .starts)) w (a .a) (c .if1 .taken),
-    bit-none w ∙ said-none (now (a .ends)) w (a .a) (c .if1 .taken))
+    λ w. (
+      bit-none w ∙ said-none (now (a .starts)) w (a .a) (c .if1 .taken),
+      bit-none w ∙ said-none (now (a .ends)) w (a .a) (c .if1 .taken),
+    )
 
 sub-base : tie.Need-sub-base
 sub-base c = search needs
@@ -46,8 +48,10 @@ without-requires-2 c κs = search needs
 returns-2 : tie.Need-returns-2
 returns-2 c = let a = c .before .before .before .before .before .args in
     let some : 0 < a .a = omega (arith, c .before .before .before .before .if1 .left) in
-    λ w. (c .before .before .without .ensures w ∙ sym (said-some (now (a .starts)) w (a .a) some),
-    c .without2 .ensures w ∙ sym (said-some (now (a .ends)) w (a .a) some))
+    λ w. (
+      c .before .before .without .ensures w ∙ sym (said-some (now (a .starts)) w (a .a) some),
+      c .without2 .ensures w ∙ sym (said-some (now (a .ends)) w (a .a) some),
+    )
 
 pub base-edges-spec : {M : Type 1} → statement M
 base-edges-spec =

@@ -34,9 +34,12 @@ add-end : tie.Need-add-end Inv-loop μ-loop
 add-end c = omega arith
 
 loop-holds : tie.Need-loop-holds Inv-loop μ-loop
-loop-holds c = let a = c .before .before .args in
-    (omega arith, omega arith, λ deeper w m l edges lows cells words.
-    rw (add-sub-cancel-left (a .k) (a .n)) (joined-none deeper (held (now (a .plan))) w l cells words))
+loop-holds c = let a = c .before .before .args in (
+  omega arith,
+  omega arith,
+  λ deeper w m l edges lows cells words.
+      rw (add-sub-cancel-left (a .k) (a .n)) (joined-none deeper (held (now (a .plan))) w l cells words),
+)
 
 a-at-requires : tie.Need-a-at-requires Inv-loop μ-loop
 a-at-requires c κs = let rows = c .before .before .before .before .pre .within in omega (arith, rows, c .loop-test .taken)

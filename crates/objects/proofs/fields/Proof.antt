@@ -36,9 +36,12 @@ sub-among c = search needs
 
 among-requires : tie.Need-among-requires
 among-requires c κs = let s = c .before .before .before .before .before .before .before .before in
-    let row = c .before .before .before .before .row-at .ensures in
-    (own-room (s .pre .0) (s .args .r) (s .pre .2) (s .pre .3) row,
-    own-few (s .pre .0) (s .args .r) (s .pre .2) (s .pre .3) row, s .pre .1, omega arith)
+    let row = c .before .before .before .before .row-at .ensures in (
+      own-room (s .pre .0) (s .args .r) (s .pre .2) (s .pre .3) row,
+      own-few (s .pre .0) (s .args .r) (s .pre .2) (s .pre .3) row,
+      s .pre .1,
+      omega arith,
+    )
 
 returns : tie.Need-returns
 returns c = let s = c .before .before .before .before .before .before .before .before .before in
@@ -51,9 +54,11 @@ returns c = let s = c .before .before .before .before .before .before .before .b
 
 in-base-requires : tie.Need-in-base-requires
 in-base-requires c κs = let s = c .before .before .before .before .before .before .before .before .before in
-    let row = c .before .before .before .before .before .row-at .ensures in
-    (s .pre .1, base-few (s .pre .0) (s .args .r) (s .pre .2) (s .pre .3) row,
-    base-some _ _ (c .before .before .base-size .ensures) (c .if2 .taken))
+    let row = c .before .before .before .before .before .row-at .ensures in (
+      s .pre .1,
+      base-few (s .pre .0) (s .args .r) (s .pre .2) (s .pre .3) row,
+      base-some _ _ (c .before .before .base-size .ensures) (c .if2 .taken),
+    )
 
 returns-2 : tie.Need-returns-2
 returns-2 c = let s = c .before .before .before .before .before .before .before .before .before .before in
@@ -79,9 +84,11 @@ returns-3 c = let s = c .before .before .before .before .before .before .before 
 
 among-first-requires : tie.Need-among-first-requires
 among-first-requires c κs = let s = c .before .before .before .before .before .before .before .before .before .before .before in
-    let row = c .before .before .before .before .before .before .before .row-at .ensures in
-    (own-room (s .pre .0) (s .args .r) (s .pre .2) (s .pre .3) row,
-    own-few (s .pre .0) (s .args .r) (s .pre .2) (s .pre .3) row, s .pre .1)
+    let row = c .before .before .before .before .before .before .before .row-at .ensures in (
+      own-room (s .pre .0) (s .args .r) (s .pre .2) (s .pre .3) row,
+      own-few (s .pre .0) (s .args .r) (s .pre .2) (s .pre .3) row,
+      s .pre .1,
+    )
 
 told-requires : tie.Need-told-requires
 told-requires c κs = search needs

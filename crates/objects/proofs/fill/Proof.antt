@@ -1,3 +1,11 @@
+use Prim.Native.Nat.{ℕ, _-_, _≤_}
+use native.Mathlib.Omega.{arith}
+use borrow.Author.Needs.{needs}
+use Rattle.objects.specs.Begins.{beginsAt}
+use Rattle.objects.specs.Looking.{held, Edges, Beyond}
+use Rattle.objects.proofs.Looks.{edges-less}
+use Rattle.objects.proofs.Deciding.{beyond-none, beyond-next, beyond-more}
+use Rattle.objects.proofs.Joining.{edges-none, edges-more}
 use Rattle.objects.proofs.fill.Statement.{statement}
 use Rattle.objects.proofs.fill.Tie as tie
 use Rattle.objects.proofs.fill.Reads as reads
@@ -6,54 +14,67 @@ use Rattle.image.proofs.rows_of.Reads as rows-of-reads
 use Rattle.objects.proofs.edges.Reads as edges-reads
 
 abbrev Inv-loop : tie.InvT-loop
-Inv-loop t f plan starts₀ ends₀ rows r₀ starts ends r = ?
+Inv-loop t f plan starts₀ ends₀ rows r₀ starts ends r = (r ≤ rows) × Beyond r starts₀ starts × Beyond r ends₀ ends
+    × ((w : ℕ) → Edges (beginsAt t f w) (held plan) w r starts ends)
 
 abbrev μ-loop : tie.MeasureT-loop
-μ-loop t f plan starts₀ ends₀ rows r₀ starts ends r = ?
+μ-loop t f plan starts₀ ends₀ rows r₀ starts ends r = rows - r
 
--- src/lib.rt:434:9
 rows-of-requires : tie.Need-rows-of-requires Inv-loop μ-loop
-rows-of-requires c κs = ?
+rows-of-requires c κs = search needs
 
--- src/lib.rt:436:5
 loop-holds : tie.Need-loop-holds Inv-loop μ-loop
-loop-holds c = ?
+loop-holds c = (omega arith, beyond-none _, beyond-none _, λ w. edges-none _ _)
 
--- src/lib.rt:437:13
 edges-requires : tie.Need-edges-requires Inv-loop μ-loop
-edges-requires c κs = ?
+edges-requires c κs = let n = c .before .before .before .before in
+    ((n .before .before .before .before) .pre .0, omega (arith, n .rows-of .ensures))
 
--- src/lib.rt:438:9
 mul-starts : tie.Need-mul-starts Inv-loop μ-loop
-mul-starts c = ?
+mul-starts c = let n = c .before .before .before .before .before in
+    let few = n .before .before .before .before .pre .0 .few in
+    omega (arith, few, n .rows-of .ensures)
 
--- src/lib.rt:438:9
 element-write-starts : tie.Need-element-write-starts Inv-loop μ-loop
-element-write-starts c = ?
+element-write-starts c = let n = c .before .before .before .before .before in
+    let few = n .before .before .before .before .pre .0 .few in
+    omega (arith, few, n .rows-of .ensures)
 
--- src/lib.rt:439:9
 mul-ends : tie.Need-mul-ends Inv-loop μ-loop
-mul-ends c = ?
+mul-ends c = let n = c .before .before .before .before .before in
+    let few = n .before .before .before .before .pre .0 .few in
+    omega (arith, few, n .rows-of .ensures)
 
--- src/lib.rt:439:9
 element-write-ends : tie.Need-element-write-ends Inv-loop μ-loop
-element-write-ends c = ?
+element-write-ends c = let n = c .before .before .before .before .before in
+    let few = n .before .before .before .before .pre .0 .few in
+    omega (arith, few, n .rows-of .ensures)
 
--- src/lib.rt:440:13
 add-r : tie.Need-add-r Inv-loop μ-loop
-add-r c = ?
+add-r c = omega arith
 
--- src/lib.rt:436:5
 loop-less : tie.Need-loop-less Inv-loop μ-loop
-loop-less c = ?
+loop-less c = omega arith
 
--- src/lib.rt:436:5
 loop-again : tie.Need-loop-again Inv-loop μ-loop
-loop-again c = ?
+loop-again c = let n = c .before .before .before .before .before in
+    let l = c .before .before .before .before .loop in
+    let s = n .before .before .before .before in
+    let few = s .pre .0 .few in
+    let rows = n .rows-of .ensures in (
+      omega arith,
+      beyond-next _ (l .inv .1),
+      beyond-next _ (l .inv .2),
+      λ w. edges-more (l .inv .3 w) (omega (arith, few, rows, s .pre .1, l .inv .1 .cells))
+          (omega (arith, few, rows, s .pre .2, l .inv .2 .cells)) (c .edges .ensures w (l .inv .3 w)),
+    )
 
--- src/lib.rt:427:1
 returns : tie.Need-returns Inv-loop μ-loop
-returns c = ?
+returns c = let l = c .before .loop in
+    let rows = c .before .before .rows-of .ensures in (
+      record { each = λ w. edges-less (omega (arith, rows)) (l .inv .3 w) },
+      (beyond-more (omega (arith, rows)) (l .inv .1), beyond-more (omega (arith, rows)) (l .inv .2)),
+    )
 
 pub fill-spec : {M : Type 1} → statement M
 fill-spec =
