@@ -3,7 +3,7 @@ use mathlib.Core.Path.{_≡_, refl, sym, _∙_, ap}
 use mathlib.Core.Bool.{Bool, true, false}
 use mathlib.Core.List.{List, []}
 use mathlib.Core.Logic.{_⊎_, inl, inr}
-use Prim.Native.Nat.{ℕ, zero, suc, _-_, _<_}
+use Prim.Native.Nat.{ℕ, suc, _-_, _<_}
 use native.Mathlib.Omega.{arith}
 use borrow.Author.Tests.{eqb-true, eqb-false, eq-eqb, ne-eqb}
 use lib.Dec.{eqb}
@@ -17,7 +17,7 @@ use Rattle.shapes.specs.Forms.{ofBase}
 use Rattle.shapes.specs.Sizes.{fieldsOf}
 use Rattle.shapes.proofs.Rows.{of-base}
 use Rattle.shapes.proofs.Accepted.{Based, Based.no-base, Based.on-base}
-use Rattle.objects.specs.Begins.{partsOf, among, beginsAt}
+use Rattle.objects.specs.Begins.{among, beginsAt}
 use Rattle.objects.specs.declared.Look.{Look}
 use Rattle.objects.specs.declared.Look.the-variants as Ls
 use Rattle.objects.specs.Looking.{held, Typed, Edges, toldBy, saidOfBase, lookInBase, Looks}

@@ -4,22 +4,21 @@ use mathlib.Core.Bool.{Bool, true, false}
 use mathlib.Core.List.{List}
 use Prim.Native.Nat.{ℕ, _+_, _≤_, _<_}
 use native.Mathlib.Omega.{arith}
-use native.Mathlib.Decide.{decLt}
 use borrow.Author.Tests.{ne-eqb}
 use lib.Dec.{eqb}
-use lib.ListN.{length, getD, set, length-set, replicate}
-use lib.Seq.{getD-set-same, getD-set-other}
+use lib.ListN.{set, length-set, replicate}
+use lib.Seq.{getD-set-other}
 use Rattle.prelude.specs.Choice.{choose, _also_}
-use Rattle.prelude.proofs.Choice.{choose-yes, choose-no, also-right}
+use Rattle.prelude.proofs.Choice.{choose-no, also-right}
 use Rattle.image.specs.declared.Row.{Row}
 use Rattle.image.specs.Rows.{rowAt, rowsOf}
 use Rattle.shapes.specs.Sizes.{fieldsOf}
 use Rattle.relations.proofs.Fielding.{no-fields}
 use Rattle.objects.specs.Begins.{partsOf, among, beginsAt}
-use Rattle.objects.specs.Looking.{held, Typed, Edges, Beyond}
+use Rattle.objects.specs.Looking.{held, Typed, Beyond}
 use Rattle.objects.specs.Tables.{ROWS}
-use Rattle.objects.proofs.Beginning.{array-row, array-parts, other-parts, begins-eq, begins-past}
-use Rattle.objects.proofs.Records.{kept, held-size, by-plan}
+use Rattle.objects.proofs.Beginning.{array-row, array-parts, other-parts, begins-eq}
+use Rattle.objects.proofs.Records.{kept, by-plan}
 
 module _ {t f plan : List ℕ} (typed : Typed t f plan) where
   -- ---- parts by the kind

@@ -1,6 +1,6 @@
 -- The words of a type row say what begins at its edges.
 use mathlib.Core.Path.{_≡_, refl, sym, _∙_, ap}
-use mathlib.Core.Bool.{true, false}
+use mathlib.Core.Bool.{false}
 use mathlib.Core.List.{List, [], _++_, map}
 use mathlib.Core.Logic.{_⊎_, inl, inr}
 use Prim.Native.Nat.{ℕ, _*_, _^_, _<_}
@@ -41,7 +41,8 @@ module _ {t f plan : List ℕ} (typed : Typed t f plan) (w r : ℕ) (low : r < r
 
     pub at-none : (row .kind ≡ 3 → ⊥) → (row .kind ≡ 4 → ⊥) → Parts 0 0
     at-none a b =
-        let none : (o : ℕ) → among (beginsAt t f w) (held plan) (partsOf t f r) o ≡ false = λ o. part-none typed r low this (beginsAt t f w) o a b in
+        let none : (o : ℕ) → among (beginsAt t f w) (held plan) (partsOf t f r) o ≡ false =
+        λ o. part-none typed r low this (beginsAt t f w) o a b in
         record {
           start = bit-none w ∙ sym (none 0);
           end = bit-none w ∙ sym (none (held plan r));
@@ -68,7 +69,8 @@ module _ {t f plan : List ℕ} (typed : Typed t f plan) (w r : ℕ) (low : r < r
           }
 
       -- and its fields
-      pub at-record : row .kind ≡ 4 → {first last : ℕ} → let l = ofBase [] (fieldsOf t f) (row .a) ++ ownTypes f (row .b) (row .c) in
+      pub at-record : row .kind ≡ 4 → {first last : ℕ}
+          → let l = ofBase [] (fieldsOf t f) (row .a) ++ ownTypes f (row .b) (row .c) in
           AtEdges (among (beginsAt t f w) (held plan) l) (sum (map (held plan) l)) w first last → Parts first last
       at-record kind h =
           let k : rowAt t r .kind ≡ 4 = rw (← this) kind in
@@ -88,7 +90,8 @@ module _ {t f plan : List ℕ} (typed : Typed t f plan) (w r : ℕ) (low : r < r
     own-end : (held plan r ≡ 0) ⊎ (held plan r ≡ 0 → ⊥)
         → bitOf (choose (eqb (held plan r) 0) (bitOr last (2 ^ r)) last) w ≡ beginsAt t f w r (held plan r)
     own-end (inl e) =
-        ap (λ word. bitOf word w) (choose-yes _ _ _ (eq-eqb (held plan r) 0 e)) ∙ own-edge (held plan r) last e (parts .end)
+        ap (λ word. bitOf word w) (choose-yes _ _ _ (eq-eqb (held plan r) 0 e))
+        ∙ own-edge (held plan r) last e (parts .end)
     own-end (inr e) =
         ap (λ word. bitOf word w) (choose-no _ _ _ (ne-eqb (held plan r) 0 e)) ∙ parts .end
         ∙ sym (by-inner typed w r low (held plan r) e)

@@ -109,7 +109,11 @@ module _ {deeper : ℕ → ℕ → Bool} {size : ℕ → ℕ} {w : ℕ} where
 
   module _ {m : ℕ} {starts ends : List ℕ} (edges : Edges deeper size w m starts ends) where
     pub edges-row : {u : ℕ} → u < m → AtEdges (deeper u) (size u) w (getD starts u 0) (getD ends u 0)
-    edges-row {u} low = record { start = edges .start u low; end = edges .end u low; past = λ o l. edges .past u o low l }
+    edges-row {u} low = record {
+      start = edges .start u low;
+      end = edges .end u low;
+      past = λ o l. edges .past u o low l;
+    }
 
     -- a row more is written
     pub edges-more : m < length starts → m < length ends → {x y : ℕ} → AtEdges (deeper m) (size m) w x y

@@ -1,8 +1,8 @@
-// Where objects begin within others. Two lent tables have a word for each type row, of a bit for each type that is looked
-// for: whether an object declared with it begins at the start of that row's objects, and at their end. A row's words are
-// put together from those of its parts, which stand in lower rows. By them a look at a type's parts settles the answer,
-// or leads to one part: what begins there is the answer. Contracts of looks say it for any test `deeper` of which the
-// tables are the edges.
+// Where objects begin within others. Two lent tables have a word for each type row, of a bit for each type that is
+// looked for: whether an object declared with it begins at the start of that row's objects, and at their end. A row's
+// words are put together from those of its parts, which stand in lower rows. By them a look at a type's parts settles
+// the answer, or leads to one part: what begins there is the answer. Contracts of looks say it for any test `deeper` of
+// which the tables are the edges.
 ghost use mathlib.Core.Path.{_≡_};
 ghost use mathlib.Core.Bool.{Bool, false};
 ghost use mathlib.Core.List.{List, _++_, map};

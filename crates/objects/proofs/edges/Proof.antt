@@ -30,8 +30,8 @@ returns : tie.Need-returns
 returns c = let s = c .before .before .before .before .before .before .before in
     λ w edges.
     at-row (s .pre .0) w (s .args .r) (s .pre .1) (c .before .before .before .part-edges .ensures w edges)
-    (one-shifted (s .args .r) (let few = s .pre .0 .few in omega (arith, few, s .pre .1))) (c .before .before .cell .ensures)
-    refl (c .across .ensures)
+    (one-shifted (s .args .r) (let few = s .pre .0 .few in omega (arith, few, s .pre .1)))
+    (c .before .before .cell .ensures) refl (c .across .ensures)
 
 pub edges-spec : {M : Type 1} → statement M
 edges-spec =

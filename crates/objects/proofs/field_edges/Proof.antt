@@ -2,7 +2,7 @@ use denote.Ref.{now}
 use mathlib.Core.Path.{_≡_}
 use mathlib.Core.Bool.{Bool}
 use mathlib.Core.List.{List, _++_, map}
-use Prim.Native.Nat.{ℕ, _+_, _-_, _*_, _≤_, _<_}
+use Prim.Native.Nat.{ℕ, _+_, _-_, _*_, _≤_}
 use native.Mathlib.Nat.{add-sub-cancel-left}
 use native.Mathlib.Omega.{arith}
 use borrow.Author.Needs.{needs}
@@ -42,7 +42,8 @@ loop-holds c = let a = c .before .before .args in (
 )
 
 a-at-requires : tie.Need-a-at-requires Inv-loop μ-loop
-a-at-requires c κs = let rows = c .before .before .before .before .pre .within in omega (arith, rows, c .loop-test .taken)
+a-at-requires c κs = let rows = c .before .before .before .before .pre .within in
+    omega (arith, rows, c .loop-test .taken)
 
 cast-u : tie.Need-cast-u Inv-loop μ-loop
 cast-u c = search needs
@@ -91,8 +92,8 @@ loop-again c = let n = c .before .before .before .before .before in
       omega arith,
       omega arith,
       λ deeper w m x edges lows cells words.
-          field-more deeper (held (now (a .plan))) w edges lows (l .inv .2 deeper w m x edges lows cells words) (l .inv .0)
-          (n .before .loop-test .taken) (n .a-at .ensures) (c .before .before .before .before .cell .ensures)
+          field-more deeper (held (now (a .plan))) w edges lows
+          (l .inv .2 deeper w m x edges lows cells words) (l .inv .0) (n .before .loop-test .taken) (n .a-at .ensures) (c .before .before .before .before .cell .ensures)
           (c .before .before .across .ensures) (c .across2 .ensures),
     )
 
@@ -100,7 +101,8 @@ returns : tie.Need-returns Inv-loop μ-loop
 returns c = let l = c .before .loop in
     let a = c .before .before .before .before .args in
     λ deeper w m x edges lows cells words.
-    field-end deeper (held (now (a .plan))) w edges lows (l .inv .2 deeper w m x edges lows cells words) (c .loop-test .left)
+    field-end deeper (held (now (a .plan))) w edges lows
+    (l .inv .2 deeper w m x edges lows cells words) (c .loop-test .left)
 
 pub field-edges-spec : {M : Type 1} → statement M
 field-edges-spec =

@@ -2,7 +2,8 @@ use mathlib.Core.Path.{_≡_, sym, _∙_}
 use native.Mathlib.Omega.{arith}
 use borrow.Author.Needs.{needs}
 use Rattle.objects.proofs.Looks.{looks-yes, looks-told, looks-same}
-use Rattle.objects.proofs.Records.{base-some, base-few, own-low, own-room, own-few, record-own, record-yes, record-no}
+use Rattle.objects.proofs.Records.{base-some, base-few, own-low, own-room, own-few}
+use Rattle.objects.proofs.Records.{record-own, record-yes, record-no}
 use Rattle.objects.proofs.Bases.{said-end, looks-base}
 use Rattle.objects.proofs.fields.Statement.{statement}
 use Rattle.objects.proofs.fields.Tie as tie

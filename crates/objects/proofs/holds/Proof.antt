@@ -36,7 +36,8 @@ reached-requires c κs = search needs
 returns-3 : tie.Need-returns-3
 returns-3 c = let s = c .before .before .before .before .before .before .before in
     c .reached .ensures (edges-less (let low = s .pre .3 in omega arith) (s .pre .1 .each (s .args .w)))
-    ∙ sym (by-inner (s .pre .0) (s .args .w) (s .args .r) (s .pre .3) (s .args .o) (c .before .before .before .if1 .left))
+    ∙ sym (by-inner (s .pre .0) (s .args .w) (s .args .r) (s .pre .3) (s .args .o)
+    (c .before .before .before .if1 .left))
 
 pub holds-spec : {M : Type 1} → statement M
 holds-spec =

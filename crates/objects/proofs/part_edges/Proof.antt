@@ -74,7 +74,8 @@ returns-2 c = let s = c .before .before .before .before .before .before .before 
 returns-3 : tie.Need-returns-3
 returns-3 c = let s = c .before .before .before .before .before .before in
     λ w edges.
-    at-none (s .pre .0) w (s .args .r) (s .pre .1) (c .before .before .row-at .ensures) (c .before .if1 .left) (c .if2 .left)
+    at-none (s .pre .0) w (s .args .r) (s .pre .1) (c .before .before .row-at .ensures)
+    (c .before .if1 .left) (c .if2 .left)
 
 pub part-edges-spec : {M : Type 1} → statement M
 part-edges-spec =

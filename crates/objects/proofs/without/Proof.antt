@@ -1,6 +1,4 @@
-use mathlib.Core.Path.{_≡_, _∙_, ap}
-use Prim.Native.Nat.{_*_, _%_, _^_}
-use native.Mathlib.Omega.{arith}
+use mathlib.Core.Path.{_∙_, ap}
 use lib.Bits.{bitOr, bitXor}
 use Rattle.prelude.specs.Bits.{bitOf}
 use Rattle.objects.proofs.Joining.{one-shifted, without-bit}
