@@ -29,10 +29,10 @@ pub struct Spot {
 }
 
 // How many blocks a store has at most.
-pub const BLOCKS: usize = 1024;
+pub const BLOCKS: usize = 512;
 
 // How many cells a block has.
-const BLOCK: u32 = 64;
+const BLOCK: u32 = 128;
 
 // How many places a table of variables with cells has: one a row, and one behind.
 pub const NEXT: usize = 257;
