@@ -99,27 +99,25 @@ pub fn frame_below(store: &[i64], top: u32, blocks: &[u32], from: u32, at: u32) 
 // ---- frames of a program
 
 // Whether statement row r lies in the body of procedure q.
-pub fn inside(image: &&[u8], plan: &Plan, q: u16, r: u32) -> bool
+fn inside(image: &&[u8], plan: &Plan, q: u16, r: u32) -> bool
     requires { ⌜ Ready (now (now image)) (now plan) ⌝ }
     ensures { λ x. ⌜ x ≡ insideKept (programOf (now (now (image .entry)))) q r ⌝ }
 {
-    let row = access::statement_at(image, plan, r);
-    let kind = row.kind;
-    if kind == 255 {
+    let statements = image::rows_of(access::table(*image, plan, 5));
+    if statements <= r as usize {
         return false;
     }
     let owner = access::procedure_of(image, plan, r);
     owner == q as u32
 }
 
-// Whether there is a procedure q: the first row of its body lies in it.
+// Whether there is a procedure q.
 fn is_procedure(image: &&[u8], plan: &Plan, q: u16) -> bool
     requires { ⌜ Ready (now (now image)) (now plan) ⌝ }
     ensures { λ x. ⌜ x ≡ ltb q (rowsOf (programOf (now (now (image .entry))) .procedures)) ⌝ }
 {
-    let procedure = access::procedure_at(image, plan, q);
-    let first = procedure.a;
-    inside(image, plan, q, first as u32)
+    let procedures = image::rows_of(access::table(*image, plan, 3));
+    (q as usize) < procedures
 }
 
 // Whether row `back` follows a call of procedure q in the body of procedure c.
