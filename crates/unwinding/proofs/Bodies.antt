@@ -7,7 +7,7 @@ use native.Mathlib.Omega.{arith}
 use borrow.Author.Tests.{ltb-true, leb-true, eqb-true, lt-ltb, le-leb, eq-eqb}
 use lib.Dec.{eqb}
 use Rattle.prelude.specs.Choice.{_also_}
-use Rattle.prelude.proofs.Choice.{also-true, also-yes}
+use Rattle.prelude.proofs.Choice.{also-true, also-yes, not-yes, same-truth}
 use Rattle.image.specs.Rows.{rowsOf}
 use Rattle.statements.specs.Statements.{procedureAt}
 use Rattle.statements.proofs.Bodies.{InBody, end-within, body-only}
@@ -18,7 +18,6 @@ use Rattle.semantics.proofs.Demand3.{program-accepted}
 use Rattle.asking.specs.State.{insideKept, callKept}
 use Rattle.access.specs.Ready.{Planned}
 use Rattle.access.proofs.Bounds.{procedures-few, statements-few}
-use Rattle.unwinding.proofs.Links.{same-truth, not-yes}
 
 module _ {image plan : List ℕ} (p : Planned image plan) where
   abbrev g : Program

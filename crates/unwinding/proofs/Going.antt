@@ -148,8 +148,8 @@ module _ (g : Program) where
       let is = ap spotOf (n .packed) ∙ spot-is (s .procedure) (s .base) (omega (arith, n .below)) in
       rw is n
 
-  -- of walked frames the oldest, from that of procedure p on, are walked too and end no higher; what is sought no higher
-  -- than where this one begins is sought among them
+  -- of walked frames the oldest, from that of procedure p on, are walked too and end no higher; what is sought at an
+  -- address that is no higher than where this one begins is sought among them
   pub going-from : {p from at : ℕ} {qs older : List ℕ} {store : List ℤ} {b e : ℕ} → Walked g qs store b e
       → Oldest (p ∷ older) qs → from ≡ roomOf g older → at ≤ from
       → (end : ℕ) × (end ≤ e) × Going g store (λ rest. newestBelow g qs at ≡ newestBelow g rest at) p from end

@@ -18,8 +18,8 @@ use Rattle.unwinding.proofs.Blocks.{block-low, block-behind, block-most
 use Rattle.unwinding.proofs.Walking.{walked-base, walked-links}
 use Rattle.unwinding.proofs.Going.{above-called, going-on, below-here, below-older, newest-is, going-from}
 
--- the loop stands at the frame at b, and seeks among it and its older ones; q is its procedure where it begins below the
--- address
+-- the loop stands at the frame at b, and seeks among it and its older ones; q is its procedure where it begins below
+-- the address
 pub record Seeking (g : Program) (qs : List ℕ) (store : List ℤ) (top at q b : ℕ) : Type 0 where
   pub procedure : ℕ
   pub is : b < at → procedure ≡ q

@@ -1,4 +1,4 @@
--- `unwinding::frame_below` meets its contract: the frame at which it starts is no older than the one that is looked for.
+-- `unwinding::frame_below` meets its contract: it starts at a frame that is no older than the one that it looks for.
 use mathlib.Core.Path.{_≡_, sym}
 use mathlib.Core.List.{List, [], _∷_}
 use mathlib.Core.Logic.{⊎-elim}

@@ -14,7 +14,8 @@ use Rattle.access.proofs.Bounds.{procedures-few}
 use Rattle.unwinding.specs.Links.{sizeKept}
 use Rattle.unwinding.specs.Blocks.{BLOCK}
 use Rattle.unwinding.proofs.Along.{Along, Past, size-both, size-links, along-start, along-unsized, along-block}
-use Rattle.unwinding.proofs.Along.{along-filled, along-first, past-first, along-uncalled, along-unfallen, along-on}
+use Rattle.unwinding.proofs.Along.{along-filled, along-first, past-first, along-uncalled, along-unfallen}
+use Rattle.unwinding.proofs.Along.{along-on}
 use Rattle.unwinding.proofs.walk.Statement.{statement}
 use Rattle.unwinding.proofs.walk.Tie as tie
 
