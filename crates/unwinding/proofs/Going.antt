@@ -150,13 +150,13 @@ module _ (g : Program) where
 
   -- of walked frames the oldest, from that of procedure p on, are walked too and end no higher; what is sought at an
   -- address that is no higher than where this one begins is sought among them
-  pub going-from : {p from at : ℕ} {qs older : List ℕ} {store : List ℤ} {b e : ℕ} → Walked g qs store b e
-      → Oldest (p ∷ older) qs → from ≡ roomOf g older → at ≤ from
+  pub going-from : {p from : ℕ} {qs older : List ℕ} {store : List ℤ} {b e : ℕ} → Walked g qs store b e
+      → Oldest (p ∷ older) qs → from ≡ roomOf g older → (at : ℕ) → at ≤ from
       → (end : ℕ) × (end ≤ e) × Going g store (λ rest. newestBelow g qs at ≡ newestBelow g rest at) p from end
-  going-from {older = older} {e = e} w all is low =
+  going-from {older = older} {e = e} w all is at low =
       (e, omega arith, record { older = older; walked = rw (is ∙ sym (walked-base g w)) w; told = refl })
-  going-from {at = at} {qs = q ∷ c ∷ qs} w (newer oldest) is low =
-      let (end, most, h) = going-from (walked-older g w) oldest is low in
+  going-from {qs = q ∷ c ∷ qs} w (newer oldest) is at low =
+      let (end, most, h) = going-from (walked-older g w) oldest is at low in
       let own = walked-links g w in
       let begun = walked-links g (h .walked) in
       let told = below-older q (c ∷ qs) at (omega (arith, walked-base g w)) ∙ h .told in

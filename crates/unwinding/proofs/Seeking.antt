@@ -50,7 +50,7 @@ module _ {g : Program} {qs : List ℕ} {store : List ℤ} {top at : ℕ} where
   pub seeking-from : {b e p from : ℕ} {older : List ℕ} → Walked g qs store b e → e ≤ top → Oldest (p ∷ older) qs
       → from ≡ roomOf g older → at ≤ from → (q : ℕ) → Seeking g qs store top at q from
   seeking-from {p = p} w within oldest is low q =
-      let (end, most, going) = going-from g w oldest is low in
+      let (end, most, going) = going-from g w oldest is at low in
       record { procedure = p; is = λ high. absurd (omega arith); end = end; within = omega arith; going = going }
 
   -- at the caller's, where this one does not begin below the address

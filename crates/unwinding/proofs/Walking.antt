@@ -76,7 +76,7 @@ module _ (g : Program) where
   -- ---- what the links say
 
   -- of the oldest frame
-  pub record Oldest (q : ℕ) (store : List ℤ) (b e : ℕ) : Type 0 where
+  pub record OldestLinks (q : ℕ) (store : List ℤ) (b e : ℕ) : Type 0 where
     pub first : q ≡ 0
     pub procedure : q < rowsOf (g .procedures)
     pub base : b ≡ roomOf g []
@@ -132,7 +132,7 @@ module _ (g : Program) where
       → q < rowsOf (g .procedures)
   walked-procedure w = parts w .1
 
-  pub walked-oldest : {q : ℕ} {store : List ℤ} {b e : ℕ} → Walked g (q ∷ []) store b e → Oldest q store b e
+  pub walked-oldest : {q : ℕ} {store : List ℤ} {b e : ℕ} → Walked g (q ∷ []) store b e → OldestLinks q store b e
   unfolding linksKept
   walked-oldest w =
       let (others, low, links) = parts w in
@@ -191,7 +191,7 @@ module _ (g : Program) where
         links = also-yes others (rw base at own);
       }
 
-  pub oldest-walked : {q : ℕ} {store : List ℤ} {b e : ℕ} → b + 3 ≤ length store → Oldest q store b e
+  pub oldest-walked : {q : ℕ} {store : List ℤ} {b e : ℕ} → b + 3 ≤ length store → OldestLinks q store b e
       → Walked g (q ∷ []) store b e
   unfolding linksKept linked
   oldest-walked long o =

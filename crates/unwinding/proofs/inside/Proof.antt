@@ -1,6 +1,7 @@
 -- `unwinding::inside` meets its contract: a row lies in the body of its own procedure alone.
-use Prim.Native.Nat.{_<_}
 use mathlib.Core.Path.{sym}
+use Prim.Native.Nat.{_<_}
+use native.Mathlib.Omega.{arith}
 use denote.Ref.{now}
 use Rattle.prelude.specs.Choice.{choose}
 use Rattle.image.specs.Rows.{rowsOf}
@@ -21,7 +22,7 @@ returns : tie.Need-returns
 unfolding tableOf choose
 returns c =
     let rows = rw (c .before .before .table .ensures) at (c .before .rows-of .ensures) in
-    sym (inside-missing (c .before .before .before .before .before .pre .planned) _ _ (rw rows at (c .if1 .taken)))
+    sym (inside-missing (c .before .before .before .before .before .pre .planned) _ _ (omega (arith, c .if1 .taken)))
 
 -- where there is a row r
 there : (c : tie.Else1) → let s = c .before .before .before .before .before in

@@ -17,7 +17,7 @@ returns : tie.Need-returns
 unfolding tableOf choose
 returns c =
     let q = c .before .before .before .before .args .q in
-    ap (ltb q) (rw (c .before .table .ensures) at (c .rows-of .ensures))
+    rw (c .before .table .ensures) at (ap (ltb q) (c .rows-of .ensures))
 
 pub is-procedure-spec : {M : Type 1} → statement M
 is-procedure-spec = tie.close (tie.spec table-requires rows-of-requires returns)
