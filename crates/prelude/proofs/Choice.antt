@@ -1,5 +1,5 @@
 -- Laws of choice, and the facts of a branch as the tests of a definition.
-use mathlib.Core.Path.{_≡_, refl}
+use mathlib.Core.Path.{_≡_, refl, sym}
 use mathlib.Core.Bool.{Bool, true, false, _||_}
 use mathlib.Core.Logic.{_⊎_, inl, inr}
 use Prim.Native.Nat.{ℕ}
@@ -13,6 +13,17 @@ pub ruleset tests = (lt-leb, le-leb, lt-ltb, le-ltb, ne-eqb, eq-eqb)
 -- true is not false
 pub clash {ℓ} : {C : Type ℓ} → true ≡ false → C
 clash e = let z : _≡_ {A = ℕ} 0 1 = cc in absurd (omega arith)
+
+-- what is not true is false
+pub not-yes : (a : Bool) → (a ≡ true → ⊥) → a ≡ false
+not-yes true h = absurd (h refl)
+not-yes false h = refl
+
+-- two tests that are true together are the same
+pub same-truth : (a b : Bool) → (a ≡ true → b ≡ true) → (b ≡ true → a ≡ true) → a ≡ b
+same-truth true b f h = sym (f refl)
+same-truth false true f h = h refl
+same-truth false false f h = refl
 
 module _ {X : Type 0} where
   pub choose-yes : (b : Bool) (x y : X) → b ≡ true → choose b x y ≡ x
