@@ -1,60 +1,24 @@
 -- Bit i of a type row's word is whether the row extends row low + i.
 use mathlib.Core.Path.{_≡_, refl, sym, _∙_, ap, ap₂}
-use mathlib.Core.Bool.{Bool, true, false, _&&_, _||_}
+use mathlib.Core.Bool.{false, _||_}
 use mathlib.Core.List.{List}
-use Prim.Native.Nat.{ℕ, zero, suc, _+_, _-_, _*_, _^_, _≤_, _<_}
+use mathlib.Core.Logic.{_⊎_, inl, inr}
+use Prim.Native.Nat.{ℕ, zero, suc, _+_, _-_, _^_, _≤_, _<_}
 use native.Mathlib.Omega.{arith}
 use native.Mathlib.Decide.{decLt}
-use native.Mathlib.Nat.{pow-succ', zero-div}
-use native.Mathlib.Numerals.{add-one}
 use borrow.Author.Tests.{lt-ltb, le-ltb, eq-eqb, ne-eqb}
 use lib.Bits.{bitOr}
-use lib.Dec.{leb, ltb, eqb}
-use lib.IntN.{pos}
+use lib.Dec.{eqb}
+use Rattle.prelude.specs.Bits.{bitOf}
 use Rattle.prelude.specs.Choice.{choose}
 use Rattle.prelude.specs.Rec.{rec, below}
-use Rattle.prelude.proofs.Choice.{choose-no}
+use Rattle.prelude.proofs.Bits.{bit-none, bit-or, bit-single}
+use Rattle.prelude.proofs.Choice.{or-choose}
 use Rattle.prelude.proofs.Rec.{rec-eq, rec-rel, below-low, below-high}
-use Rattle.values.proofs.Numbers.{inside, under, over}
-use Rattle.sets.specs.Sets.{memberOf, elementsOf}
-use Rattle.sets.proofs.Members.{member-union, member-elements}
 use Rattle.shapes.specs.Forms.{form, baseOf, ofBase}
+use Rattle.shapes.proofs.Layouts.{decide}
 use Rattle.relations.specs.Extends.{extendsTo, extends}
-use Rattle.ancestors.specs.Ancestors.{bitOf, ownBit, wordOf}
-
--- ---- bits: a word is a SET, of which bit i is element i
-
-member-is : (i s : ℕ) → i < 32 → memberOf (pos i) s ≡ bitOf s i
-unfolding memberOf bitOf choose
-member-is i s h = rw (lt-ltb i 32 h)
-
-bit-none : (i : ℕ) → bitOf 0 i ≡ false
-unfolding bitOf
-bit-none i = rw (zero-div (2 ^ i))
-
-bit-or : (i a b : ℕ) → i < 32 → bitOf (bitOr a b) i ≡ (bitOf a i || bitOf b i)
-bit-or i a b h =
-    sym (member-is i (bitOr a b) h) ∙ member-union (pos i) a b ∙ ap₂ _||_ (member-is i a h) (member-is i b h)
-
--- a word of one bit
-single : (k : ℕ) → elementsOf k k ≡ 2 ^ k
-unfolding elementsOf
-single k =
-    let twice : 2 ^ (k + 1) ≡ 2 * 2 ^ k = ap (λ n. 2 ^ n) (add-one k) ∙ pow-succ' 2 k in
-    choose-no _ _ _ (le-ltb k k (omega arith)) ∙ omega arith
-
-module _ (i low r : ℕ) (h : i < 32) (above : low ≤ r) where
-  bit-single : bitOf (2 ^ (r - low)) i ≡ eqb r (low + i)
-  bit-single =
-      let k = r - low in
-      sym (member-is i (2 ^ k) h) ∙ ap (memberOf (pos i)) (sym (single k)) ∙ member-elements i k k h
-      ∙ go (decLt i k) (decLt k i)
-    where
-      go : Dec (i < r - low) → Dec (r - low < i) → (leb (r - low) i && leb i (r - low)) ≡ eqb r (low + i)
-      go (yes l) d = under (r - low) (r - low) i l ∙ sym (ne-eqb r (low + i) (omega arith))
-      go (no l) (yes m) = over (r - low) (r - low) i m ∙ sym (ne-eqb r (low + i) (omega arith))
-      go (no l) (no m) =
-          inside (r - low) (r - low) i (omega arith) (omega arith) ∙ sym (eq-eqb r (low + i) (omega arith))
+use Rattle.ancestors.specs.Ancestors.{ownBit, wordOf}
 
 -- ---- the own bit
 
@@ -82,13 +46,20 @@ own-has P low r under over one = go (decLt r low) (decLt 31 (r - low))
     go (no h) (yes k) = rw (own-past low r (omega arith) k) (over k)
     go (no h) (no k) = rw (own-one low r (omega arith) (omega arith)) (one (omega arith) (omega arith))
 
+one-bit : (i low r : ℕ) → low ≤ r → bitOf (2 ^ (r - low)) i ≡ eqb r (low + i)
+one-bit i low r above = bit-single (r - low) i ∙ go (decide r (low + i))
+  where
+    go : (r ≡ low + i) ⊎ (r ≡ low + i → ⊥) → eqb (r - low) i ≡ eqb r (low + i)
+    go (inl e) = eq-eqb (r - low) i (omega arith) ∙ sym (eq-eqb r (low + i) e)
+    go (inr e) = ne-eqb (r - low) i (omega arith) ∙ sym (ne-eqb r (low + i) e)
+
 -- it is the row's
 own-bit : (i low r : ℕ) → i < 32 → bitOf (ownBit low r) i ≡ eqb r (low + i)
 own-bit i low r h =
     own-has (λ word. bitOf word i ≡ eqb r (low + i)) low r
     (λ k. bit-none i ∙ sym (ne-eqb r (low + i) (omega arith)))
     (λ k. bit-none i ∙ sym (ne-eqb r (low + i) (omega arith)))
-    (λ l k. bit-single i low r h l)
+    (λ l k. one-bit i low r l)
 
 -- ---- the word
 
@@ -103,13 +74,6 @@ base-rel R r g g′ none low high (suc b) = go (decLt b r)
     go : Dec (b < r) → R (g b) (g′ b)
     go (yes l) = low b l
     go (no l) = let (p, q) = high b (omega arith) in rw (p, q) none
-
-or-choose : (x y : Bool) → (x || y) ≡ choose y true x
-unfolding choose
-or-choose true true = refl
-or-choose true false = refl
-or-choose false true = refl
-or-choose false false = refl
 
 module _ (t : List ℕ) (low : ℕ) where
   abbrev step : (ℕ → ℕ) → ℕ → ℕ
@@ -134,7 +98,7 @@ module _ (t : List ℕ) (low : ℕ) where
       rec-rel 0 false step _ (λ k word extends. bitOf word i ≡ extends)
       (λ r g g′ lower other.
       let base = baseOf (form t r) in
-      bit-or i (ofBase 0 g base) (ownBit low r) h
+      bit-or i (ofBase 0 g base) (ownBit low r)
       ∙ ap₂ _||_ (base-rel (λ word extends. bitOf word i ≡ extends) r g g′ (bit-none i) lower other base)
       (own-bit i low r h)
       ∙ or-choose (ofBase false g′ base) (eqb r (low + i)))

@@ -1,16 +1,11 @@
 -- Which types a type extends, as bits of a word.
-use Prim.Native.Nat.{ℕ, _-_, _/_, _%_, _^_}
-use mathlib.Core.Bool.{Bool}
+use Prim.Native.Nat.{ℕ, _-_, _^_}
 use mathlib.Core.List.{List}
 use lib.Bits.{bitOr}
-use lib.Dec.{ltb, eqb}
+use lib.Dec.{ltb}
 use Rattle.prelude.specs.Choice.{choose}
 use Rattle.prelude.specs.Rec.{rec}
 use Rattle.shapes.specs.Forms.{form, baseOf, ofBase}
-
--- bit i of a word
-unfoldable pub bitOf : ℕ → ℕ → Bool
-bitOf word i = eqb (word / 2 ^ i % 2) 1
 
 -- type row r's own bit in a word of 32 whose bit 0 is row `low`, 0 where it has none
 unfoldable pub ownBit : ℕ → ℕ → ℕ

@@ -2,10 +2,11 @@
 ghost use mathlib.Core.Path.{_≡_};
 ghost use Prim.Native.Nat.{_+_, _≤_, _<_};
 ghost use lib.ListN.{length, getD};
+ghost use Rattle.prelude.specs.Bits.{bitOf};
 ghost use Rattle.prelude.specs.Cells.{Filled};
 ghost use Rattle.prelude.specs.Rec.{below};
 ghost use Rattle.shapes.specs.Forms.{form, baseOf, ofBase};
-ghost use Rattle.ancestors.specs.Ancestors.{bitOf, ownBit, wordOf};
+ghost use Rattle.ancestors.specs.Ancestors.{ownBit, wordOf};
 
 // How many type rows there are at most.
 const ROWS: usize = 64;

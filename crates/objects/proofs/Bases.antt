@@ -3,11 +3,12 @@ use mathlib.Core.Path.{_≡_, refl, sym, _∙_, ap}
 use mathlib.Core.Bool.{Bool, true, false}
 use mathlib.Core.List.{List, []}
 use mathlib.Core.Logic.{_⊎_, inl, inr}
-use Prim.Native.Nat.{ℕ, zero, suc, _-_, _<_}
+use Prim.Native.Nat.{ℕ, suc, _-_, _<_}
 use native.Mathlib.Omega.{arith}
 use borrow.Author.Tests.{eqb-true, eqb-false, eq-eqb, ne-eqb}
 use lib.Dec.{eqb}
 use lib.ListN.{getD}
+use Rattle.prelude.specs.Bits.{bitOf}
 use Rattle.prelude.specs.Choice.{choose}
 use Rattle.prelude.proofs.Choice.{choose-yes, choose-no, also-left}
 use Rattle.image.specs.declared.Row.{Row}
@@ -16,7 +17,7 @@ use Rattle.shapes.specs.Forms.{ofBase}
 use Rattle.shapes.specs.Sizes.{fieldsOf}
 use Rattle.shapes.proofs.Rows.{of-base}
 use Rattle.shapes.proofs.Accepted.{Based, Based.no-base, Based.on-base}
-use Rattle.objects.specs.Begins.{partsOf, among, beginsAt}
+use Rattle.objects.specs.Begins.{among, beginsAt}
 use Rattle.objects.specs.declared.Look.{Look}
 use Rattle.objects.specs.declared.Look.the-variants as Ls
 use Rattle.objects.specs.Looking.{held, Typed, Edges, toldBy, saidOfBase, lookInBase, Looks}
@@ -27,22 +28,22 @@ use Rattle.objects.proofs.Deciding.{part-record, by-parts, by-inner}
 
 -- ---- what a table says of a base, case by case
 
-module _ (s : List Bool) (w a : ℕ) where
+module _ (s : List ℕ) (w a : ℕ) where
   pub said-none : a ≡ 0 → false ≡ saidOfBase s w a
   unfolding saidOfBase ofBase
   said-none e = rw e
 
-  said-some : 0 < a → saidOfBase s w a ≡ choose (eqb (a - 1) w) false (getD s (a - 1) false)
+  pub said-some : 0 < a → saidOfBase s w a ≡ choose (eqb (a - 1) w) false (bitOf (getD s (a - 1) 0) w)
   unfolding saidOfBase
-  said-some some = of-base false (λ u. choose (eqb u w) false (getD s u false)) a some
+  said-some some = of-base false (λ u. choose (eqb u w) false (bitOf (getD s u 0) w)) a some
 
   pub said-itself : 0 < a → a - 1 ≡ w → false ≡ saidOfBase s w a
   said-itself some e = sym (said-some some ∙ choose-yes _ _ _ (eq-eqb _ w e))
 
-  pub said-other : 0 < a → (a - 1 ≡ w → ⊥) → {x : Bool} → x ≡ getD s (a - 1) false → x ≡ saidOfBase s w a
+  pub said-other : 0 < a → (a - 1 ≡ w → ⊥) → {x : Bool} → x ≡ bitOf (getD s (a - 1) 0) w → x ≡ saidOfBase s w a
   said-other some other e = e ∙ sym (said-some some ∙ choose-no _ _ _ (ne-eqb _ w other))
 
-module _ (starts : List Bool) (w a o : ℕ) where
+module _ (starts : List ℕ) (w a o : ℕ) where
   pub look-first : o ≡ 0 → {b : Bool} {x : Look} → b ≡ saidOfBase starts w a → x ≡ toldBy b → x ≡ lookInBase starts w a o
   unfolding lookInBase
   look-first e said told = told ∙ ap toldBy said ∙ sym (choose-yes _ _ _ (eq-eqb o 0 e))
@@ -61,14 +62,14 @@ module _ {t f plan : List ℕ} (typed : Typed t f plan) (w : ℕ) where
   fields-by b low kind o (inr some) =
       by-inner typed w b low o some ∙ sym (part-record typed b low refl (beginsAt t f w) o kind)
 
-  said-is : {r a : ℕ} → r < rowsOf t → Based t r a → (s : List Bool) (o : ℕ)
-      → ((u : ℕ) → u < r → a ≡ suc u → getD s u false ≡ beginsAt t f w u o)
+  said-is : {r a : ℕ} → r < rowsOf t → Based t r a → (s : List ℕ) (o : ℕ)
+      → ((u : ℕ) → u < r → a ≡ suc u → bitOf (getD s u 0) w ≡ beginsAt t f w u o)
       → saidOfBase s w a ≡ among (beginsAt t f w) (held plan) (ofBase [] (fieldsOf t f) a) o
   unfolding saidOfBase ofBase among
   said-is low no-base s o table = refl
   said-is low (on-base {b = b} l kind) s o table = go (eqb b w) refl
     where
-      go : (e : Bool) → eqb b w ≡ e → choose (eqb b w) false (getD s b false)
+      go : (e : Bool) → eqb b w ≡ e → choose (eqb b w) false (bitOf (getD s b 0) w)
           ≡ among (beginsAt t f w) (held plan) (fieldsOf t f b) o
       go true e =
           let same : b ≡ w = eqb-true b w e in
@@ -80,14 +81,14 @@ module _ {t f plan : List ℕ} (typed : Typed t f plan) (w : ℕ) where
   -- ---- in the record in row r
 
   module _ (r : ℕ) (low : r < rowsOf t) (kind : rowAt t r .kind ≡ 4) {row : Row} (this : row ≡ rowAt t r)
-      {starts ends : List Bool} (edges : Edges (beginsAt t f w) (held plan) r starts ends) (o : ℕ) where
+      {starts ends : List ℕ} (edges : Edges (beginsAt t f w) (held plan) w r starts ends) (o : ℕ) where
     abbrev inner : Bool
     inner = among (beginsAt t f w) (held plan) (ofBase [] (fieldsOf t f) (row .a)) o
 
     based : Based t r (row .a)
     based = on typed r low kind this
 
-    said-start : o ≡ 0 → saidOfBase starts w (row .a) ≡ inner
+    pub said-start : o ≡ 0 → saidOfBase starts w (row .a) ≡ inner
     said-start first = said-is low based starts o (λ u l e. edges .start u l ∙ rw first)
 
     pub said-end : o ≡ ofBase 0 (held plan) (row .a) → saidOfBase ends w (row .a) ≡ inner

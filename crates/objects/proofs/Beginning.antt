@@ -95,7 +95,7 @@ module _ (t f : List ℕ) (kept : TypesKept t f) where
 
   -- ---- the parts have no more cells than the whole
 
-  array-size : (r : ℕ) → r < rowsOf t → rowAt t r .kind ≡ 3 → sizeOf t f r ≡ rowAt t r .b * sizeOf t f (rowAt t r .a)
+  pub array-size : (r : ℕ) → r < rowsOf t → rowAt t r .kind ≡ 3 → sizeOf t f r ≡ rowAt t r .b * sizeOf t f (rowAt t r .a)
   unfolding form sizeBy
   array-size r low kind = size-is t f r (kept .row r low .shape) ∙ rw (form-array (rowAt t r) kind)
 

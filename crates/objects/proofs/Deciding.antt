@@ -4,24 +4,31 @@ use mathlib.Core.Bool.{Bool, true, false}
 use mathlib.Core.List.{List}
 use Prim.Native.Nat.{ℕ, _+_, _≤_, _<_}
 use native.Mathlib.Omega.{arith}
-use native.Mathlib.Decide.{decLt}
 use borrow.Author.Tests.{ne-eqb}
 use lib.Dec.{eqb}
-use lib.ListN.{length, getD, set, length-set, replicate}
-use lib.Seq.{getD-set-same, getD-set-other}
-use Rattle.prelude.specs.Choice.{_also_}
-use Rattle.prelude.proofs.Choice.{choose-yes, choose-no, also-right}
+use lib.ListN.{set, length-set, replicate}
+use lib.Seq.{getD-set-other}
+use Rattle.prelude.specs.Choice.{choose, _also_}
+use Rattle.prelude.proofs.Choice.{choose-no, also-right}
 use Rattle.image.specs.declared.Row.{Row}
 use Rattle.image.specs.Rows.{rowAt, rowsOf}
 use Rattle.shapes.specs.Sizes.{fieldsOf}
 use Rattle.relations.proofs.Fielding.{no-fields}
 use Rattle.objects.specs.Begins.{partsOf, among, beginsAt}
-use Rattle.objects.specs.Looking.{held, Typed, Edges, Beyond}
-use Rattle.objects.proofs.Beginning.{array-row, array-parts, other-parts, begins-eq, begins-past}
-use Rattle.objects.proofs.Records.{kept, held-size, by-plan}
+use Rattle.objects.specs.Looking.{held, Typed, Beyond}
+use Rattle.objects.specs.Tables.{ROWS}
+use Rattle.objects.proofs.Beginning.{array-row, array-parts, other-parts, begins-eq}
+use Rattle.objects.proofs.Records.{kept, by-plan}
 
 module _ {t f plan : List ℕ} (typed : Typed t f plan) where
   -- ---- parts by the kind
+
+  pub element-few : (r : ℕ) → r < rowsOf t → {row : Row} → row ≡ rowAt t r → row .kind ≡ 3 → row .a < ROWS
+  element-few r low this kind =
+      let is = array-row t f (kept typed) r low (rw (← this) kind) in
+      let few = typed .few in
+      let less : rowAt t r .a < ROWS = omega (arith, is .low) in
+      rw this less
 
   module _ (r : ℕ) (low : r < rowsOf t) {row : Row} (this : row ≡ rowAt t r) (deeper : ℕ → ℕ → Bool) (o : ℕ) where
     pub part-array : row .kind ≡ 3 → (row .a < r) × (1 ≤ row .b)
@@ -48,59 +55,30 @@ module _ {t f plan : List ℕ} (typed : Typed t f plan) where
   -- ---- the test by the parts
 
   module _ (w r : ℕ) (low : r < rowsOf t) (o : ℕ) where
+    pub begins-by : beginsAt t f w r o
+        ≡ choose (eqb r w also eqb o 0) true (among (beginsAt t f w) (held plan) (partsOf t f r) o)
+    begins-by =
+        begins-eq t f (kept typed) w r o low
+        ∙ ap (λ b. choose (eqb r w also eqb o 0) true b) (sym (by-plan typed (beginsAt t f w) r o low))
+
     pub by-parts : (eqb r w also eqb o 0) ≡ false
         → beginsAt t f w r o ≡ among (beginsAt t f w) (held plan) (partsOf t f r) o
-    by-parts other =
-        begins-eq t f (kept typed) w r o low ∙ choose-no _ _ _ other ∙ sym (by-plan typed (beginsAt t f w) r o low)
+    by-parts other = begins-by ∙ choose-no _ _ _ other
 
     pub by-inner : (o ≡ 0 → ⊥) → beginsAt t f w r o ≡ among (beginsAt t f w) (held plan) (partsOf t f r) o
     by-inner some = by-parts (also-right (eqb r w) (ne-eqb o 0 some))
 
-    pub by-itself : (eqb r w also eqb o 0) ≡ true → beginsAt t f w r o ≡ true
-    by-itself this = begins-eq t f (kept typed) w r o low ∙ choose-yes _ _ _ this
-
-  -- ---- tables with a row more
-
-  pub edges-none : (w : ℕ) (starts ends : List Bool) → Edges (beginsAt t f w) (held plan) 0 starts ends
-  edges-none w starts ends = record {
-    start = λ u l. absurd (omega arith);
-    end = λ u l. absurd (omega arith);
-    past = λ u o l. absurd (omega arith);
-  }
-
-  pub edges-more : (w : ℕ) {r : ℕ} {starts ends : List Bool} → r < rowsOf t → r < length starts → r < length ends
-      → Edges (beginsAt t f w) (held plan) r starts ends → {x y : Bool} {room : ℕ} → room ≡ held plan r
-      → x ≡ beginsAt t f w r 0 → y ≡ beginsAt t f w r room
-      → Edges (beginsAt t f w) (held plan) (r + 1) (set starts r x) (set ends r y)
-  edges-more w {r} {starts} {ends} low a b edges {x} {y} {room} is p q = record {
-    start = λ u l. first u l (decLt u r);
-    end = λ u l. last u l (decLt u r);
-    past = λ u o l m. begins-past t f (kept typed) w u o (omega arith) (rw (← held-size typed u (omega arith)) m);
-  }
-    where
-      first : (u : ℕ) → u < r + 1 → Dec (u < r) → getD (set starts r x) u false ≡ beginsAt t f w u 0
-      first u l (yes k) = getD-set-other starts r u x false (omega arith) ∙ edges .start u k
-      first u l (no k) =
-          let same : u ≡ r = omega arith in
-          rw same (getD-set-same starts r x false a ∙ p)
-
-      last : (u : ℕ) → u < r + 1 → Dec (u < r) → getD (set ends r y) u false ≡ beginsAt t f w u (held plan u)
-      last u l (yes k) = getD-set-other ends r u y false (omega arith) ∙ edges .end u k
-      last u l (no k) =
-          let same : u ≡ r = omega arith in
-          rw (same, ← is) (getD-set-same ends r y false b ∙ q)
-
 -- ---- what is not written
 
-pub beyond-none : (table : List Bool) → Beyond 0 table table
+pub beyond-none : (table : List ℕ) → Beyond 0 table table
 beyond-none table = record { cells = refl; rest = λ i h. refl }
 
 -- row m is written
-pub beyond-next : {m : ℕ} {old table : List Bool} (b : Bool) → Beyond m old table → Beyond (m + 1) old (set table m b)
-beyond-next {m} {old} {table} b same = record {
-  cells = length-set table m b ∙ same .cells;
-  rest = λ i h. getD-set-other table m i b false (omega arith) ∙ same .rest i (omega arith);
+pub beyond-next : {m : ℕ} {old table : List ℕ} (word : ℕ) → Beyond m old table → Beyond (m + 1) old (set table m word)
+beyond-next {m} {old} {table} word same = record {
+  cells = length-set table m word ∙ same .cells;
+  rest = λ i h. getD-set-other table m i word 0 (omega arith) ∙ same .rest i (omega arith);
 }
 
-pub beyond-more : {m n : ℕ} {old table : List Bool} → m ≤ n → Beyond m old table → Beyond n old table
+pub beyond-more : {m n : ℕ} {old table : List ℕ} → m ≤ n → Beyond m old table → Beyond n old table
 beyond-more le same = record { cells = same .cells; rest = λ i h. same .rest i (omega (arith, le)) }

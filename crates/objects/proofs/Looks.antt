@@ -9,6 +9,7 @@ use native.Mathlib.Omega.{arith}
 use denote.Enum.Declared.{tagOf}
 use types.Run.{OneOf}
 use lib.ListN.{getD, replicate}
+use Rattle.prelude.specs.Bits.{bitOf}
 use Rattle.prelude.proofs.Parts.{nth-replicate}
 use Rattle.image.specs.Rows.{rowAt}
 use Rattle.shapes.specs.Forms.{ownTypes}
@@ -77,8 +78,8 @@ settled-no (Ls.Inside u o) h = refl
 
 -- ---- edges
 
-pub edges-less : {deeper : ℕ → ℕ → Bool} {size : ℕ → ℕ} {k m : ℕ} {starts ends : List Bool} → k ≤ m
-    → Edges deeper size m starts ends → Edges deeper size k starts ends
+pub edges-less : {deeper : ℕ → ℕ → Bool} {size : ℕ → ℕ} {w k m : ℕ} {starts ends : List ℕ} → k ≤ m
+    → Edges deeper size w m starts ends → Edges deeper size w k starts ends
 edges-less low h = record {
   start = λ u l. h .start u (omega arith);
   end = λ u l. h .end u (omega arith);
@@ -96,8 +97,8 @@ lows-more low h = record {
   each = λ i least more. let l = h .each i least more in omega arith;
 }
 
-module _ {deeper : ℕ → ℕ → Bool} {size : ℕ → ℕ} {m : ℕ} {starts ends : List Bool} {f : List ℕ} {k e : ℕ}
-    (edges : Edges deeper size m starts ends) (lows : LowTypes f k e m) {j : ℕ} (least : k ≤ j) (more : j < e)
+module _ {deeper : ℕ → ℕ → Bool} {size : ℕ → ℕ} {w m : ℕ} {starts ends : List ℕ} {f : List ℕ} {k e : ℕ}
+    (edges : Edges deeper size w m starts ends) (lows : LowTypes f k e m) {j : ℕ} (least : k ≤ j) (more : j < e)
     {u : ℕ} (this : u ≡ rowAt f j .a) where
   pub turn-low : u < m
   turn-low = rw this (lows .each j least more)
@@ -128,7 +129,7 @@ module _ {deeper : ℕ → ℕ → Bool} {size : ℕ → ℕ} {m : ℕ} {starts 
     turn-next h = turn-past (edges .past u rest turn-low (rw is at h)) (omega arith)
 
     -- at its end
-    module _ (last : rest ≡ room) {x : Bool} (mark : x ≡ getD ends u false) where
+    module _ (last : rest ≡ room) {x : Bool} (mark : x ≡ bitOf (getD ends u 0) w) where
       end-deeper : deeper u rest ≡ x
       end-deeper = ap (λ o. deeper u o) (last ∙ is) ∙ sym (mark ∙ edges .end u turn-low)
 
@@ -141,7 +142,7 @@ module _ {deeper : ℕ → ℕ → Bool} {size : ℕ → ℕ} {m : ℕ} {starts 
           turn-past (end-deeper ∙ q) (omega arith) ∙ ap (λ o. later o) none
 
   -- at its start
-  module _ {x : Bool} (mark : x ≡ getD starts u false) where
+  module _ {x : Bool} (mark : x ≡ bitOf (getD starts u 0) w) where
     first-deeper : deeper u 0 ≡ x
     first-deeper = sym (mark ∙ edges .start u turn-low)
 
@@ -164,8 +165,8 @@ scan-end deeper size f j e o h = rw (own-end f j e h)
 
 -- ---- elements
 
-module _ {deeper : ℕ → ℕ → Bool} {size : ℕ → ℕ} {m : ℕ} {starts ends : List Bool}
-    (edges : Edges deeper size m starts ends) {e : ℕ} (low : e < m) (n i : ℕ) where
+module _ {deeper : ℕ → ℕ → Bool} {size : ℕ → ℕ} {w m : ℕ} {starts ends : List ℕ}
+    (edges : Edges deeper size w m starts ends) {e : ℕ} (low : e < m) (n i : ℕ) where
   abbrev many : ℕ → Bool
   many o = among deeper size (replicate n e) o
 
@@ -192,25 +193,25 @@ module _ {deeper : ℕ → ℕ → Bool} {size : ℕ → ℕ} {m : ℕ} {starts 
   between-none some a b = many-none deeper size e past n i some a b
 
   -- what the code answers
-  pub between-start : 0 < size e → 1 ≤ n → i ≡ 0 → {x : Bool} → x ≡ getD starts e false → x ≡ many (i * size e)
+  pub between-start : 0 < size e → 1 ≤ n → i ≡ 0 → {x : Bool} → x ≡ bitOf (getD starts e 0) w → x ≡ many (i * size e)
   between-start some least first {x} h = go x refl
     where
       go : (b : Bool) → x ≡ b → x ≡ many (i * size e)
       go true q = q ∙ sym (between-first (omega arith) (sym (edges .start e low) ∙ sym h ∙ q))
       go false q = q ∙ sym (between-none some (λ l. sym (edges .start e low) ∙ sym h ∙ q) (λ l. absurd (omega arith)))
 
-  pub between-end : 0 < size e → 0 < i → i ≡ n → {x : Bool} → x ≡ getD ends e false → x ≡ many (i * size e)
+  pub between-end : 0 < size e → 0 < i → i ≡ n → {x : Bool} → x ≡ bitOf (getD ends e 0) w → x ≡ many (i * size e)
   between-end some more last {x} h = go x refl
     where
       go : (b : Bool) → x ≡ b → x ≡ many (i * size e)
       go true q = q ∙ sym (between-last more (omega arith) (sym (edges .end e low) ∙ sym h ∙ q))
       go false q = q ∙ sym (between-none some (λ l. absurd (omega arith)) (λ l. sym (edges .end e low) ∙ sym h ∙ q))
 
-  module _ {y : Bool} (start : y ≡ getD starts e false) where
+  module _ {y : Bool} (start : y ≡ bitOf (getD starts e 0) w) where
     pub between-yes : y ≡ true → i < n → true ≡ many (i * size e)
     between-yes first h = sym (between-first h (sym (edges .start e low) ∙ sym start ∙ first))
 
-    pub between-both : y ≡ false → 0 < size e → 0 < i → i ≤ n → {x : Bool} → x ≡ getD ends e false
+    pub between-both : y ≡ false → 0 < size e → 0 < i → i ≤ n → {x : Bool} → x ≡ bitOf (getD ends e 0) w
         → x ≡ many (i * size e)
     between-both first some more within {x} h = go x refl
       where
@@ -226,8 +227,8 @@ module _ {deeper : ℕ → ℕ → Bool} {size : ℕ → ℕ} {m : ℕ} {starts 
       (λ k u x y l. let same = nth-many n e y in rw same (past x (rw same at l)))
       (rw (many-size size e n) h)
 
-module _ {deeper : ℕ → ℕ → Bool} {size : ℕ → ℕ} {m : ℕ} {starts ends : List Bool}
-    (edges : Edges deeper size m starts ends) {e : ℕ} (low : e < m) (n : ℕ) {room o : ℕ} (is : room ≡ size e) where
+module _ {deeper : ℕ → ℕ → Bool} {size : ℕ → ℕ} {w m : ℕ} {starts ends : List ℕ}
+    (edges : Edges deeper size w m starts ends) {e : ℕ} (low : e < m) (n : ℕ) {room o : ℕ} (is : room ≡ size e) where
   -- elements without cells
   pub none-past : room ≡ 0 → 0 < o → among deeper size (replicate n e) o ≡ false
   none-past none some =
@@ -235,7 +236,7 @@ module _ {deeper : ℕ → ℕ → Bool} {size : ℕ → ℕ} {m : ℕ} {starts 
       let q : n * size e ≡ 0 = rw no-cells (mul-zero n) in
       elements-past edges low n 0 o (omega arith)
 
-  pub none-first : room ≡ 0 → o ≡ 0 → 1 ≤ n → {x : Bool} → x ≡ getD starts e false
+  pub none-first : room ≡ 0 → o ≡ 0 → 1 ≤ n → {x : Bool} → x ≡ bitOf (getD starts e 0) w
       → x ≡ among deeper size (replicate n e) o
   none-first none first least {x} h = go x refl n least
     where

@@ -18,9 +18,10 @@ use Rattle.shapes.specs.Sizes.{sizeOf, fieldsOf}
 use Rattle.shapes.proofs.Rows.{less-one}
 use Rattle.shapes.proofs.Accepted.{Based, Based.no-base, Based.on-base, TypesKept, field-low}
 use Rattle.types.proofs.Accepted.{types-kept}
-use Rattle.relations.proofs.Fielding.{fields-of, base-size}
+use Rattle.relations.proofs.Fielding.{fields-of, size-fields}
 use Rattle.objects.specs.Begins.{partsOf, among}
 use Rattle.objects.specs.Looking.{held, Typed, Edges, LowTypes}
+use Rattle.objects.specs.Tables.{ROWS}
 use Rattle.objects.proofs.Following.{first-alone, among-append, among-past, among-agree}
 use Rattle.objects.proofs.Looks.{lows-more}
 use Rattle.objects.proofs.Beginning.{record-row, fields-low, based-low, parts-low}
@@ -54,13 +55,16 @@ module _ {t f plan : List ℕ} (typed : Typed t f plan) where
       among-agree deeper deeper (held plan) (sizeOf t f) (partsOf t f r) o
       (λ n u h. (λ x. refl, held-size u (let l = parts-low t f kept r low h in omega arith)))
 
+  pub fields-held : (r : ℕ) → r < rowsOf t → rowAt t r .kind ≡ 4 → sum (map (held plan) (fieldsOf t f r)) ≡ held plan r
+  fields-held r low kind =
+      ap sum (map-agree (held plan) (sizeOf t f) (fieldsOf t f r)
+      (λ n u h. held-size u (let k = fields-low t f kept r low h in omega arith)))
+      ∙ size-fields t f kept r low kind ∙ sym (held-size r low)
+
   base-held : {r a : ℕ} → r < rowsOf t → Based t r a
       → sum (map (held plan) (ofBase [] (fieldsOf t f) a)) ≡ ofBase 0 (held plan) a
   base-held low no-base = unfold ofBase sum in refl
-  base-held {r} low (on-base {b = b} l kind) = unfold ofBase in (
-      ap sum (map-agree (held plan) (sizeOf t f) (fieldsOf t f b)
-      (λ n u h. held-size u (let k = fields-low t f kept b (omega arith) h in omega arith)))
-      ∙ base-size t f kept {r = r} low (on-base l kind) ∙ sym (held-size b (omega arith)))
+  base-held low (on-base {b = b} l kind) = unfold ofBase in (fields-held b (omega arith) kind)
 
   -- ---- the record in row `at`
 
@@ -79,6 +83,16 @@ module _ {t f plan : List ℕ} (typed : Typed t f plan) where
     pub own-room : LowTypes f (row .b) (row .b + row .c) (length plan)
     own-room = lows-more (let few = typed .room in omega arith) own-low
 
+    pub own-few : LowTypes f (row .b) (row .b + row .c) ROWS
+    own-few = lows-more (let few = typed .few in omega arith) own-low
+
+    pub base-few : row .a ≤ ROWS
+    base-few = go (row .a) on
+      where
+        go : (a : ℕ) → Based t at a → a ≤ ROWS
+        go zero b = omega arith
+        go (suc k) (on-base l kind) = let few = typed .few in omega arith
+
     pub base-lower : 0 < row .a → (row .a - 1 < at) × (rowAt t (row .a - 1) .kind ≡ 4)
     base-lower h = go (row .a) on h
       where
@@ -86,8 +100,15 @@ module _ {t f plan : List ℕ} (typed : Typed t f plan) where
         go zero b h = absurd (omega arith)
         go (suc k) (on-base l kind) h = (omega arith, rw (less-one k) kind)
 
-    whole : fieldsOf t f at ≡ ofBase [] (fieldsOf t f) (row .a) ++ ownTypes f (row .b) (row .c)
+    pub whole : fieldsOf t f at ≡ ofBase [] (fieldsOf t f) (row .a) ++ ownTypes f (row .b) (row .c)
     whole = rw this (fields-of t f kept at low kind)
+
+    base-cells : sum (map (held plan) (ofBase [] (fieldsOf t f) (row .a))) ≡ ofBase 0 (held plan) (row .a)
+    base-cells = base-held low on
+
+    pub base-cells-is : {before : ℕ} → before ≡ ofBase 0 (held plan) (row .a)
+        → sum (map (held plan) (ofBase [] (fieldsOf t f) (row .a))) ≡ before
+    base-cells-is is = base-cells ∙ sym is
 
     inner-low : {n u : ℕ} → Nth (ofBase [] (fieldsOf t f) (row .a)) n u → u < at
     inner-low h = based-low t f kept on (λ b m v l x. fields-low t f kept b (omega arith) x) h
@@ -101,19 +122,20 @@ module _ {t f plan : List ℕ} (typed : Typed t f plan) where
 
       split : among deeper (held plan) (fieldsOf t f at) o ≡ choose inner true (choose (leb before o) (own (o - before)) false)
       split =
-          let size = base-held low on in
+          let size = base-cells in
           ap (λ l. among deeper (held plan) l o) whole
           ∙ among-append deeper (held plan) (ofBase [] (fieldsOf t f) (row .a)) (ownTypes f (row .b) (row .c)) o
           ∙ rw (size, is, add-sub-cancel-left (row .b) (row .c))
 
       -- behind the base
-      pub record-own : {starts ends : List Bool} → Edges deeper (held plan) at starts ends → before < o
-          → own (o - before) ≡ among deeper (held plan) (fieldsOf t f at) o
-      record-own edges h =
-          sym (split
-          ∙ choose-no _ _ _ (among-past deeper (held plan) (ofBase [] (fieldsOf t f) (row .a)) o
-          (λ n u x y l. edges .past u x (inner-low y) l) (rw (base-held low on, ← is) h))
-          ∙ choose-yes _ _ _ (le-leb before o (omega arith)))
+      module _ {w : ℕ} {starts ends : List ℕ} (edges : Edges deeper (held plan) w at starts ends) (h : before < o) where
+        pub record-past : inner ≡ false
+        record-past =
+            among-past deeper (held plan) (ofBase [] (fieldsOf t f) (row .a)) o
+            (λ n u x y l. edges .past u x (inner-low y) l) (rw (base-cells, ← is) h)
+
+        pub record-own : own (o - before) ≡ among deeper (held plan) (fieldsOf t f at) o
+        record-own = sym (split ∙ choose-no _ _ _ record-past ∙ choose-yes _ _ _ (le-leb before o (omega arith)))
 
       -- in the base
       pub record-in : o < before → inner ≡ among deeper (held plan) (fieldsOf t f at) o

@@ -5,6 +5,7 @@ use mathlib.Core.Bool.{Bool, true, false}
 use mathlib.Core.List.{List}
 use lib.Dec.{eqb}
 use lib.ListN.{length, getD}
+use Rattle.prelude.specs.Bits.{bitOf}
 use Rattle.prelude.specs.Choice.{choose}
 use Rattle.image.specs.declared.Verdict.the-variants.{Kept}
 use Rattle.image.specs.Rows.{rowAt, rowsOf}
@@ -27,17 +28,23 @@ pub record Typed (t f plan : List ℕ) : Type 0 where
   pub room : rowsOf t ≤ length plan
   pub size : (r : ℕ) → r < rowsOf t → getD plan r 0 ≡ sizeOf t f r
 
--- two tables say of the types below row m what `deeper` says at the start and at the end of each; behind the end it
--- says no
-pub record Edges (deeper : ℕ → ℕ → Bool) (size : ℕ → ℕ) (m : ℕ) (starts ends : List Bool) : Type 0 where
-  pub start : (u : ℕ) → u < m → getD starts u false ≡ deeper u 0
-  pub end : (u : ℕ) → u < m → getD ends u false ≡ deeper u (size u)
+-- two tables say in bit w, of the types below row m, what `deeper` says at the start and at the end of each; behind the
+-- end it says no
+pub record Edges (deeper : ℕ → ℕ → Bool) (size : ℕ → ℕ) (w m : ℕ) (starts ends : List ℕ) : Type 0 where
+  pub start : (u : ℕ) → u < m → bitOf (getD starts u 0) w ≡ deeper u 0
+  pub end : (u : ℕ) → u < m → bitOf (getD ends u 0) w ≡ deeper u (size u)
   pub past : (u o : ℕ) → u < m → size u < o → deeper u o ≡ false
 
+-- two words say in bit w what a test says at the start and at the end of n cells; behind the end it says no
+pub record AtEdges (test : ℕ → Bool) (n w first last : ℕ) : Type 0 where
+  pub start : bitOf first w ≡ test 0
+  pub end : bitOf last w ≡ test n
+  pub past : (o : ℕ) → n < o → test o ≡ false
+
 -- a table is as it was from row m on
-pub record Beyond (m : ℕ) (old table : List Bool) : Type 0 where
+pub record Beyond (m : ℕ) (old table : List ℕ) : Type 0 where
   pub cells : length table ≡ length old
-  pub rest : (i : ℕ) → m ≤ i → getD table i false ≡ getD old i false
+  pub rest : (i : ℕ) → m ≤ i → getD table i 0 ≡ getD old i 0
 
 -- rows k to e of the field table have types below row m
 pub record LowTypes (f : List ℕ) (k e m : ℕ) : Type 0 where
@@ -52,11 +59,11 @@ toldBy true = Ls.Yes
 toldBy false = Ls.No
 
 -- what a table of type w says of a record's base, whose row plus 1 is a
-unfoldable pub saidOfBase : List Bool → ℕ → ℕ → Bool
-saidOfBase s w a = ofBase false (λ u. choose (eqb u w) false (getD s u false)) a
+unfoldable pub saidOfBase : List ℕ → ℕ → ℕ → Bool
+saidOfBase s w a = ofBase false (λ u. choose (eqb u w) false (bitOf (getD s u 0) w)) a
 
 -- a look into the base, before its end
-unfoldable pub lookInBase : List Bool → ℕ → ℕ → ℕ → Look
+unfoldable pub lookInBase : List ℕ → ℕ → ℕ → ℕ → Look
 lookInBase starts w a o = choose (eqb o 0) (toldBy (saidOfBase starts w a)) (Ls.Inside (a - 1) o)
 
 -- the answer that a look comes to, where `deeper` says what begins in the part that it leads to

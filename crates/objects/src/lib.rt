@@ -1,26 +1,37 @@
-// Where objects begin within others. Two lent tables say of each type that is looked for, and each type row, whether one
-// declared with that type begins at the start of that row's objects, and at their end. So a look at a type's parts
-// settles the answer, or leads to one part: what begins there is the answer. Contracts of looks say it for any test
-// `deeper` of which the tables are the edges.
+// Where objects begin within others. Two lent tables have a word for each type row, of a bit for each type that is
+// looked for: whether an object declared with it begins at the start of that row's objects, and at their end. A row's
+// words are put together from those of its parts, which stand in lower rows. By them a look at a type's parts settles
+// the answer, or leads to one part: what begins there is the answer. Contracts of looks say it for any test `deeper` of
+// which the tables are the edges.
 ghost use mathlib.Core.Path.{_≡_};
 ghost use mathlib.Core.Bool.{Bool, false};
-ghost use mathlib.Core.List.{List};
-ghost use Prim.Native.Nat.{ℕ, _-_, _*_, _≤_, _<_};
-ghost use lib.Dec.{leb, eqb};
-ghost use lib.ListN.{length, getD, drop, replicate};
-ghost use Rattle.prelude.specs.Choice.{choose, _also_};
+ghost use mathlib.Core.List.{List, _++_, map};
+ghost use Prim.Native.Nat.{ℕ, _+_, _-_, _*_, _≤_, _<_};
+ghost use lib.Bits.{bitOr};
+ghost use lib.Dec.{eqb};
+ghost use lib.ListN.{length, getD, replicate};
+ghost use Rattle.prelude.specs.Bits.{bitOf};
+ghost use Rattle.prelude.specs.Choice.{choose};
+ghost use Rattle.prelude.specs.Parts.{sum};
 ghost use Rattle.image.specs.Rows.{rowAt, rowsOf};
 ghost use Rattle.shapes.specs.Forms.{ownTypes};
 ghost use Rattle.shapes.specs.Sizes.{fieldsOf};
 ghost use Rattle.objects.specs.Begins.{partsOf, among as amongOf, beginsAt};
-ghost use Rattle.objects.specs.Looking.{held, Typed, Edges, Beyond, LowTypes, toldBy, settled, Looks};
+ghost use Rattle.objects.specs.Looking.{held, Typed, Edges, AtEdges, Beyond, LowTypes, toldBy, settled, Looks};
 ghost use Rattle.objects.specs.Looking.{saidOfBase, lookInBase};
-ghost use Rattle.objects.specs.Tables.{ROWS, TABLE, AllEdges, Besides};
+ghost use Rattle.objects.specs.Tables.{ROWS, AllEdges};
 
-// How many places a table has for each type that is looked for, and in all.
-const ROWS: usize = 64;
+// How many types there are at most: a table has a word for each, and a word a bit for each.
+pub const ROWS: usize = 64;
 
-pub const TABLE: usize = ROWS * ROWS;
+// What begins at an edge of each type, in words: bit w of word r is of type w at that edge of type row r's objects.
+pub type Words = [u64; ROWS];
+
+// The words of one row.
+pub struct EdgeWords {
+    pub starts: u64,
+    pub ends: u64,
+}
 
 // What a look at the parts of an object settles: one begins there, none does, or the answer is that of a part of this
 // type, so many cells into it.
@@ -30,15 +41,12 @@ pub enum Look {
     Inside(usize, u32),
 }
 
-// What a table says of type row i: no past its end.
-fn marked(s: &[bool], i: u16) -> bool
-    ensures { λ x. ⌜ x ≡ getD (now (s .entry)) i false ⌝ }
+// What a table says of type w, and type row i.
+pub fn marked(s: &Words, w: u16, i: u16) -> bool
+    requires { ⌜ (w < ROWS) × (i < ROWS) ⌝ }
+    ensures { λ x. ⌜ x ≡ bitOf (getD (now (s .entry)) i 0) w ⌝ }
 {
-    let at = i as usize;
-    if at < s.len() {
-        return s[at];
-    }
-    false
+    (s[i as usize] >> (w as u64)) % 2 == 1
 }
 
 // A look that leads nowhere.
@@ -51,26 +59,18 @@ fn told(b: bool) -> Look
     Look::No
 }
 
-// The type of the field in row j.
-fn field_type(f: &[u8], j: usize) -> u16
-    requires { ⌜ j < rowsOf (now f) ⌝ }
-    ensures { λ x. ⌜ x ≡ rowAt (now (f .entry)) j .a ⌝ }
-{
-    image::number_at(f, j * 8 + 2)
-}
-
 // Whether one begins where the fields in rows k to e start.
-fn among_first(f: &[u8], plan: &[u32], starts: &[bool], k: usize, e: usize) -> bool
-    requires { ⌜ LowTypes (now f) k e (length (now plan)) ⌝ }
-    ensures { λ x. ⌜ ((deeper : ℕ → ℕ → Bool) (m : ℕ) (ends : List Bool)
-        → Edges deeper (held (now (plan .entry))) m (now (starts .entry)) ends
+fn among_first(f: &[u8], plan: &[u32], starts: &Words, w: u16, k: usize, e: usize) -> bool
+    requires { ⌜ LowTypes (now f) k e (length (now plan)) × LowTypes (now f) k e ROWS × (w < ROWS) ⌝ }
+    ensures { λ x. ⌜ ((deeper : ℕ → ℕ → Bool) (m : ℕ) (ends : List ℕ)
+        → Edges deeper (held (now (plan .entry))) w m (now (starts .entry)) ends
         → LowTypes (now (f .entry)) k e m
         → x ≡ amongOf deeper (held (now (plan .entry))) (ownTypes (now (f .entry)) k (e - k)) 0) ⌝ }
 {
     let mut j = k;
     while j < e {
-        let u = field_type(f, j);
-        if marked(starts, u) {
+        let u = image::a_at(f, j);
+        if marked(starts, w, u) {
             return true;
         }
         let size = plan[u as usize];
@@ -83,27 +83,36 @@ fn among_first(f: &[u8], plan: &[u32], starts: &[bool], k: usize, e: usize) -> b
 }
 
 // A look o cells into the fields in rows k to e, behind their start.
-fn among(f: &[u8], plan: &[u32], starts: &[bool], ends: &[bool], k: usize, e: usize, o: u32) -> Look
-    requires { ⌜ LowTypes (now f) k e (length (now plan)) × (0 < o) ⌝ }
+fn among(
+    f: &[u8],
+    plan: &[u32],
+    starts: &Words,
+    ends: &Words,
+    w: u16,
+    k: usize,
+    e: usize,
+    o: u32,
+) -> Look
+    requires { ⌜ LowTypes (now f) k e (length (now plan)) × LowTypes (now f) k e ROWS × (w < ROWS) × (0 < o) ⌝ }
     ensures { λ x. ⌜ ((deeper : ℕ → ℕ → Bool) (m : ℕ)
-        → Edges deeper (held (now (plan .entry))) m (now (starts .entry)) (now (ends .entry))
+        → Edges deeper (held (now (plan .entry))) w m (now (starts .entry)) (now (ends .entry))
         → LowTypes (now (f .entry)) k e m
         → Looks deeper m x (amongOf deeper (held (now (plan .entry))) (ownTypes (now (f .entry)) k (e - k)) o)) ⌝ }
 {
     let mut j = k;
     let mut rest = o;
     while j < e {
-        let u = field_type(f, j);
+        let u = image::a_at(f, j);
         let size = plan[u as usize];
         if rest < size {
             return Look::Inside(u as usize, rest);
         }
         j = j + 1;
         if rest == size {
-            if marked(ends, u) {
+            if marked(ends, w, u) {
                 return Look::Yes;
             }
-            return told(among_first(f, plan, starts, j, e));
+            return told(among_first(f, plan, starts, w, j, e));
         }
         rest = rest - size;
     }
@@ -111,7 +120,8 @@ fn among(f: &[u8], plan: &[u32], starts: &[bool], ends: &[bool], k: usize, e: us
 }
 
 // What a table of type w says of a record's base, whose row plus 1 is a: the base's part is no object.
-fn of_base(s: &[bool], w: u16, a: u16) -> bool
+fn of_base(s: &Words, w: u16, a: u16) -> bool
+    requires { ⌜ (w < ROWS) × (a ≤ ROWS) ⌝ }
     ensures { λ x. ⌜ x ≡ saidOfBase (now (s .entry)) w a ⌝ }
 {
     if a == 0 {
@@ -121,12 +131,12 @@ fn of_base(s: &[bool], w: u16, a: u16) -> bool
     if base == w {
         return false;
     }
-    marked(s, base)
+    marked(s, w, base)
 }
 
 // A look o cells into the base, before its end.
-fn in_base(starts: &[bool], w: u16, a: u16, o: u32) -> Look
-    requires { ⌜ 0 < a ⌝ }
+fn in_base(starts: &Words, w: u16, a: u16, o: u32) -> Look
+    requires { ⌜ (w < ROWS) × (a ≤ ROWS) × (0 < a) ⌝ }
     ensures { λ x. ⌜ x ≡ lookInBase (now (starts .entry)) w a o ⌝ }
 {
     if o == 0 {
@@ -140,14 +150,15 @@ fn fields(
     t: &[u8],
     f: &[u8],
     plan: &[u32],
-    starts: &[bool],
-    ends: &[bool],
+    starts: &Words,
+    ends: &Words,
     w: u16,
     r: usize,
     o: u32,
 ) -> Look
-    requires { ⌜ Typed (now t) (now f) (now plan) × (r < rowsOf (now t)) × (rowAt (now t) r .kind ≡ 4) ⌝ }
-    ensures { λ x. ⌜ (Edges (beginsAt (now (t .entry)) (now (f .entry)) w) (held (now (plan .entry))) r
+    requires { ⌜ Typed (now t) (now f) (now plan) × (w < ROWS) × (r < rowsOf (now t))
+        × (rowAt (now t) r .kind ≡ 4) ⌝ }
+    ensures { λ x. ⌜ (Edges (beginsAt (now (t .entry)) (now (f .entry)) w) (held (now (plan .entry))) w r
         (now (starts .entry)) (now (ends .entry))
         → Looks (beginsAt (now (t .entry)) (now (f .entry)) w) r x
         (amongOf (beginsAt (now (t .entry)) (now (f .entry)) w) (held (now (plan .entry)))
@@ -159,7 +170,7 @@ fn fields(
     let past = first + (row.c as usize);
     let before = sizes::base_size(plan, a);
     if before < o {
-        return among(f, plan, starts, ends, first, past, o - before);
+        return among(f, plan, starts, ends, w, first, past, o - before);
     }
     if o < before {
         return in_base(starts, w, a, o);
@@ -167,13 +178,14 @@ fn fields(
     if of_base(ends, w, a) {
         return Look::Yes;
     }
-    told(among_first(f, plan, starts, first, past))
+    told(among_first(f, plan, starts, w, first, past))
 }
 
 // Whether one begins where element i of n of type row e starts, or the one before it ends.
-fn between(starts: &[bool], ends: &[bool], e: u16, n: u16, i: u32) -> bool
+fn between(starts: &Words, ends: &Words, w: u16, e: u16, n: u16, i: u32) -> bool
+    requires { ⌜ (w < ROWS) × (e < ROWS) ⌝ }
     ensures { λ x. ⌜ ((deeper : ℕ → ℕ → Bool) (sizes : ℕ → ℕ) (m : ℕ)
-        → Edges deeper sizes m (now (starts .entry)) (now (ends .entry)) → e < m → 0 < sizes e → 1 ≤ n
+        → Edges deeper sizes w m (now (starts .entry)) (now (ends .entry)) → e < m → 0 < sizes e → 1 ≤ n
         → x ≡ amongOf deeper sizes (replicate n e) (i * sizes e)) ⌝ }
 {
     let count = n as u32;
@@ -181,21 +193,22 @@ fn between(starts: &[bool], ends: &[bool], e: u16, n: u16, i: u32) -> bool
         return false;
     }
     if i == 0 {
-        return marked(starts, e);
+        return marked(starts, w, e);
     }
     if i == count {
-        return marked(ends, e);
+        return marked(ends, w, e);
     }
-    if marked(starts, e) {
+    if marked(starts, w, e) {
         return true;
     }
-    marked(ends, e)
+    marked(ends, w, e)
 }
 
 // A look o cells into n elements of type row e.
-fn elements(plan: &[u32], starts: &[bool], ends: &[bool], e: u16, n: u16, o: u32) -> Look
+fn elements(plan: &[u32], starts: &Words, ends: &Words, w: u16, e: u16, n: u16, o: u32) -> Look
+    requires { ⌜ (w < ROWS) × (e < ROWS) ⌝ }
     ensures { λ x. ⌜ ((deeper : ℕ → ℕ → Bool) (m : ℕ)
-        → Edges deeper (held (now (plan .entry))) m (now (starts .entry)) (now (ends .entry)) → e < m → 1 ≤ n
+        → Edges deeper (held (now (plan .entry))) w m (now (starts .entry)) (now (ends .entry)) → e < m → 1 ≤ n
         → Looks deeper m x (amongOf deeper (held (now (plan .entry))) (replicate n e) o)) ⌝ }
 {
     let size = sizes::cell(plan, e as usize);
@@ -203,12 +216,12 @@ fn elements(plan: &[u32], starts: &[bool], ends: &[bool], e: u16, n: u16, o: u32
         if 0 < o {
             return Look::No;
         }
-        return told(marked(starts, e));
+        return told(marked(starts, w, e));
     }
     let i = o / size;
     let inside = o % size;
     if inside == 0 {
-        return told(between(starts, ends, e, n, i));
+        return told(between(starts, ends, w, e, n, i));
     }
     let count = n as u32;
     if i < count {
@@ -222,14 +235,14 @@ fn parts(
     t: &[u8],
     f: &[u8],
     plan: &[u32],
-    starts: &[bool],
-    ends: &[bool],
+    starts: &Words,
+    ends: &Words,
     w: u16,
     r: usize,
     o: u32,
 ) -> Look
-    requires { ⌜ Typed (now t) (now f) (now plan) × (r < rowsOf (now t)) ⌝ }
-    ensures { λ x. ⌜ (Edges (beginsAt (now (t .entry)) (now (f .entry)) w) (held (now (plan .entry))) r
+    requires { ⌜ Typed (now t) (now f) (now plan) × (w < ROWS) × (r < rowsOf (now t)) ⌝ }
+    ensures { λ x. ⌜ (Edges (beginsAt (now (t .entry)) (now (f .entry)) w) (held (now (plan .entry))) w r
         (now (starts .entry)) (now (ends .entry))
         → Looks (beginsAt (now (t .entry)) (now (f .entry)) w) r x
         (amongOf (beginsAt (now (t .entry)) (now (f .entry)) w) (held (now (plan .entry)))
@@ -240,7 +253,7 @@ fn parts(
     let a = row.a;
     let b = row.b;
     if kind == 3 {
-        return elements(plan, starts, ends, a, b, o);
+        return elements(plan, starts, ends, w, a, b, o);
     }
     if kind == 4 {
         return fields(t, f, plan, starts, ends, w, r, o);
@@ -263,14 +276,14 @@ fn reached(
     t: &[u8],
     f: &[u8],
     plan: &[u32],
-    starts: &[bool],
-    ends: &[bool],
+    starts: &Words,
+    ends: &Words,
     w: u16,
     r: u16,
     o: u32,
 ) -> bool
-    requires { ⌜ Typed (now t) (now f) (now plan) × (r < rowsOf (now t)) ⌝ }
-    ensures { λ x. ⌜ (Edges (beginsAt (now (t .entry)) (now (f .entry)) w) (held (now (plan .entry))) r
+    requires { ⌜ Typed (now t) (now f) (now plan) × (w < ROWS) × (r < rowsOf (now t)) ⌝ }
+    ensures { λ x. ⌜ (Edges (beginsAt (now (t .entry)) (now (f .entry)) w) (held (now (plan .entry))) w r
         (now (starts .entry)) (now (ends .entry))
         → x ≡ amongOf (beginsAt (now (t .entry)) (now (f .entry)) w) (held (now (plan .entry)))
         (partsOf (now (t .entry)) (now (f .entry)) r) o) ⌝ }
@@ -290,84 +303,145 @@ fn reached(
     }
 }
 
-// Whether an object begins o cells into itself, where its type is row r and the type looked for row w.
-fn is_itself(r: u16, w: u16, o: u32) -> bool
-    ensures { λ x. ⌜ x ≡ (eqb r w also eqb o 0) ⌝ }
+// The word without bit i.
+fn without(word: u64, i: u16) -> u64
+    requires { ⌜ i < ROWS ⌝ }
+    ensures { λ x. ⌜ ((w : ℕ) → bitOf x w ≡ choose (eqb i w) false (bitOf word w)) ⌝ }
 {
-    if r != w {
-        return false;
-    }
-    o == 0
+    let own = 1u64 << (i as u64);
+    (word | own) ^ own
 }
 
-// Whether an object declared with type w begins o cells into one of type row r: the tables are those of w, for the rows
-// below r.
-fn begun(
-    t: &[u8],
+// What begins at the edges of a record's base, whose row plus 1 is a: the base's part is no object.
+fn base_edges(starts: &Words, ends: &Words, a: u16) -> EdgeWords
+    requires { ⌜ a ≤ ROWS ⌝ }
+    ensures { λ x. ⌜ ((w : ℕ) → (bitOf (x .starts) w ≡ saidOfBase (now (starts .entry)) w a)
+        × (bitOf (x .ends) w ≡ saidOfBase (now (ends .entry)) w a)) ⌝ }
+{
+    if a == 0 {
+        return EdgeWords { starts: 0, ends: 0 };
+    }
+    let base = a - 1;
+    let first = without(starts[base as usize], base);
+    let last = without(ends[base as usize], base);
+    EdgeWords {
+        starts: first,
+        ends: last,
+    }
+}
+
+// What a word says, and what another says that n cells part from it: nothing where there are some.
+fn across(word: u64, n: usize, other: u64) -> u64
+    ensures { λ x. ⌜ x ≡ choose (eqb n 0) (bitOr word other) word ⌝ }
+{
+    if n == 0 {
+        return word | other;
+    }
+    word
+}
+
+// What begins at the edges of parts of so many cells, and n fields from row k on behind them.
+fn field_edges(
     f: &[u8],
     plan: &[u32],
-    starts: &[bool],
-    ends: &[bool],
-    w: u16,
-    r: u16,
-    o: u32,
-) -> bool
-    requires { ⌜ Typed (now t) (now f) (now plan) × (r < rowsOf (now t)) ⌝ }
-    ensures { λ x. ⌜ (Edges (beginsAt (now (t .entry)) (now (f .entry)) w) (held (now (plan .entry))) r
-        (now (starts .entry)) (now (ends .entry))
-        → x ≡ beginsAt (now (t .entry)) (now (f .entry)) w r o) ⌝ }
+    starts: &Words,
+    ends: &Words,
+    base: EdgeWords,
+    before: u32,
+    k: u16,
+    n: u16,
+) -> EdgeWords
+    requires { ⌜ LowTypes (now f) k (k + n) ROWS ⌝ }
+    ensures { λ x. ⌜ ((deeper : ℕ → ℕ → Bool) (w m : ℕ) (l : List ℕ)
+        → Edges deeper (held (now (plan .entry))) w m (now (starts .entry)) (now (ends .entry))
+        → LowTypes (now (f .entry)) k (k + n) m → sum (map (held (now (plan .entry))) l) ≡ before
+        → AtEdges (amongOf deeper (held (now (plan .entry))) l) before w (base .starts) (base .ends)
+        → AtEdges (amongOf deeper (held (now (plan .entry))) (l ++ ownTypes (now (f .entry)) k n))
+        (sum (map (held (now (plan .entry))) (l ++ ownTypes (now (f .entry)) k n))) w (x .starts) (x .ends)) ⌝ }
 {
-    if is_itself(r, w, o) {
-        return true;
+    let mut j = k as usize;
+    let end = j + (n as usize);
+    let mut first = base.starts;
+    let mut last = base.ends;
+    let mut size = before as usize;
+    while j < end {
+        let u = image::a_at(f, j) as usize;
+        let own = sizes::cell(plan, u) as usize;
+        first = across(first, size, starts[u]);
+        last = across(ends[u], own, last);
+        size = size + own;
+        j = j + 1;
     }
-    reached(t, f, plan, starts, ends, w, r, o)
+    EdgeWords {
+        starts: first,
+        ends: last,
+    }
 }
 
-// Fills the tables of type w: whether one declared with it begins at the start of each type row, and at its end.
-fn fill(t: &[u8], f: &[u8], plan: &[u32], w: u16, starts: &mut [bool], ends: &mut [bool])
-    requires { ⌜ Typed (now t) (now f) (now plan) × (rowsOf (now t) ≤ length (now starts))
-        × (rowsOf (now t) ≤ length (now ends)) ⌝ }
-    ensures { λ x. ⌜ Edges (beginsAt (now (t .entry)) (now (f .entry)) w) (held (now (plan .entry)))
-        (rowsOf (now (t .entry))) (now (starts .exit)) (now (ends .exit)) ⌝ }
+// What begins at the edges of the parts of type row r: an array's are its element's.
+fn part_edges(t: &[u8], f: &[u8], plan: &[u32], starts: &Words, ends: &Words, r: usize) -> EdgeWords
+    requires { ⌜ Typed (now t) (now f) (now plan) × (r < rowsOf (now t)) ⌝ }
+    ensures { λ x. ⌜ ((w : ℕ) → Edges (beginsAt (now (t .entry)) (now (f .entry)) w) (held (now (plan .entry))) w r
+        (now (starts .entry)) (now (ends .entry))
+        → AtEdges (amongOf (beginsAt (now (t .entry)) (now (f .entry)) w) (held (now (plan .entry)))
+        (partsOf (now (t .entry)) (now (f .entry)) r)) (held (now (plan .entry)) r) w (x .starts) (x .ends)) ⌝ }
+{
+    let row = image::row_at(t, r);
+    let kind = row.kind;
+    let a = row.a;
+    let b = row.b;
+    let c = row.c;
+    if kind == 3 {
+        let first = starts[a as usize];
+        let last = ends[a as usize];
+        return EdgeWords {
+            starts: first,
+            ends: last,
+        };
+    }
+    if kind == 4 {
+        let base = base_edges(starts, ends, a);
+        let before = sizes::base_size(plan, a);
+        return field_edges(f, plan, starts, ends, base, before, b, c);
+    }
+    EdgeWords { starts: 0, ends: 0 }
+}
+
+// What begins at the edges of type row r: an object begins at its own start, which is its end where it has no cells.
+fn edges(t: &[u8], f: &[u8], plan: &[u32], starts: &Words, ends: &Words, r: usize) -> EdgeWords
+    requires { ⌜ Typed (now t) (now f) (now plan) × (r < rowsOf (now t)) ⌝ }
+    ensures { λ x. ⌜ ((w : ℕ) → Edges (beginsAt (now (t .entry)) (now (f .entry)) w) (held (now (plan .entry))) w r
+        (now (starts .entry)) (now (ends .entry))
+        → AtEdges (beginsAt (now (t .entry)) (now (f .entry)) w r) (held (now (plan .entry)) r) w (x .starts)
+        (x .ends)) ⌝ }
+{
+    let inner = part_edges(t, f, plan, starts, ends, r);
+    let own = 1u64 << (r as u64);
+    let size = sizes::cell(plan, r) as usize;
+    let first = inner.starts | own;
+    let last = across(inner.ends, size, own);
+    EdgeWords {
+        starts: first,
+        ends: last,
+    }
+}
+
+// Fills the tables: the words of every type row.
+pub fn fill(t: &[u8], f: &[u8], plan: &[u32], starts: &mut Words, ends: &mut Words)
+    requires { ⌜ Typed (now t) (now f) (now plan) × (ROWS ≤ length (now starts)) × (ROWS ≤ length (now ends)) ⌝ }
+    ensures { λ x. ⌜ AllEdges (now (t .entry)) (now (f .entry)) (now (plan .entry)) (now (starts .exit))
+        (now (ends .exit)) ⌝ }
     ensures starts { λ x. ⌜ Beyond (rowsOf (now (t .entry))) (now (starts .entry)) (now (starts .exit)) ⌝ }
     ensures ends { λ x. ⌜ Beyond (rowsOf (now (t .entry))) (now (ends .entry)) (now (ends .exit)) ⌝ }
 {
     let rows = image::rows_of(t);
     let mut r: usize = 0;
     while r < rows {
-        let row = r as u16;
-        let size = sizes::cell(plan, r);
-        let first = begun(t, f, plan, starts, ends, w, row, 0);
-        let last = begun(t, f, plan, starts, ends, w, row, size);
-        starts[r] = first;
-        ends[r] = last;
+        let x = edges(t, f, plan, starts, ends, r);
+        starts[r] = x.starts;
+        ends[r] = x.ends;
         r = r + 1;
     }
-}
-
-// Fills the tables: place w * ROWS + r says of type w what begins at the edges of type row r.
-pub fn fill_all(t: &[u8], f: &[u8], plan: &[u32], starts: &mut [bool], ends: &mut [bool])
-    requires { ⌜ Typed (now t) (now f) (now plan) × (TABLE ≤ length (now starts)) × (TABLE ≤ length (now ends)) ⌝ }
-    ensures { λ x. ⌜ AllEdges (now (t .entry)) (now (f .entry)) (now (plan .entry)) (now (starts .exit))
-        (now (ends .exit)) ⌝ }
-    ensures starts { λ x. ⌜ Besides (rowsOf (now (t .entry))) (rowsOf (now (t .entry))) (now (starts .entry)) (now (starts .exit)) ⌝ }
-    ensures ends { λ x. ⌜ Besides (rowsOf (now (t .entry))) (rowsOf (now (t .entry))) (now (ends .entry)) (now (ends .exit)) ⌝ }
-{
-    let rows = image::rows_of(t);
-    let mut w: usize = 0;
-    while w < rows {
-        let from = w * ROWS;
-        fill(t, f, plan, w as u16, &mut starts[from..], &mut ends[from..]);
-        w = w + 1;
-    }
-}
-
-// What a table says of type w.
-pub fn of_type<'a>(s: &'a [bool], w: u16) -> &'a [bool]
-    requires { ⌜ w * ROWS ≤ length (now s) ⌝ }
-    ensures { λ x. ⌜ now x ≡ drop (w * ROWS) (now (s .entry)) ⌝ }
-{
-    &s[(w as usize) * ROWS..]
 }
 
 // Whether an object declared with type w begins o cells into one of type row r.
@@ -375,8 +449,8 @@ pub fn holds(
     t: &[u8],
     f: &[u8],
     plan: &[u32],
-    starts: &[bool],
-    ends: &[bool],
+    starts: &Words,
+    ends: &Words,
     w: u16,
     r: u16,
     o: u32,
@@ -385,14 +459,12 @@ pub fn holds(
         × (w < rowsOf (now t)) × (r < rowsOf (now t)) ⌝ }
     ensures { λ x. ⌜ x ≡ beginsAt (now (t .entry)) (now (f .entry)) w r o ⌝ }
 {
-    let first = of_type(starts, w);
     if o == 0 {
-        return marked(first, r);
+        return marked(starts, w, r);
     }
-    let last = of_type(ends, w);
     let size = sizes::cell(plan, r as usize);
     if o == size {
-        return marked(last, r);
+        return marked(ends, w, r);
     }
-    reached(t, f, plan, first, last, w, r, o)
+    reached(t, f, plan, starts, ends, w, r, o)
 }

@@ -1,6 +1,6 @@
 -- Laws of choice, and the facts of a branch as the tests of a definition.
-use mathlib.Core.Path.{_≡_, refl}
-use mathlib.Core.Bool.{Bool, true, false}
+use mathlib.Core.Path.{_≡_, refl, sym}
+use mathlib.Core.Bool.{Bool, true, false, _||_}
 use mathlib.Core.Logic.{_⊎_, inl, inr}
 use Prim.Native.Nat.{ℕ}
 use native.Mathlib.Omega.{arith}
@@ -13,6 +13,17 @@ pub ruleset tests = (lt-leb, le-leb, lt-ltb, le-ltb, ne-eqb, eq-eqb)
 -- true is not false
 pub clash {ℓ} : {C : Type ℓ} → true ≡ false → C
 clash e = let z : _≡_ {A = ℕ} 0 1 = cc in absurd (omega arith)
+
+-- what is not true is false
+pub not-yes : (a : Bool) → (a ≡ true → ⊥) → a ≡ false
+not-yes true h = absurd (h refl)
+not-yes false h = refl
+
+-- two tests that are true together are the same
+pub same-truth : (a b : Bool) → (a ≡ true → b ≡ true) → (b ≡ true → a ≡ true) → a ≡ b
+same-truth true b f h = sym (f refl)
+same-truth false true f h = h refl
+same-truth false false f h = refl
 
 module _ {X : Type 0} where
   pub choose-yes : (b : Bool) (x y : X) → b ≡ true → choose b x y ≡ x
@@ -62,3 +73,15 @@ also-right false q = refl
 pub also-pass : {a : Bool} (b : Bool) → a ≡ true → (a also b) ≡ b
 unfolding _also_
 also-pass b p = rw p
+
+pub also-first : (a : Bool) {b : Bool} → b ≡ true → (a also b) ≡ a
+unfolding _also_
+also-first true q = q
+also-first false q = refl
+
+pub or-choose : (x y : Bool) → (x || y) ≡ choose y true x
+unfolding choose
+or-choose true true = refl
+or-choose true false = refl
+or-choose false true = refl
+or-choose false false = refl

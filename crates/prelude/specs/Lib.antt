@@ -2,3 +2,4 @@ pub mod Choice
 pub mod Rec
 pub mod Parts
 pub mod Cells
+pub mod Bits

@@ -1,7 +1,7 @@
 -- Laws of the search for an object at an address, in the globals or in a frame.
 use mathlib.Core.Path.{_≡_, refl, sym, _∙_}
 use mathlib.Core.Bool.{Bool, true, false}
-use mathlib.Core.List.{List, []}
+use mathlib.Core.List.{List, [], _∷_}
 use Prim.Native.Nat.{ℕ, _+_, _-_, _≤_, _<_}
 use native.Mathlib.Omega.{arith}
 use native.Mathlib.Decide.{decLe}
@@ -27,11 +27,11 @@ use Rattle.access.proofs.Bounds.{procedures-few, place-in}
 use Rattle.unwinding.specs.declared.Spot.{Spot}
 use Rattle.unwinding.specs.Links.{spotOf}
 use Rattle.unwinding.specs.Blocks.{Blocks}
-use Rattle.unwinding.specs.Going.{Newest}
+use Rattle.unwinding.specs.Going.{Newest, Oldest}
 use Rattle.unwinding.proofs.Walking.{walked-procedure}
 use Rattle.unwinding.proofs.Going.{newest-is}
 use Rattle.referents.specs.Reaching.{Placed, inPlaces}
-use Rattle.referents.specs.Reading.{Framed}
+use Rattle.referents.specs.Reading.{Framed, Stacked}
 use Rattle.referents.proofs.Frames.{claimed-there, object-global, object-newest}
 
 -- a test and its second part, in the two ways of saying it
@@ -91,16 +91,22 @@ module _ {image plan : List ℕ} (p : Planned image plan) where
   unfolding claimedBy
   frame-placed q low j h = place-in p q j low h
 
-  -- the frame that is found by the blocks
-  pub newest-found : {room at top : ℕ} {store : List ℤ} {blocks qs : List ℕ} {s : Spot} → room ≡ globalRoom g
-      → room < at → at ≤ 65536
-      → ((g : Program) (qs : List ℕ) (b e : ℕ) → Walked g qs store b e → e ≤ top → rowsOf (g .procedures) ≤ 64
-      → Blocks g qs blocks → roomOf g [] < at → s ≡ spotOf (newestBelow g qs at))
-      → Framed g store top blocks qs → Newest g qs store top at s
-  newest-found {at = at} {top = top} {qs = qs} is h small found f =
-      let above : roomOf g [] < at = omega (arith, room-is is) in
-      let this = found g qs (f .base) top (f .walked) (omega arith) (procedures-few p) (f .blocked) above in
-      rw this (newest-is g qs at (f .walked) above small)
+  -- the frame that is found by the blocks, from the one at `from` on
+  module _ {room at from top : ℕ} {store : List ℤ} {blocks : List ℕ} {s : Spot} (is : room ≡ globalRoom g)
+      (behind : room < at) (low : at ≤ from) (small : from < 65536)
+      (found : (g : Program) (qs older : List ℕ) (p b e : ℕ) → Walked g qs store b e → e ≤ top
+      → rowsOf (g .procedures) ≤ 64 → Blocks g qs blocks → roomOf g [] < at → Oldest (p ∷ older) qs
+      → from ≡ roomOf g older → at ≤ from → s ≡ spotOf (newestBelow g qs at)) where
+    pub newest-found : {o : ℕ} {qs older : List ℕ} → Framed g store top blocks qs → Oldest (o ∷ older) qs
+        → from ≡ roomOf g older → Newest g qs store top at s
+    newest-found {qs = qs} f oldest start =
+        let above : roomOf g [] < at = omega (arith, room-is is) in
+        let this = found g qs _ _ (f .base) top (f .walked) (omega arith) (procedures-few p) (f .blocked) above oldest
+        start low in
+        rw this (newest-is g qs at (f .walked) above (omega arith))
+
+    pub newest-stacked : (k : Stacked g store top blocks from) → Newest g (k .frames) store top at s
+    newest-stacked k = newest-found (k .framed) (k .oldest) (k .start)
 
   module _ {qs : List ℕ} {store : List ℤ} {e at : ℕ} {s : Spot} (newest : Newest g qs store e at s) {first n : ℕ}
       (start : first ≡ firstVariable (g .variables) (g .procedures) (s .procedure))

@@ -23,9 +23,9 @@ use Rattle.asking.specs.Asking.{roomOf, objectIn, objectAt}
 use Rattle.asking.specs.Passes.{Walked}
 use Rattle.asking.proofs.Objects.{older-yes}
 use Rattle.unwinding.specs.declared.Spot.{Spot}
-use Rattle.unwinding.specs.Going.{Newest}
+use Rattle.unwinding.specs.Going.{Newest, Oldest, Oldest.all, Oldest.newer}
 use Rattle.unwinding.proofs.Walking.{room-more, walked-base, walked-procedure, walked-older}
-use Rattle.referents.specs.Reading.{Oldest, Oldest.all, Oldest.newer}
+use Rattle.unwinding.proofs.Over.{oldest-tail}
 use Rattle.referents.proofs.Variables.{Ends, search-past}
 
 module _ (g : Program) where
@@ -36,14 +36,19 @@ module _ (g : Program) where
 
   -- ---- walked frames
 
-  pub walked-existing : (qs : List ℕ) {store : List ℤ} {b e : ℕ} → Walked g qs store b e → Existing qs
+  walked-existing : (qs : List ℕ) {store : List ℤ} {b e : ℕ} → Walked g qs store b e → Existing qs
   walked-existing [] w = no-frame
   walked-existing (q ∷ []) w = a-frame (walked-procedure g w) no-frame
   walked-existing (q ∷ c ∷ qs) w = a-frame (walked-procedure g w) (walked-existing (c ∷ qs) (walked-older g w))
 
-  pub oldest-existing : {older qs : List ℕ} → Oldest older qs → Existing qs → Existing older
+  oldest-existing : {older qs : List ℕ} → Oldest older qs → Existing qs → Existing older
   oldest-existing all e = e
   oldest-existing (newer o) (a-frame low e) = oldest-existing o e
+
+  -- those older than one of them
+  pub older-existing : {p : ℕ} {older qs : List ℕ} {store : List ℤ} {b e : ℕ} → Walked g qs store b e
+      → Oldest (p ∷ older) qs → Existing older
+  older-existing w o = oldest-existing (oldest-tail o) (walked-existing _ w)
 
   -- ---- where frames end
 

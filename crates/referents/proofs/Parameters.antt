@@ -1,7 +1,7 @@
 -- Laws of the loop over a frame's parameters.
 use mathlib.Core.Path.{_≡_, refl, sym, _∙_}
 use mathlib.Core.Bool.{Bool, true, false}
-use mathlib.Core.List.{List}
+use mathlib.Core.List.{List, _∷_}
 use Prim.Native.Nat.{ℕ, zero, suc, _+_, _-_, _≤_, _<_}
 use native.Mathlib.Omega.{arith}
 use native.Mathlib.Decide.{decLt}
@@ -26,9 +26,10 @@ use Rattle.asking.specs.Passes.{variablesPass, referenceTest}
 use Rattle.asking.proofs.Variables.{along-start, Ahead, ahead-here, ahead-no, ahead-more}
 use Rattle.access.specs.Ready.{Planned}
 use Rattle.access.proofs.Bounds.{claimed-there, place-in}
+use Rattle.unwinding.specs.Going.{Oldest}
 use Rattle.unwinding.specs.Next.{nextOf}
 use Rattle.unwinding.proofs.Next.{bare-other, next-least, ahead-next}
-use Rattle.referents.specs.Reading.{Framed, Oldest}
+use Rattle.referents.specs.Reading.{Framed}
 
 -- ---- one variable
 
@@ -123,7 +124,9 @@ module _ (image : List ℕ) (q : ℕ) where
   module _ (base : ℕ) (store : List ℤ) (top : ℕ) (blocks : List ℕ) where
     -- what is said of the frame at base, where it is one of these and begins behind the older ones
     abbrev Told : (List ℕ → Type 0) → Type 0
-    Told P = (qs older : List ℕ) → Framed g store top blocks qs → Oldest older qs → base ≡ roomOf g older → P older
+    Told P =
+        (p : ℕ) (qs older : List ℕ) → Framed g store top blocks qs → Oldest (p ∷ older) qs → base ≡ roomOf g older
+        → P older
 
     -- the parameters before row k passed
     pub record Passed (k : ℕ) : Type 0 where
@@ -135,7 +138,7 @@ module _ (image : List ℕ) (q : ℕ) where
         let at = rw from at is in
         record {
           least = omega (arith, at, next-least g first);
-          ahead = λ qs older framed oldest start. (
+          ahead = λ o qs older framed oldest start. (
             base + 3,
             ahead-next g (along-start g (referenceTest g older) store first all (base + 3)) at,
           );
@@ -144,38 +147,38 @@ module _ (image : List ℕ) (q : ℕ) where
     module _ {plan : List ℕ} (p : Planned image plan) (there : q < rowsOf (g .procedures)) {k : ℕ} (h : Passed k) where
       module _ (more : k < first + parameters) {x : Bool}
           (answer : Told (λ older. x ≡ referenceTest g older k (drop (base + placeOf g k) store))) where
-        test-is : (qs older : List ℕ) → Framed g store top blocks qs → Oldest older qs → base ≡ roomOf g older
-            → {at : ℕ} → Ahead g (referenceTest g older) store first all (base + 3) k at
+        test-is : (o : ℕ) (qs older : List ℕ) → Framed g store top blocks qs → Oldest (o ∷ older) qs
+            → base ≡ roomOf g older → {at : ℕ} → Ahead g (referenceTest g older) store first all (base + 3) k at
             → x ≡ referenceTest g older k (drop at store)
-        test-is qs older framed oldest start {at} ahead =
+        test-is o qs older framed oldest start {at} ahead =
             let along = ahead-here g (referenceTest g older) (test-free g older) ahead (omega (arith, all-is)) in
             let same : base + placeOf g k ≡ at = omega (arith, along .place, place-is p there (h .least) more) in
-            rw same at (answer qs older framed oldest start)
+            rw same at (answer o qs older framed oldest start)
 
         pub passed-no : x ≡ false
             → Told (λ older. false ≡ variablesPass g (referenceTest g older) first all (drop (base + 3) store))
-        passed-no e qs older framed oldest start =
-            let (at, ahead) = h .ahead qs older framed oldest start in
+        passed-no e o qs older framed oldest start =
+            let (at, ahead) = h .ahead o qs older framed oldest start in
             sym (ahead-no g (referenceTest g older) (test-free g older) ahead (omega (arith, all-is))
-            (sym (test-is qs older framed oldest start ahead) ∙ e))
+            (sym (test-is o qs older framed oldest start ahead) ∙ e))
 
         pub passed-next : {j : ℕ} → x ≡ true → j ≡ nextOf g (k + 1) → Passed j
         passed-next e is = record {
           least = omega (arith, is, next-least g (k + 1), h .least);
-          ahead = λ qs older framed oldest start.
-              let (at, ahead) = h .ahead qs older framed oldest start in (
+          ahead = λ o qs older framed oldest start.
+              let (at, ahead) = h .ahead o qs older framed oldest start in (
                 _,
                 ahead-next g
                     (ahead-more g (referenceTest g older) (test-free g older) ahead (omega (arith, all-is))
-                    (sym (test-is qs older framed oldest start ahead) ∙ e) refl)
+                    (sym (test-is o qs older framed oldest start ahead) ∙ e) refl)
                     is,
               );
         }
 
       pub passed-end : first + parameters ≤ k
           → Told (λ older. true ≡ variablesPass g (referenceTest g older) first all (drop (base + 3) store))
-      passed-end done qs older framed oldest start =
-          let (at, ahead) = h .ahead qs older framed oldest start in
+      passed-end done o qs older framed oldest start =
+          let (at, ahead) = h .ahead o qs older framed oldest start in
           let most = ahead .along .most in
           sym (ahead .along .rest
           ∙ pass-all g (referenceTest g older) (first + all - ahead .reached) (ahead .reached) (drop at store)

@@ -22,7 +22,8 @@ use Rattle.semantics.specs.Layout.{Program}
 use Rattle.checker.proofs.Accepted.{AcceptedTables}
 use Rattle.asking.specs.Asking.{roomOf, objectAt}
 use Rattle.asking.specs.State.{isNumber, naturalOf, referenceKept}
-use Rattle.referents.specs.Reading.{Oldest}
+use Rattle.unwinding.specs.Going.{Oldest}
+use Rattle.unwinding.proofs.Over.{oldest-tail}
 use Rattle.referents.proofs.Frames.{Existing, object-past, object-oldest}
 
 -- ---- numbers as the code reads them
@@ -133,12 +134,12 @@ module _ (g : Program) (older : List ℕ) (r : ℕ) where
       -- both hold numbers, and an object is looked for among all frames
       pub refers : {m o : Mark} {n w : ℕ} → Read m a → m ≡ Number n → Read o (a + 1) → o ≡ Number w
           → {e : Bool} → e ≡ extends (g .types) w r → e ≡ true → n ≤ base
-          → {qs : List ℕ} → Oldest older qs → {b : Bool} → b ≡ objectAt g w qs n
+          → {p : ℕ} {qs : List ℕ} → Oldest (p ∷ older) qs → {b : Bool} → b ≡ objectAt g w qs n
           → b ≡ referenceKept g older r (drop a store)
       refers {n = n} {w = w} read is read₂ is₂ asked holds h oldest found =
           let (number, value) = number-read (omega arith) read is in
           let (number₂, value₂) = number-read (omega arith) read₂ is₂ in
-          found ∙ object-oldest g ok w oldest n (omega (arith, start))
+          found ∙ object-oldest g ok w (oldest-tail oldest) n (omega (arith, start))
           ∙ sym (cells-are ∙ also-pass _ number ∙ also-pass _ number₂
           ∙ rw (value, value₂) (also-pass _ (sym asked ∙ holds)))
 

@@ -2,13 +2,14 @@
 use mathlib.Core.Path.{_≡_, refl, sym, _∙_}
 use mathlib.Core.Bool.{Bool, true, false}
 use mathlib.Core.List.{List}
-use Prim.Native.Nat.{ℕ, suc, _+_, _-_, _*_, _≤_, _<_}
+use Prim.Native.Nat.{ℕ, suc, _+_, _-_, _≤_, _<_}
 use native.Mathlib.Omega.{arith}
 use borrow.Author.Tests.{lt-leb, le-leb}
 use lib.Dec.{leb}
-use lib.ListN.{length, getD, drop, length-drop}
+use lib.ListN.{getD}
 use Rattle.prelude.specs.Choice.{_also_}
 use Rattle.prelude.proofs.Choice.{also-left, also-right, also-pass}
+use Rattle.prelude.specs.Bits.{bitOf}
 use Rattle.image.specs.declared.Row.{Row}
 use Rattle.image.specs.Rows.{rowAt, rowsOf}
 use Rattle.shapes.specs.Sizes.{sizeOf}
@@ -17,7 +18,6 @@ use Rattle.places.proofs.Rooms.{room-more}
 use Rattle.checker.proofs.Accepted.{AcceptedTables}
 use Rattle.semantics.specs.Layout.{Program, placeOf}
 use Rattle.objects.specs.Begins.{beginsAt}
-use Rattle.objects.specs.Tables.{ROWS, TABLE, AllEdges}
 use Rattle.referents.specs.Reaching.{Placed, Reached, Firsts, Ahead, inVariable, inPlaces, leftPlaces}
 use Rattle.referents.proofs.Variables.{search-none, left-start, left-below, left-here, left-next, left-end}
 use Rattle.referents.proofs.Frames.{ends-there}
@@ -75,10 +75,6 @@ scan-none g w k lead at none = rw none (sym (also-right _ (search-none _ _ _ k (
 
 -- ---- those that begin at the address
 
--- a type is there
-pub type-low : {r : ℕ} {t u : List ℕ} → t ≡ u → r < rowsOf u → r < rowsOf t
-type-low same h = rw same h
-
 pub start-of : (a : Bool) {b : Bool} → b ≡ true → a ≡ (a also b)
 unfolding _also_
 start-of true e = sym e
@@ -93,19 +89,6 @@ ahead-reached placed r = record {
   placed = placed;
   above = r .after;
 }
-
--- the table of starts, as it is lent of type w
-module _ (g : Program) {t : List ℕ} (w : ℕ) {first : List Bool} (starts : List Bool)
-    (is : first ≡ drop (w * ROWS) starts) (types : t ≡ g .types) where
-  pub first-room : w < rowsOf (g .types) → rowsOf t ≤ ROWS → TABLE ≤ length starts → rowsOf (g .types) ≤ length first
-  first-room low few room =
-      let rows : rowsOf (g .types) ≤ ROWS = rw types at few in
-      rw is (omega (arith, length-drop (w * ROWS) starts))
-
-  pub first-says : {f : List ℕ} → f ≡ g .fields → {plan : List ℕ} {ends : List Bool} → AllEdges t f plan starts ends
-      → w < rowsOf (g .types) → Firsts g w first
-  first-says fields all low u there =
-      rw (is, ← types, ← fields) (all .each w (type-low types low) .start u (type-low types there))
 
 module _ {g : Program} (w : ℕ) {i n lead at j e : ℕ} (a : Ahead g i n lead at j e) where
   ahead-more : j < e → j < i + n
@@ -123,13 +106,15 @@ module _ {g : Program} (w : ℕ) {i n lead at j e : ℕ} (a : Ahead g i n lead a
       least = let l = a .least in omega arith;
       last = a .last;
       placed = a .placed;
-      above = λ h. let l = a .above more in
-          omega (arith, is, place-next g w i n lead at (a .placed) (a .least) (ahead-more more) is (omega (arith, a .last)));
+      above = λ h.
+          let l = a .above more in
+          let next = place-next g w i n lead at (a .placed) (a .least) (ahead-more more) is (omega (arith, a .last)) in
+          omega (arith, is, next);
     }
 
-    module _ (reaches : place ≤ at) (first : List Bool) (firsts : Firsts g w first)
+    module _ (reaches : place ≤ at) (starts : List ℕ) (firsts : Firsts g w starts)
         (typed : rowAt (g .variables) j .a < rowsOf (g .types)) {row : Row} (this : row ≡ rowAt (g .variables) j)
-        {x : Bool} (answer : x ≡ (leb (row .kind) 2 also getD first (row .a) false)) where
+        {x : Bool} (answer : x ≡ (leb (row .kind) 2 also bitOf (getD starts (row .a) 0) w)) where
       start-is : x ≡ inVariable g w j (at - place)
       start-is =
           let l = a .above more in
@@ -149,15 +134,14 @@ module _ (g : Program) (w k o : ℕ) {row : Row} (is : row ≡ rowAt (g .variabl
   pub variable-other : 2 < row .kind → false ≡ inVariable g w k o
   variable-other h = sym (also-left _ (lt-leb (rowAt (g .variables) k .kind) 2 (rw is at h)))
 
-  module _ {t f : List ℕ} (types : t ≡ g .types) (fields : f ≡ g .fields) where
-    pub variable-plain : row .kind ≤ 2 → {x : Bool} → x ≡ beginsAt t f w (row .a) o → x ≡ inVariable g w k o
-    variable-plain h e =
-        (rw (types, fields, is) at e) ∙ sym (also-pass _ (le-leb (rowAt (g .variables) k .kind) 2 (rw is at h)))
+  pub variable-plain : row .kind ≤ 2 → {x : Bool} → x ≡ beginsAt (g .types) (g .fields) w (row .a) o
+      → x ≡ inVariable g w k o
+  variable-plain h e =
+      (rw is at e) ∙ sym (also-pass _ (le-leb (rowAt (g .variables) k .kind) 2 (rw is at h)))
 
 -- it is there, and its type is
 pub variable-there : {j e n : ℕ} → e ≤ n → j < e → j < n
 variable-there a b = omega arith
 
-pub variable-low : (v : List ℕ) (k : ℕ) {t u : List ℕ} {row : Row} → row ≡ rowAt v k → t ≡ u → rowAt v k .a < rowsOf u
-    → row .a < rowsOf t
-variable-low v k is same h = rw (is, same) h
+pub variable-low : (v : List ℕ) (k : ℕ) {n : ℕ} {row : Row} → row ≡ rowAt v k → rowAt v k .a < n → row .a < n
+variable-low v k is h = rw is h

@@ -67,7 +67,7 @@ module _ (deeper : ℕ → ℕ → Bool) (size : ℕ → ℕ) (v : List ℕ) whe
   ends-later k n ends j o low high = ends j o (omega arith) (omega arith)
 
   -- those that end below an address are passed over
-  pub search-from-later : (n k j x : ℕ) → Ends k n → j ≤ n → 0 < x
+  search-from-later : (n k j x : ℕ) → Ends k n → j ≤ n → 0 < x
       → search-from k n (room k j + x) ≡ search-from (k + j) (n - j) x
   search-from-later n k zero x ends h some =
       let row : k + 0 ≡ k = omega arith in

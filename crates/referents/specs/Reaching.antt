@@ -1,11 +1,12 @@
 -- Objects among variables, by the variables' places.
 use Prim.Native.Nat.{ℕ, _+_, _-_, _≤_, _<_}
 use mathlib.Core.Path.{_≡_}
-use mathlib.Core.Bool.{Bool, false}
+use mathlib.Core.Bool.{Bool}
 use mathlib.Core.List.{List}
 use lib.Dec.{leb}
 use lib.ListN.{getD}
 use Rattle.prelude.specs.Choice.{_also_}
+use Rattle.prelude.specs.Bits.{bitOf}
 use Rattle.image.specs.Rows.{rowAt, rowsOf}
 use Rattle.places.specs.Places.{roomFrom}
 use Rattle.semantics.specs.Layout.{Program, placeOf}
@@ -47,6 +48,7 @@ pub record Ahead (g : Program) (k n lead at j e : ℕ) : Type 0 where
   pub placed : Placed g k n lead
   pub above : j < e → at ≤ placeOf g j
 
--- a table says of each type whether one declared with type w begins at its start
-abbrev pub Firsts : Program → ℕ → List Bool → Type 0
-Firsts g w first = (u : ℕ) → u < rowsOf (g .types) → getD first u false ≡ beginsAt (g .types) (g .fields) w u 0
+-- words say of each type whether one declared with type w begins at its start
+abbrev pub Firsts : Program → ℕ → List ℕ → Type 0
+Firsts g w starts =
+    (u : ℕ) → u < rowsOf (g .types) → bitOf (getD starts u 0) w ≡ beginsAt (g .types) (g .fields) w u 0

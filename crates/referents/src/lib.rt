@@ -1,32 +1,35 @@
 // Whether the VAR parameters of all frames refer to objects.
 use access::Plan;
 use image::Row;
-use objects::TABLE;
+use objects::ROWS;
+use objects::Words;
 use semantics::Mark;
 ghost use mathlib.Core.Path.{_≡_};
-ghost use mathlib.Core.Bool.{false};
-ghost use mathlib.Core.List.{List};
+ghost use mathlib.Core.List.{List, _∷_};
 ghost use Prim.Native.Nat.{ℕ, suc, _+_, _-_, _≤_, _<_};
 ghost use lib.Dec.{leb};
-ghost use lib.ListN.{length, getD, drop};
+ghost use lib.ListN.{getD, drop};
 ghost use Rattle.prelude.specs.Choice.{_also_};
+ghost use Rattle.prelude.specs.Bits.{bitOf};
 ghost use Rattle.image.specs.Rows.{rowAt, rowsOf};
 ghost use Rattle.frames.specs.Procedures.{firstVariable, claimedBy};
 ghost use Rattle.places.specs.Places.{widthOf, frameSize};
 ghost use Rattle.semantics.specs.Layout.{placeOf};
 ghost use Rattle.semantics.specs.Running.{programOf};
+ghost use Rattle.objects.specs.Tables.{ROWS};
 ghost use Rattle.asking.specs.Asking.{roomOf, objectAt};
 ghost use Rattle.asking.specs.State.{referenceKept, chain};
 ghost use Rattle.asking.specs.Passes.{variablesPass, referenceTest, referencesPass};
 ghost use Rattle.access.specs.Ready.{Planned, Ready};
+ghost use Rattle.unwinding.specs.Going.{Oldest};
 ghost use Rattle.unwinding.specs.Next.{Skips};
 ghost use Rattle.referents.specs.Reaching.{Placed, Reached, Firsts, Ahead, inVariable, inPlaces, leftPlaces};
-ghost use Rattle.referents.specs.Reading.{Lent, Framed, Stacked, Oldest, Asked};
+ghost use Rattle.referents.specs.Reading.{Lent, Framed, Stacked, Asked};
 
 // ---- objects in variables
 
-// Of n variables from row k on the last that begins below an address, by halving; row k where none does. So those before
-// it end below the address.
+// Of n variables from row k on the last that begins below an address, by halving; row k where none does. So those
+// before it end below the address.
 fn first_reaching(image: &&[u8], plan: &Plan, k: u32, n: u32, at: u32) -> u32
     requires { ⌜ Planned (now (now image)) (now plan) × (k + n ≤ rowsOf (programOf (now (now image)) .variables)) ⌝ }
     ensures { λ x. ⌜ Reached (programOf (now (now (image .entry)))) k n at x ⌝ }
@@ -49,15 +52,13 @@ fn first_reaching(image: &&[u8], plan: &Plan, k: u32, n: u32, at: u32) -> u32
 fn in_variable(
     image: &&[u8],
     plan: &Plan,
-    t: &[u8],
-    f: &[u8],
-    starts: &[bool],
-    ends: &[bool],
+    starts: &Words,
+    ends: &Words,
     w: u16,
     k: u32,
     o: u32,
 ) -> bool
-    requires { ⌜ Lent (now (now image)) (now plan) (now t) (now f) (now starts) (now ends)
+    requires { ⌜ Lent (now (now image)) (now plan) (now starts) (now ends)
         × (w < rowsOf (programOf (now (now image)) .types))
         × (k < rowsOf (programOf (now (now image)) .variables)) ⌝ }
     ensures { λ x. ⌜ x ≡ inVariable (programOf (now (now (image .entry)))) w k o ⌝ }
@@ -68,15 +69,18 @@ fn in_variable(
     if 2 < kind {
         return false;
     }
+    let t = access::table(*image, plan, 0);
+    let f = access::table(*image, plan, 1);
     objects::holds(t, f, plan, starts, ends, w, r, o)
 }
 
-// Whether one begins at the start of the variable in this row, where a table says of each type whether one does.
-fn at_start(first: &[bool], row: Row) -> bool
-    requires { ⌜ row .a < length (now first) ⌝ }
-    ensures { λ x. ⌜ x ≡ (leb (row .kind) 2 also getD (now (first .entry)) (row .a) false) ⌝ }
+// Whether one declared with type w begins at the start of the variable in this row, where words say of each type what
+// begins at its start.
+fn at_start(starts: &Words, w: u16, row: Row) -> bool
+    requires { ⌜ (w < ROWS) × (row .a < ROWS) ⌝ }
+    ensures { λ x. ⌜ x ≡ (leb (row .kind) 2 also bitOf (getD (now (starts .entry)) (row .a) 0) w) ⌝ }
 {
-    if first[row.a as usize] {
+    if objects::marked(starts, w, row.a) {
         return row.kind <= 2;
     }
     false
@@ -88,14 +92,15 @@ fn starts_there(
     image: &&[u8],
     plan: &Plan,
     v: &[u8],
-    first: &[bool],
+    starts: &Words,
+    w: u16,
     k: u32,
     e: u32,
     at: u32,
 ) -> bool
     requires { ⌜ Planned (now (now image)) (now plan) × (now v ≡ programOf (now (now image)) .variables)
-        × (e ≤ rowsOf (now v)) × (rowsOf (programOf (now (now image)) .types) ≤ length (now first)) ⌝ }
-    ensures { λ x. ⌜ ((w i n lead : ℕ) → Firsts (programOf (now (now (image .entry)))) w (now (first .entry))
+        × (e ≤ rowsOf (now v)) × (w < ROWS) ⌝ }
+    ensures { λ x. ⌜ ((i n lead : ℕ) → Firsts (programOf (now (now (image .entry)))) w (now (starts .entry))
         → Ahead (programOf (now (now (image .entry)))) i n lead at k e
         → x ≡ leftPlaces (programOf (now (now (image .entry)))) w i n lead at k) ⌝ }
 {
@@ -106,7 +111,7 @@ fn starts_there(
             return false;
         }
         let row = image::row_at(v, j as usize);
-        if at_start(first, row) {
+        if at_start(starts, w, row) {
             return true;
         }
         j = j + 1;
@@ -118,16 +123,14 @@ fn starts_there(
 fn in_places(
     image: &&[u8],
     plan: &Plan,
-    t: &[u8],
-    f: &[u8],
-    starts: &[bool],
-    ends: &[bool],
+    starts: &Words,
+    ends: &Words,
     w: u16,
     k: u32,
     n: u32,
     at: u32,
 ) -> bool
-    requires { ⌜ Lent (now (now image)) (now plan) (now t) (now f) (now starts) (now ends)
+    requires { ⌜ Lent (now (now image)) (now plan) (now starts) (now ends)
         × (w < rowsOf (programOf (now (now image)) .types))
         × (k + n ≤ rowsOf (programOf (now (now image)) .variables)) ⌝ }
     ensures { λ x. ⌜ ((lead : ℕ) → Placed (programOf (now (now (image .entry)))) k n lead
@@ -141,48 +144,48 @@ fn in_places(
     if at < place {
         return false;
     }
-    if in_variable(image, plan, t, f, starts, ends, w, j, at - place) {
+    if in_variable(image, plan, starts, ends, w, j, at - place) {
         return true;
     }
     let v = access::table(*image, plan, 2);
-    let first = objects::of_type(starts, w);
-    starts_there(image, plan, v, first, j + 1, k + n, at)
+    starts_there(image, plan, v, starts, w, j + 1, k + n, at)
 }
 
 // ---- objects in frames
 
-// Whether an object declared with type w begins at an address: in the globals, or in the newest frame that begins below
-// the address.
+// Whether an object declared with type w begins at an address that is no higher than `from`, where a frame begins: in
+// the globals, or in the newest frame that begins below the address.
 fn object_at(
     image: &&[u8],
     plan: &Plan,
-    t: &[u8],
-    f: &[u8],
-    starts: &[bool],
-    ends: &[bool],
+    starts: &Words,
+    ends: &Words,
     store: &[i64],
     top: u32,
     blocks: &[u32],
+    from: u32,
     w: u16,
     at: u32,
 ) -> bool
-    requires { ⌜ Lent (now (now image)) (now plan) (now t) (now f) (now starts) (now ends)
-        × Stacked (programOf (now (now image))) (now store) top (now blocks)
-        × (w < rowsOf (programOf (now (now image)) .types)) × (at ≤ 65536) ⌝ }
-    ensures { λ x. ⌜ ((qs : List ℕ) → Framed (programOf (now (now (image .entry)))) (now (store .entry)) top
-        (now (blocks .entry)) qs → x ≡ objectAt (programOf (now (now (image .entry)))) w qs at) ⌝ }
+    requires { ⌜ Lent (now (now image)) (now plan) (now starts) (now ends)
+        × Stacked (programOf (now (now image))) (now store) top (now blocks) from
+        × (w < rowsOf (programOf (now (now image)) .types)) × (at ≤ from) × (from < 65536) ⌝ }
+    ensures { λ x. ⌜ ((p : ℕ) (qs older : List ℕ) → Framed (programOf (now (now (image .entry)))) (now (store .entry))
+        top (now (blocks .entry)) qs → Oldest (p ∷ older) qs
+        → from ≡ roomOf (programOf (now (now (image .entry)))) older
+        → x ≡ objectAt (programOf (now (now (image .entry)))) w qs at) ⌝ }
 {
     let globals = access::global_room(image, plan);
     if at <= globals {
         let n = access::first_variable(image, plan, 0);
-        return in_places(image, plan, t, f, starts, ends, w, 0, n, at);
+        return in_places(image, plan, starts, ends, w, 0, n, at);
     }
-    let frame = unwinding::frame_below(store, top, blocks, at);
+    let frame = unwinding::frame_below(store, top, blocks, from, at);
     let q = frame.procedure;
     let base = frame.base;
     let first = access::first_variable(image, plan, q);
     let n = access::claimed_by(image, plan, q);
-    in_places(image, plan, t, f, starts, ends, w, first, n, at - base)
+    in_places(image, plan, starts, ends, w, first, n, at - base)
 }
 
 // ---- references
@@ -192,10 +195,8 @@ fn object_at(
 fn reference(
     image: &&[u8],
     plan: &Plan,
-    t: &[u8],
-    f: &[u8],
-    starts: &[bool],
-    ends: &[bool],
+    starts: &Words,
+    ends: &Words,
     store: &[i64],
     top: u32,
     blocks: &[u32],
@@ -203,11 +204,12 @@ fn reference(
     r: u16,
     a: u32,
 ) -> bool
-    requires { ⌜ Lent (now (now image)) (now plan) (now t) (now f) (now starts) (now ends)
-        × Stacked (programOf (now (now image))) (now store) top (now blocks)
+    requires { ⌜ Lent (now (now image)) (now plan) (now starts) (now ends)
+        × Stacked (programOf (now (now image))) (now store) top (now blocks) base
         × (r < rowsOf (programOf (now (now image)) .types)) × (base < 65536) × (a + 2 ≤ top) ⌝ }
-    ensures { λ x. ⌜ ((qs older : List ℕ) → Framed (programOf (now (now (image .entry)))) (now (store .entry)) top
-        (now (blocks .entry)) qs → Oldest older qs → base ≡ roomOf (programOf (now (now (image .entry)))) older
+    ensures { λ x. ⌜ ((p : ℕ) (qs older : List ℕ) → Framed (programOf (now (now (image .entry)))) (now (store .entry))
+        top (now (blocks .entry)) qs → Oldest (p ∷ older) qs
+        → base ≡ roomOf (programOf (now (now (image .entry)))) older
         → x ≡ referenceKept (programOf (now (now (image .entry)))) older r (drop a (now (store .entry)))) ⌝ }
 {
     let Mark::Number(address) = cells::mark_at(store, top, a) else {
@@ -226,13 +228,12 @@ fn reference(
     object_at(
         image,
         plan,
-        t,
-        f,
         starts,
         ends,
         store,
         top,
         blocks,
+        base,
         dynamic,
         at,
     )
@@ -242,23 +243,22 @@ fn reference(
 fn parameter(
     image: &&[u8],
     plan: &Plan,
-    t: &[u8],
-    f: &[u8],
-    starts: &[bool],
-    ends: &[bool],
+    starts: &Words,
+    ends: &Words,
     store: &[i64],
     top: u32,
     blocks: &[u32],
     base: u32,
     k: u32,
 ) -> bool
-    requires { ⌜ Lent (now (now image)) (now plan) (now t) (now f) (now starts) (now ends)
-        × Stacked (programOf (now (now image))) (now store) top (now blocks)
+    requires { ⌜ Lent (now (now image)) (now plan) (now starts) (now ends)
+        × Stacked (programOf (now (now image))) (now store) top (now blocks) base
         × (k < rowsOf (programOf (now (now image)) .variables)) × (base < 65536)
         × (base + placeOf (programOf (now (now image))) k + widthOf (programOf (now (now image)) .types)
         (programOf (now (now image)) .fields) (programOf (now (now image)) .variables) k ≤ top) ⌝ }
-    ensures { λ x. ⌜ ((qs older : List ℕ) → Framed (programOf (now (now (image .entry)))) (now (store .entry)) top
-        (now (blocks .entry)) qs → Oldest older qs → base ≡ roomOf (programOf (now (now (image .entry)))) older
+    ensures { λ x. ⌜ ((p : ℕ) (qs older : List ℕ) → Framed (programOf (now (now (image .entry)))) (now (store .entry))
+        top (now (blocks .entry)) qs → Oldest (p ∷ older) qs
+        → base ≡ roomOf (programOf (now (now (image .entry)))) older
         → x ≡ referenceTest (programOf (now (now (image .entry)))) older k
         (drop (base + placeOf (programOf (now (now (image .entry)))) k) (now (store .entry)))) ⌝ }
 {
@@ -270,30 +270,15 @@ fn parameter(
     }
     let place = access::place_of(image, plan, k);
     let a = base + place;
-    reference(
-        image,
-        plan,
-        t,
-        f,
-        starts,
-        ends,
-        store,
-        top,
-        blocks,
-        base,
-        r,
-        a,
-    )
+    reference(image, plan, starts, ends, store, top, blocks, base, r, a)
 }
 
 // Whether the VAR parameters of the frame of procedure q at base do: locals are none, nor are variables without cells.
 fn frame_references(
     image: &&[u8],
     plan: &Plan,
-    t: &[u8],
-    f: &[u8],
-    starts: &[bool],
-    ends: &[bool],
+    starts: &Words,
+    ends: &Words,
     next: &[u16],
     store: &[i64],
     top: u32,
@@ -301,14 +286,15 @@ fn frame_references(
     q: u16,
     base: u32,
 ) -> bool
-    requires { ⌜ Lent (now (now image)) (now plan) (now t) (now f) (now starts) (now ends)
+    requires { ⌜ Lent (now (now image)) (now plan) (now starts) (now ends)
         × Skips (programOf (now (now image))) (now next)
-        × Stacked (programOf (now (now image))) (now store) top (now blocks)
+        × Stacked (programOf (now (now image))) (now store) top (now blocks) base
         × (q < rowsOf (programOf (now (now image)) .procedures))
         × (base + frameSize (programOf (now (now image)) .types) (programOf (now (now image)) .fields)
         (programOf (now (now image)) .variables) (programOf (now (now image)) .procedures) q ≤ top) ⌝ }
-    ensures { λ x. ⌜ ((qs older : List ℕ) → Framed (programOf (now (now (image .entry)))) (now (store .entry)) top
-        (now (blocks .entry)) qs → Oldest older qs → base ≡ roomOf (programOf (now (now (image .entry)))) older
+    ensures { λ x. ⌜ ((p : ℕ) (qs older : List ℕ) → Framed (programOf (now (now (image .entry)))) (now (store .entry))
+        top (now (blocks .entry)) qs → Oldest (p ∷ older) qs
+        → base ≡ roomOf (programOf (now (now (image .entry)))) older
         → x ≡ variablesPass (programOf (now (now (image .entry))))
         (referenceTest (programOf (now (now (image .entry)))) older)
         (firstVariable (programOf (now (now (image .entry))) .variables)
@@ -322,7 +308,7 @@ fn frame_references(
     let end = first + parameters as u32;
     let mut k = next[first as usize] as u32;
     while k < end {
-        if !parameter(image, plan, t, f, starts, ends, store, top, blocks, base, k) {
+        if !parameter(image, plan, starts, ends, store, top, blocks, base, k) {
             return false;
         }
         k = next[k as usize + 1] as u32;
@@ -334,10 +320,8 @@ fn frame_references(
 fn all_references(
     image: &&[u8],
     plan: &Plan,
-    t: &[u8],
-    f: &[u8],
-    starts: &[bool],
-    ends: &[bool],
+    starts: &Words,
+    ends: &Words,
     next: &[u16],
     store: &[i64],
     q: u16,
@@ -345,7 +329,7 @@ fn all_references(
     top: u32,
     blocks: &[u32],
 ) -> bool
-    requires { ⌜ Lent (now (now image)) (now plan) (now t) (now f) (now starts) (now ends)
+    requires { ⌜ Lent (now (now image)) (now plan) (now starts) (now ends)
         × Skips (programOf (now (now image))) (now next)
         × Asked (programOf (now (now image))) (now store) q base top (now blocks) ⌝ }
     ensures { λ x. ⌜ x ≡ referencesPass (programOf (now (now (image .entry))))
@@ -357,8 +341,6 @@ fn all_references(
         if !frame_references(
             image,
             plan,
-            t,
-            f,
             starts,
             ends,
             next,
@@ -397,14 +379,12 @@ pub fn references(
 {
     let t = access::table(*image, plan, 0);
     let f = access::table(*image, plan, 1);
-    let mut starts = [false; TABLE];
-    let mut ends = [false; TABLE];
-    objects::fill_all(t, f, plan, &mut starts, &mut ends);
+    let mut starts = [0u64; ROWS];
+    let mut ends = [0u64; ROWS];
+    objects::fill(t, f, plan, &mut starts, &mut ends);
     all_references(
         image,
         plan,
-        t,
-        f,
         &starts,
         &ends,
         next,

@@ -1,4 +1,3 @@
 pub mod Testing
-pub mod Frames
 pub mod Numbers
 pub mod Passing

@@ -1,19 +1,18 @@
 -- Tests of a result's numbers.
 use mathlib.Core.Path.{_≡_, refl, sym, _∙_, ap}
 use mathlib.Core.Bool.{Bool, true, false}
-use Prim.Native.Nat.{ℕ, _+_, _-_, _≤_, _<_}
+use Prim.Native.Nat.{ℕ, _+_, _-_, _≤_}
 use native.Mathlib.Omega.{arith}
 use native.Mathlib.Decide.{decLe}
-use borrow.Author.Tests.{eqb-true, eq-eqb, ne-eqb, le-leb, lt-leb}
+use borrow.Author.Tests.{eqb-true, eq-eqb, le-leb, lt-leb}
 use lib.Dec.{leb, eqb}
-use lib.IntN.{ℤ, pos}
+use lib.IntN.{ℤ}
 use mir.Syntax.{w32}
 use mir.Val.{toZ, ofZ}
-use Rattle.prelude.proofs.Choice.{clash}
+use Rattle.prelude.proofs.Choice.{clash, not-yes}
 use Rattle.asking.specs.State.{isNumber}
 use Rattle.asking.proofs.Built.{number-is}
 use Rattle.asking.proofs.Told.{number-same}
-use Rattle.unwinding.proofs.Links.{not-yes}
 
 -- a number of 32 bits with a sign is 0
 pub zero-told : (z : ℤ) → toZ w32 (ofZ w32 z) ≡ z → eqb (ofZ w32 z) 0 ≡ isNumber z 0

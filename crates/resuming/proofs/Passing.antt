@@ -1,7 +1,7 @@
 -- Question 14 part by part, as the code asks it.
-use mathlib.Core.Path.{_≡_, refl, sym, _∙_, ap}
+use mathlib.Core.Path.{_≡_, refl, _∙_, ap}
 use mathlib.Core.Bool.{Bool, true, false}
-use mathlib.Core.List.{List, [], _∷_}
+use mathlib.Core.List.{List}
 use Prim.Native.Nat.{ℕ, suc, _+_, _≤_, _<_}
 use native.Mathlib.Omega.{arith}
 use borrow.Author.Tests.{lt-leb, le-leb}
@@ -11,60 +11,46 @@ use lib.ListN.{length}
 use Rattle.prelude.specs.Choice.{_also_}
 use Rattle.prelude.specs.Cells.{Filled}
 use Rattle.prelude.proofs.Cells.{filled-at}
-use Rattle.prelude.proofs.Choice.{also-left, also-right, also-pass, also-true, also-yes}
+use Rattle.prelude.proofs.Choice.{also-left, also-right, also-pass, also-yes}
 use Rattle.image.specs.Rows.{rowsOf}
-use Rattle.image.specs.declared.Verdict.the-variants.{Kept}
 use Rattle.frames.specs.Variables.{globalsOf}
 use Rattle.frames.specs.Procedures.{firstFrom, firstVariable}
 use Rattle.frames.proofs.Claiming.{globals-within}
 use Rattle.places.specs.Places.{roomFrom, globalCells}
 use Rattle.statements.specs.Statements.{procedureAt}
-use Rattle.types.specs.Question.{question4}
-use Rattle.objects.specs.Looking.{Typed}
 use Rattle.semantics.specs.declared.Registers.{Registers}
 use Rattle.semantics.specs.declared.RunResult.{RunResult}
 use Rattle.semantics.specs.Layout.{Program}
 use Rattle.semantics.specs.Running.{programOf}
 use Rattle.semantics.proofs.Demand3.{program-accepted}
 use Rattle.asking.specs.Asking.{roomOf}
-use Rattle.asking.specs.State.{chain, framesOf, insideKept, soundOf, endsAt}
-use Rattle.asking.specs.Passes.{Walked, linked, valuesPass, referencesPass}
+use Rattle.asking.specs.State.{chain, framesOf, insideKept, soundOf}
+use Rattle.asking.specs.Passes.{Walked}
 use Rattle.asking.specs.Continuing.{unfinished, withinLent, question14}
 use Rattle.asking.proofs.Passing.{sound-passes}
 use Rattle.access.specs.Ready.{Planned, Ready}
-use Rattle.access.proofs.Bounds.{types-few, procedures-few}
+use Rattle.access.proofs.Bounds.{procedures-few}
 use Rattle.contents.specs.Kinds.{evenOf}
-use Rattle.contents.specs.Reading.{Even, Readable}
 use Rattle.unwinding.proofs.Walking.{room-least, walked-base, walked-links}
-use Rattle.unwinding.proofs.Links.{not-yes}
-use Rattle.unwinding.proofs.Bodies.{inside-there, body-inside}
+use Rattle.unwinding.proofs.Bodies.{inside-missing, body-inside}
 use Rattle.unwinding.specs.Going.{Going}
 use Rattle.unwinding.proofs.Going.{going-start}
+use Rattle.referents.proofs.Lending.{typed-plan}
 use Rattle.resuming.specs.Reading.{ReadableImage, framesSound}
 
 -- ---- what is read
 
-pub types-kept : {image plan : List ℕ} → Planned image plan
-    → question4 (programOf image .types) (programOf image .fields) ≡ Kept
-types-kept {image} p = program-accepted image (p .checked .accepted) .questions .types
-
--- a plan holds the sizes of accepted types
-typed-by : {image plan : List ℕ} → Planned image plan → Typed (programOf image .types) (programOf image .fields) plan
-typed-by {image} p =
-    let few = types-few p in
-    record {
-      few = few;
-      kept = types-kept p;
-      room = omega (arith, p .checked .cells);
-      size = p .checked .size;
-    }
-
 pub readable-by : {image plan old even : List ℕ} {store : List ℤ} → Planned image plan
-    → rowsOf (programOf image .types) ≤ length old → Filled 0 (rowsOf (programOf image .types)) (evenOf (programOf image .types) (programOf image .fields)) old even
+    → rowsOf (programOf image .types) ≤ length old
+    → Filled 0 (rowsOf (programOf image .types)) (evenOf (programOf image .types) (programOf image .fields)) old even
     → length store ≤ 65536 → ReadableImage image plan even store
 readable-by {image} p rows filled most = record {
   planned = p;
-  readable = record { typed = typed-by p; evens = record { rows = rw (filled .cells) rows; each = filled-at filled }; most = most };
+  readable = record {
+    typed = typed-plan p;
+    evens = record { rows = rw (filled .cells) rows; each = filled-at filled };
+    most = most;
+  };
 }
 
 -- the globals are the variables before procedure 0's
@@ -105,10 +91,8 @@ module _ (image : List ℕ) {plan : List ℕ} (ready : Ready image plan) (s : Re
 
   -- a row behind the last lies in no body
   pub sound-row : rowsOf (g .statements) ≤ s .row → soundOf g s store ≡ false
-  sound-row past = asked ∙ also-right (leb (s .top) (length store)) (also-left _ (outside _))
-    where
-      outside : (q : ℕ) → insideKept g q (s .row) ≡ false
-      outside q = not-yes _ (λ e. absurd (omega (arith, inside-there (ready .planned) q (s .row) e .1)))
+  sound-row past =
+      asked ∙ also-right (leb (s .top) (length store)) (also-left _ (inside-missing (ready .planned) _ (s .row) past))
 
   pub sound-frames : s .top ≤ length store → s .row < rowsOf (g .statements)
       → soundOf g s store
@@ -123,7 +107,8 @@ module _ (image : List ℕ) {plan : List ℕ} (ready : Ready image plan) (s : Re
 pub procedure-low : (image : List ℕ) {plan : List ℕ} → Ready image plan → {r : ℕ}
     → r < rowsOf (programOf image .statements) → procedureAt (programOf image .procedures) r < 64
 procedure-low image ready there =
-    omega (arith, program-accepted image (ready .planned .checked .accepted) .body _ there .procedure, procedures-few (ready .planned))
+    let body = program-accepted image (ready .planned .checked .accepted) .body _ there in
+    omega (arith, body .procedure, procedures-few (ready .planned))
 
 -- ---- question 14
 

@@ -55,5 +55,7 @@ pub inside-value : {image plan : List ℕ} {store : List ℤ} → Planned image 
     → Inside (programOf image .types) (programOf image .fields) store (rowAt (programOf image .variables) k .a) a
 inside-value {image} p k a there e room = record {
   row = variable-typed p k there;
-  room = rw (width-other (sizeOf (programOf image .types) (programOf image .fields)) (programOf image .variables) k e) at room;
+  room =
+      rw (width-other (sizeOf (programOf image .types) (programOf image .fields)) (programOf image .variables) k e)
+      at room;
 }

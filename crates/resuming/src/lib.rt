@@ -5,7 +5,7 @@ use semantics::RunResult;
 use unwinding::BLOCKS;
 use unwinding::NEXT;
 ghost use mathlib.Core.Path.{_≡_};
-ghost use Prim.Native.Nat.{ℕ, suc, _+_, _≤_, _<_};
+ghost use Prim.Native.Nat.{suc, _+_, _≤_, _<_};
 ghost use lib.ListN.{length, drop};
 ghost use Rattle.image.specs.Rows.{rowAt, rowsOf};
 ghost use Rattle.frames.specs.Procedures.{firstVariable, claimedBy};
@@ -14,7 +14,7 @@ ghost use Rattle.semantics.specs.Running.{programOf};
 ghost use Rattle.asking.specs.State.{chain, soundOf};
 ghost use Rattle.asking.specs.Passes.{Walked, variablesPass, framesPass, valueTest, valuesPass};
 ghost use Rattle.asking.specs.Continuing.{unfinished, withinLent, question14};
-ghost use Rattle.access.specs.Ready.{Planned, Ready};
+ghost use Rattle.access.specs.Ready.{Ready};
 ghost use Rattle.unwinding.specs.Next.{Skips};
 ghost use Rattle.resuming.specs.Reading.{ReadableImage, framesSound};
 

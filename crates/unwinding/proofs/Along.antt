@@ -11,7 +11,7 @@ use lib.IntN.{ℤ, pos}
 use lib.ListN.{length, getD}
 use Rattle.prelude.specs.Choice.{_also_}
 use Rattle.prelude.specs.Cells.{Filled}
-use Rattle.prelude.proofs.Choice.{choose-yes, choose-no, also-true, also-yes, clash}
+use Rattle.prelude.proofs.Choice.{choose-yes, choose-no, also-true, also-yes, clash, not-yes, same-truth}
 use Rattle.prelude.proofs.Cells.{filled-at}
 use Rattle.image.specs.Rows.{rowsOf}
 use Rattle.semantics.specs.Layout.{Program}
@@ -24,7 +24,7 @@ use Rattle.access.proofs.Bounds.{procedures-few}
 use Rattle.unwinding.specs.declared.Spot.{Spot}
 use Rattle.unwinding.specs.Links.{linkAt, callerOf, sizeKept, oldestKept}
 use Rattle.unwinding.specs.Blocks.{BLOCKS, BLOCK, blockEnd, Blocks}
-use Rattle.unwinding.proofs.Links.{same-truth, not-yes, link-is, link-back}
+use Rattle.unwinding.proofs.Links.{link-is, link-back}
 use Rattle.unwinding.proofs.Blocks.{block-begun, block-before, block-within, block-all}
 use Rattle.unwinding.proofs.Walking.{frame, frame-links, natural, walked-base, walked-end, walked-links}
 use Rattle.unwinding.proofs.Walking.{walked-procedure, walked-oldest, oldest-walked, Newer, walked-newer}

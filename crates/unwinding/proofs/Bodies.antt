@@ -1,22 +1,15 @@
 -- Bodies of an accepted image, as the code asks for them.
-use mathlib.Core.Path.{_≡_, sym, _∙_, ap}
+use mathlib.Core.Path.{_≡_, sym, _∙_}
 use mathlib.Core.Bool.{true, false}
 use mathlib.Core.List.{List}
-use Prim.Native.Nat.{ℕ, _<_}
+use Prim.Native.Nat.{ℕ, _≤_, _<_}
 use native.Mathlib.Omega.{arith}
-use native.Mathlib.Decide.{decLt}
 use borrow.Author.Tests.{ltb-true, leb-true, eqb-true, lt-ltb, le-leb, eq-eqb}
-use lib.Dec.{ltb, eqb}
-use Rattle.prelude.specs.Choice.{_also_}
-use Rattle.prelude.proofs.Choice.{also-true, also-yes}
-use Rattle.image.specs.declared.Row.{Row}
-use Rattle.image.specs.Rows.{rowAt, rowsOf}
-use Rattle.image.proofs.Bytes.{row-missing}
+use lib.Dec.{eqb}
+use Rattle.prelude.proofs.Choice.{also-true, also-yes, not-yes, same-truth}
+use Rattle.image.specs.Rows.{rowsOf}
 use Rattle.statements.specs.Statements.{procedureAt}
-use Rattle.statements.proofs.Bodies.{InBody, end-within, start-in, body-only}
-use Rattle.statements.proofs.Accepted.{StatementRow, StatementRow.is-assign, StatementRow.is-call}
-use Rattle.statements.proofs.Accepted.{StatementRow.is-jump, StatementRow.is-goto, StatementRow.is-return}
-use Rattle.statements.proofs.Accepted.{StatementRow.is-read, StatementRow.is-write, StatementRow.is-halt}
+use Rattle.statements.proofs.Bodies.{InBody, end-within, body-only}
 use Rattle.checker.proofs.Accepted.{AcceptedTables}
 use Rattle.semantics.specs.Layout.{Program}
 use Rattle.semantics.specs.Running.{programOf}
@@ -24,18 +17,6 @@ use Rattle.semantics.proofs.Demand3.{program-accepted}
 use Rattle.asking.specs.State.{insideKept, callKept}
 use Rattle.access.specs.Ready.{Planned}
 use Rattle.access.proofs.Bounds.{procedures-few, statements-few}
-use Rattle.unwinding.proofs.Links.{same-truth, not-yes}
-
--- an accepted statement is of a kind that there is
-kind-low : (n p s : List ℕ) (r : ℕ) → StatementRow n p s r → rowAt s r .kind < 255
-kind-low n p s r (is-assign z k a) = omega arith
-kind-low n p s r (is-call z k a) = omega arith
-kind-low n p s r (is-jump z k a) = omega arith
-kind-low n p s r (is-goto z k a) = omega arith
-kind-low n p s r (is-return z k a) = omega arith
-kind-low n p s r (is-read z k a) = omega arith
-kind-low n p s r (is-write z k a) = omega arith
-kind-low n p s r (is-halt z k a) = omega arith
 
 module _ {image plan : List ℕ} (p : Planned image plan) where
   abbrev g : Program
@@ -74,23 +55,11 @@ module _ {image plan : List ℕ} (p : Planned image plan) where
       let (x, y) = inside-there c back two in
       (omega (arith, procedures-few p), omega (arith, statements-few p))
 
-  -- where there is no row
-  pub inside-missing : (q r : ℕ) {row : Row} → row ≡ rowAt (g .statements) r → row .kind ≡ 255
-      → false ≡ insideKept g q r
-  inside-missing q r {row} e none = sym (not-yes _ (λ kept.
-      let here = kind-low (g .nodes) (g .procedures) (g .statements) r (ok .statement r (inside-there q r kept .1)) in
-      let same = ap (λ (x : Row). x .kind) e in
-      absurd (omega arith)))
+  -- no body has a row that is not there
+  pub inside-missing : (q r : ℕ) → rowsOf (g .statements) ≤ r → insideKept g q r ≡ false
+  inside-missing q r high = not-yes _ (λ kept. absurd (omega (arith, inside-there q r kept .1)))
 
-  -- where there is one
-  pub statement-there : (r : ℕ) {row : Row} → row ≡ rowAt (g .statements) r → (row .kind ≡ 255 → ⊥)
-      → r < rowsOf (g .statements)
-  statement-there r {row} e some = go (decLt r (rowsOf (g .statements)))
-    where
-      go : Dec (r < rowsOf (g .statements)) → r < rowsOf (g .statements)
-      go (yes h) = h
-      go (no h) = absurd (some (ap (λ (x : Row). x .kind) (e ∙ row-missing (g .statements) r (omega arith))))
-
+  -- each other row lies in that of its own procedure alone
   pub inside-owner : (q r x : ℕ) → r < rowsOf (g .statements) → x ≡ procedureAt (g .procedures) r
       → eqb x q ≡ insideKept g q r
   inside-owner q r x low e = same-truth _ _
@@ -98,11 +67,3 @@ module _ {image plan : List ℕ} (p : Planned image plan) where
       body-inside q r (rw one at (ok .body r low)))
       (λ kept. eq-eqb x q (e ∙ sym
       (body-only (g .variables) (g .procedures) (g .statements) (ok .procedures) q r (inside-body q r kept))))
-
-  -- a procedure's first row lies in its body
-  pub inside-first : (q : ℕ) {row : Row} → row ≡ rowAt (g .procedures) q
-      → insideKept g q (row .a) ≡ ltb q (rowsOf (g .procedures))
-  inside-first q {row} e = same-truth _ _
-      (λ kept. lt-ltb _ _ (inside-there q (row .a) kept .0))
-      (λ low. rw e (body-inside q _
-      (start-in (g .variables) (g .procedures) (g .statements) (ok .procedures) q (ltb-true _ _ low))))

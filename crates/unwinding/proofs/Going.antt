@@ -22,7 +22,7 @@ use Rattle.asking.specs.Passes.{linked, Walked, newestBelow}
 use Rattle.access.specs.Ready.{Planned}
 use Rattle.unwinding.specs.declared.Spot.{Spot}
 use Rattle.unwinding.specs.Links.{callerOf, spotOf}
-use Rattle.unwinding.specs.Going.{Going, Newest}
+use Rattle.unwinding.specs.Going.{Going, Newest, Oldest, Oldest.all, Oldest.newer}
 use Rattle.unwinding.proofs.Links.{link-is, spot-is}
 use Rattle.unwinding.proofs.Walking.{walked-base, walked-links}
 use Rattle.unwinding.proofs.Walking.{walked-procedure, walked-oldest, walked-newer, walked-older}
@@ -147,6 +147,20 @@ module _ (g : Program) where
       let (s, n) = some-newest qs at w low in
       let is = ap spotOf (n .packed) ∙ spot-is (s .procedure) (s .base) (omega (arith, n .below)) in
       rw is n
+
+  -- of walked frames the oldest, from that of procedure p on, are walked too and end no higher; what is sought at an
+  -- address that is no higher than where this one begins is sought among them
+  pub going-from : {p from : ℕ} {qs older : List ℕ} {store : List ℤ} {b e : ℕ} → Walked g qs store b e
+      → Oldest (p ∷ older) qs → from ≡ roomOf g older → (at : ℕ) → at ≤ from
+      → (end : ℕ) × (end ≤ e) × Going g store (λ rest. newestBelow g qs at ≡ newestBelow g rest at) p from end
+  going-from {older = older} {e = e} w all is at low =
+      (e, omega arith, record { older = older; walked = rw (is ∙ sym (walked-base g w)) w; told = refl })
+  going-from {qs = q ∷ c ∷ qs} w (newer oldest) is at low =
+      let (end, most, h) = going-from (walked-older g w) oldest is at low in
+      let own = walked-links g w in
+      let begun = walked-links g (h .walked) in
+      let told = below-older q (c ∷ qs) at (omega (arith, walked-base g w)) ∙ h .told in
+      (end, omega arith, record { older = h .older; walked = h .walked; told = told })
 
 -- ---- procedure 0
 

@@ -1,5 +1,5 @@
 -- Laws of links as the code reads them.
-use mathlib.Core.Path.{_≡_, refl, sym, _∙_, ap}
+use mathlib.Core.Path.{_≡_, _∙_, ap}
 use mathlib.Core.Bool.{Bool, true, false}
 use mathlib.Core.List.{List}
 use Prim.Native.Nat.{ℕ, _+_, _-_, _*_, _/_, _%_, _≤_, _<_}
@@ -10,20 +10,10 @@ use lib.Dec.{ltb, eqb}
 use lib.IntN.{ℤ, pos, negsuc}
 use lib.ListN.{getD}
 use Rattle.prelude.specs.Choice.{choose}
-use Rattle.prelude.proofs.Choice.{choose-yes}
+use Rattle.prelude.proofs.Choice.{choose-yes, same-truth}
 use Rattle.semantics.specs.declared.Mark.the-variants.{Number, Nothing}
 use Rattle.semantics.specs.Memory.{markOf, bare, cellAt, markAt}
 use Rattle.unwinding.specs.Links.{markNumber, linkAt, spotOf}
-
--- two tests that are true together are the same
-pub same-truth : (a b : Bool) → (a ≡ true → b ≡ true) → (b ≡ true → a ≡ true) → a ≡ b
-same-truth true b f h = sym (f refl)
-same-truth false true f h = h refl
-same-truth false false f h = refl
-
-pub not-yes : (a : Bool) → (a ≡ true → ⊥) → a ≡ false
-not-yes true h = absurd (h refl)
-not-yes false h = refl
 
 -- a number of 16 bits is read as it is
 pub link-is : (top : ℕ) (store : List ℤ) (a n : ℕ) → a < top → getD store a (pos 0) ≡ pos n → n < 65536

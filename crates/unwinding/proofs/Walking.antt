@@ -2,31 +2,23 @@
 use mathlib.Core.Path.{_≡_, refl, sym, _∙_, ap}
 use mathlib.Core.Bool.{true}
 use mathlib.Core.List.{List, [], _∷_}
-use Prim.Native.Nat.{ℕ, suc, _+_, _-_, _≤_, _<_}
+use Prim.Native.Nat.{ℕ, suc, _+_, _≤_, _<_}
 use native.Mathlib.Omega.{arith}
 use borrow.Author.Tests.{ltb-true, eqb-true, lt-ltb, eq-eqb}
 use lib.Dec.{eqb}
-use lib.IntN.{ℤ, pos, negsuc}
+use lib.IntN.{ℤ, pos}
 use lib.ListN.{length, getD, drop, length-drop}
 use lib.Seq.{getD-drop}
-use Rattle.prelude.specs.Choice.{choose, _also_}
+use Rattle.prelude.specs.Choice.{choose}
 use Rattle.prelude.proofs.Choice.{also-true, also-yes, clash}
 use Rattle.image.specs.Rows.{rowsOf}
 use Rattle.places.specs.Places.{frameSize}
 use Rattle.semantics.specs.Layout.{Program}
 use Rattle.asking.specs.Asking.{roomOf}
-use Rattle.asking.specs.State.{isNumber, naturalOf, chain, callKept, linksKept, endsAt}
+use Rattle.asking.specs.State.{naturalOf, chain, callKept, linksKept, endsAt}
 use Rattle.asking.specs.Passes.{frameLinked, linked, Walked}
-
--- a cell's number
-number-is : (z : ℤ) (n : ℕ) → isNumber z n ≡ true → z ≡ pos n
-unfolding isNumber
-number-is (pos m) n e = ap pos (eqb-true m n e)
-number-is (negsuc m) n e = clash (sym e)
-
-is-number : (z : ℤ) (n : ℕ) → z ≡ pos n → isNumber z n ≡ true
-unfolding isNumber
-is-number z n e = rw e (eq-eqb n n refl)
+use Rattle.asking.proofs.Built.{number-is}
+use Rattle.asking.proofs.Told.{number-same}
 
 pub natural : (m : ℕ) → naturalOf (pos m) ≡ m
 unfolding naturalOf
@@ -84,7 +76,7 @@ module _ (g : Program) where
   -- ---- what the links say
 
   -- of the oldest frame
-  pub record Oldest (q : ℕ) (store : List ℤ) (b e : ℕ) : Type 0 where
+  pub record OldestLinks (q : ℕ) (store : List ℤ) (b e : ℕ) : Type 0 where
     pub first : q ≡ 0
     pub procedure : q < rowsOf (g .procedures)
     pub base : b ≡ roomOf g []
@@ -140,7 +132,7 @@ module _ (g : Program) where
       → q < rowsOf (g .procedures)
   walked-procedure w = parts w .1
 
-  pub walked-oldest : {q : ℕ} {store : List ℤ} {b e : ℕ} → Walked g (q ∷ []) store b e → Oldest q store b e
+  pub walked-oldest : {q : ℕ} {store : List ℤ} {b e : ℕ} → Walked g (q ∷ []) store b e → OldestLinks q store b e
   unfolding linksKept
   walked-oldest w =
       let (others, low, links) = parts w in
@@ -199,13 +191,14 @@ module _ (g : Program) where
         links = also-yes others (rw base at own);
       }
 
-  pub oldest-walked : {q : ℕ} {store : List ℤ} {b e : ℕ} → b + 3 ≤ length store → Oldest q store b e
+  pub oldest-walked : {q : ℕ} {store : List ℤ} {b e : ℕ} → b + 3 ≤ length store → OldestLinks q store b e
       → Walked g (q ∷ []) store b e
   unfolding linksKept linked
   oldest-walked long o =
       whole _ [] _ _ _ (o .base) (o .size) long (o .procedure) refl
       (also-yes (eq-eqb _ _ (o .first))
-      (also-yes (is-number _ _ (o .is-caller)) (also-yes (is-number _ _ (o .is-back)) (is-number _ _ (o .is-base)))))
+      (also-yes (number-same _ _ (o .is-caller))
+      (also-yes (number-same _ _ (o .is-back)) (number-same _ _ (o .is-base)))))
 
   pub newer-walked : {q c back z : ℕ} {qs : List ℕ} {store : List ℤ} {b e : ℕ} → b + 3 ≤ length store
       → Newer q c back z store b e → Walked g (c ∷ qs) store z b → Walked g (q ∷ c ∷ qs) store b e
@@ -215,9 +208,9 @@ module _ (g : Program) where
       let called : callKept g q c (naturalOf (getD store (b + 1) (pos 0))) ≡ true = rw there (n .called) in
       whole q (c ∷ qs) store b e (sym (walked-room w)) (n .size) long (n .procedure) (w .links)
       (also-yes called
-      (also-yes (is-number _ _ (n .is-caller))
-      (also-yes (is-number _ _ (n .is-back ∙ ap pos (sym there)))
-      (is-number _ _ (n .is-base ∙ ap pos (walked-base w))))))
+      (also-yes (number-same _ _ (n .is-caller))
+      (also-yes (number-same _ _ (n .is-back ∙ ap pos (sym there)))
+      (number-same _ _ (n .is-base ∙ ap pos (walked-base w))))))
 
   -- ---- the frames that the links lead to
 

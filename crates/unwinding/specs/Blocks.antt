@@ -8,10 +8,10 @@ use Rattle.asking.specs.Passes.{newestBelow}
 
 -- how many blocks of how many cells: the constants of the code once more
 abbrev pub BLOCKS : ℕ
-BLOCKS = 1024
+BLOCKS = 512
 
 abbrev pub BLOCK : ℕ
-BLOCK = 64
+BLOCK = 128
 
 -- where block j ends
 unfoldable pub blockEnd : ℕ → ℕ

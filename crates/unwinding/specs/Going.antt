@@ -26,3 +26,8 @@ pub record Newest (g : Program) (all : List ℕ) (store : List ℤ) (e at : ℕ)
   pub packed : newestBelow g all at ≡ s .procedure * 65536 + s .base
   pub same : (a : ℕ) → a ≤ at → newestBelow g all a ≡ newestBelow g (s .procedure ∷ older) a
   pub object : (w a : ℕ) → a ≤ at → objectAt g w all a ≡ objectAt g w (s .procedure ∷ older) a
+
+-- some frames are the oldest of others
+pub data Oldest (older : List ℕ) : List ℕ → Type 0 where
+  all : Oldest older older
+  newer : {q : ℕ} {qs : List ℕ} → Oldest older qs → Oldest older (q ∷ qs)

@@ -4,7 +4,7 @@ use access::Plan;
 use semantics::Mark;
 ghost use mathlib.Core.Path.{_≡_};
 ghost use mathlib.Core.Bool.{true};
-ghost use mathlib.Core.List.{List, []};
+ghost use mathlib.Core.List.{List, [], _∷_};
 ghost use Prim.Native.Nat.{ℕ, suc, _+_, _-_, _≤_, _<_};
 ghost use lib.Dec.{ltb};
 ghost use lib.ListN.{length};
@@ -19,6 +19,7 @@ ghost use Rattle.asking.specs.Passes.{linked, Walked, newestBelow};
 ghost use Rattle.access.specs.Ready.{Planned, Ready};
 ghost use Rattle.unwinding.specs.Links.{linkAt, callerOf, spotOf, sizeKept, oldestKept};
 ghost use Rattle.unwinding.specs.Blocks.{BLOCKS, Blocks};
+ghost use Rattle.unwinding.specs.Going.{Oldest};
 ghost use Rattle.unwinding.specs.Next.{NEXT, firstOr, nextOf};
 
 // A frame: its procedure, and where it begins.
@@ -28,10 +29,10 @@ pub struct Spot {
 }
 
 // How many blocks a store has at most.
-pub const BLOCKS: usize = 1024;
+pub const BLOCKS: usize = 512;
 
 // How many cells a block has.
-const BLOCK: u32 = 64;
+const BLOCK: u32 = 128;
 
 // How many places a table of variables with cells has: one a row, and one behind.
 pub const NEXT: usize = 257;
@@ -62,17 +63,23 @@ pub fn caller(store: &[i64], top: u32, base: u32) -> Spot
     }
 }
 
-// The newest frame that begins below an address behind the globals: that of its block, or one few links away.
-pub fn frame_below(store: &[i64], top: u32, blocks: &[u32], at: u32) -> Spot
+// The newest frame that begins below an address, which lies behind the globals and no higher than where the frame at
+// `from` begins: few links away from this frame or from that of the address's block, whichever is older.
+pub fn frame_below(store: &[i64], top: u32, blocks: &[u32], from: u32, at: u32) -> Spot
     requires { ⌜ (top ≤ length (now store)) × (BLOCKS ≤ length (now blocks)) × (1 ≤ at) × (at ≤ 65536) ⌝ }
-    ensures { λ x. ⌜ ((g : Program) (qs : List ℕ) (b e : ℕ) → Walked g qs (now (store .entry)) b e → e ≤ top
+    ensures { λ x. ⌜ ((g : Program) (qs older : List ℕ) (p b e : ℕ) → Walked g qs (now (store .entry)) b e → e ≤ top
         → rowsOf (g .procedures) ≤ 64 → Blocks g qs (now (blocks .entry)) → roomOf g [] < at
+        → Oldest (p ∷ older) qs → from ≡ roomOf g older → at ≤ from
         → x ≡ spotOf (newestBelow g qs at)) ⌝ }
 {
     let block = (at - 1) / BLOCK;
     let packed = blocks[block as usize];
     let mut q = (packed / 65536) as u16;
     let mut b = packed % 65536;
+    // q is not the procedure of the frame at `from`, but the loop leaves that frame at once
+    if from < b {
+        b = from;
+    }
     while at <= b {
         let older = caller(store, top, b);
         let procedure = older.procedure;
@@ -92,27 +99,25 @@ pub fn frame_below(store: &[i64], top: u32, blocks: &[u32], at: u32) -> Spot
 // ---- frames of a program
 
 // Whether statement row r lies in the body of procedure q.
-pub fn inside(image: &&[u8], plan: &Plan, q: u16, r: u32) -> bool
+fn inside(image: &&[u8], plan: &Plan, q: u16, r: u32) -> bool
     requires { ⌜ Ready (now (now image)) (now plan) ⌝ }
     ensures { λ x. ⌜ x ≡ insideKept (programOf (now (now (image .entry)))) q r ⌝ }
 {
-    let row = access::statement_at(image, plan, r);
-    let kind = row.kind;
-    if kind == 255 {
+    let statements = image::rows_of(access::table(*image, plan, 5));
+    if statements <= r as usize {
         return false;
     }
     let owner = access::procedure_of(image, plan, r);
     owner == q as u32
 }
 
-// Whether there is a procedure q: the first row of its body lies in it.
+// Whether there is a procedure q.
 fn is_procedure(image: &&[u8], plan: &Plan, q: u16) -> bool
     requires { ⌜ Ready (now (now image)) (now plan) ⌝ }
     ensures { λ x. ⌜ x ≡ ltb q (rowsOf (programOf (now (now (image .entry))) .procedures)) ⌝ }
 {
-    let procedure = access::procedure_at(image, plan, q);
-    let first = procedure.a;
-    inside(image, plan, q, first as u32)
+    let procedures = image::rows_of(access::table(*image, plan, 3));
+    (q as usize) < procedures
 }
 
 // Whether row `back` follows a call of procedure q in the body of procedure c.

@@ -2,9 +2,9 @@ use mathlib.Core.Path.{_≡_, sym, _∙_, ap}
 use Prim.Native.Nat.{_+_, _-_}
 use native.Mathlib.Omega.{arith}
 use denote.Ref.{now}
+use Rattle.prelude.specs.Bits.{bitOf}
 use Rattle.relations.proofs.Extension.{extends-missing, extends-later}
 use Rattle.semantics.specs.Running.{programOf}
-use Rattle.ancestors.specs.Ancestors.{bitOf}
 use Rattle.ancestors.proofs.Ancestors.{word-bit}
 use Rattle.access.proofs.Bounds.{types-few}
 use borrow.Author.Needs.{needs}

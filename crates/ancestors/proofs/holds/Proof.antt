@@ -1,5 +1,5 @@
 use mathlib.Core.Path.{refl}
-use Rattle.ancestors.specs.Ancestors.{bitOf}
+use Rattle.prelude.specs.Bits.{bitOf}
 use borrow.Author.Needs.{needs}
 use Rattle.ancestors.proofs.holds.Statement.{statement}
 use Rattle.ancestors.proofs.holds.Tie as tie

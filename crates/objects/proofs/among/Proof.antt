@@ -1,7 +1,7 @@
 use denote.Ref.{now}
 use mathlib.Core.Path.{_≡_, refl, sym, _∙_}
 use mathlib.Core.Bool.{Bool}
-use Prim.Native.Nat.{ℕ, _-_, _≤_, _<_}
+use Prim.Native.Nat.{ℕ, _+_, _-_, _≤_, _<_}
 use native.Mathlib.Omega.{arith}
 use borrow.Author.Needs.{needs}
 use Rattle.shapes.specs.Forms.{ownTypes}
@@ -14,23 +14,23 @@ use Rattle.objects.proofs.among.Tie as tie
 use Rattle.objects.proofs.among.Reads as reads
 use Rattle.objects.proofs.among.Lts as lts
 use Rattle.objects.proofs.among_first.Reads as among-first-reads
-use Rattle.objects.proofs.field_type.Reads as field-type-reads
+use Rattle.image.proofs.a_at.Reads as a-at-reads
 use Rattle.objects.proofs.marked.Reads as marked-reads
 use Rattle.objects.proofs.told.Reads as told-reads
 
 abbrev Inv-loop : tie.InvT-loop
-Inv-loop f plan starts ends k e o j₀ rest₀ j rest = (k ≤ j) × (0 < rest)
-    × ((deeper : ℕ → ℕ → Bool) (m : ℕ) → Edges deeper (held plan) m starts ends → LowTypes f k e m
+Inv-loop f plan starts ends w k e o j₀ rest₀ j rest = (k ≤ j) × (0 < rest)
+    × ((deeper : ℕ → ℕ → Bool) (m : ℕ) → Edges deeper (held plan) w m starts ends → LowTypes f k e m
     → among deeper (held plan) (ownTypes f k (e - k)) o ≡ among deeper (held plan) (ownTypes f j (e - j)) rest)
 
 abbrev μ-loop : tie.MeasureT-loop
-μ-loop f plan starts ends k e o j₀ rest₀ j rest = e - j
+μ-loop f plan starts ends w k e o j₀ rest₀ j rest = e - j
 
 loop-holds : tie.Need-loop-holds Inv-loop μ-loop
-loop-holds c = (omega arith, c .before .before .before .before .pre .1, λ deeper m edges lows. refl)
+loop-holds c = (omega arith, c .before .before .pre .3, λ deeper m edges lows. refl)
 
-field-type-requires : tie.Need-field-type-requires Inv-loop μ-loop
-field-type-requires c κs = let rows = c .before .before .before .before .before .before .pre .0 .within in
+a-at-requires : tie.Need-a-at-requires Inv-loop μ-loop
+a-at-requires c κs = let rows = c .before .before .before .before .pre .0 .within in
     omega (arith, rows, c .loop-test .taken)
 
 cast-size : tie.Need-cast-size Inv-loop μ-loop
@@ -41,17 +41,17 @@ mul-size c = search needs
 
 shared-slice-read-size : tie.Need-shared-slice-read-size Inv-loop μ-loop
 shared-slice-read-size c = let l = c .before .before .before .loop in
-    let s = c .before .before .before .before .before .before .before .before in
-    rw (c .before .field-type .ensures)
+    let s = c .before .before .before .before .before .before in
+    rw (c .before .a-at .ensures)
     (s .pre .0 .each (l .j) (l .inv .0) (c .before .before .loop-test .taken))
 
-cast-t17 : tie.Need-cast-t17 Inv-loop μ-loop
-cast-t17 c = search needs
+cast-t18 : tie.Need-cast-t18 Inv-loop μ-loop
+cast-t18 c = search needs
 
 returns : tie.Need-returns Inv-loop μ-loop
 returns c = let l = c .before .before .before .before .loop in
     let more = c .before .before .before .loop-test .taken in
-    let this = c .before .before .field-type .ensures in
+    let this = c .before .before .a-at .ensures in
     λ deeper m edges lows.
     looks-inside (turn-low edges lows (l .inv .0) more this) (l .inv .1)
     (l .inv .2 deeper m edges lows ∙ turn-in edges lows (l .inv .0) more this refl (c .if1 .taken))
@@ -60,20 +60,23 @@ add-j : tie.Need-add-j Inv-loop μ-loop
 add-j c = omega arith
 
 marked-requires : tie.Need-marked-requires Inv-loop μ-loop
-marked-requires c κs = search needs
+marked-requires c κs = let s = c .before .before .before .before .before .before .before .before in
+    let l = c .before .before .before .before .before .loop in
+    (s .pre .2, omega (arith, s .pre .1 .each (l .j) (l .inv .0) (c .before .before .before .before .loop-test .taken)))
 
 returns-2 : tie.Need-returns-2 Inv-loop μ-loop
 returns-2 c = let l = c .before .before .before .before .before .before .before .loop in
     let more = c .before .before .before .before .before .before .loop-test .taken in
-    let this = c .before .before .before .before .before .field-type .ensures in
+    let this = c .before .before .before .before .before .a-at .ensures in
     λ deeper m edges lows.
     looks-yes (l .inv .2 deeper m edges lows ∙ turn-yes edges lows (l .inv .0) more this refl
     (c .before .before .if2 .taken) (c .before .marked .ensures) (c .if3 .taken))
 
 among-first-requires : tie.Need-among-first-requires Inv-loop μ-loop
 among-first-requires c κs = let l = c .before .before .before .before .before .before .before .loop in
-    let s = c .before .before .before .before .before .before .before .before .before .before .before .before in
-    lows-later (let least = l .inv .0 in omega arith) (s .pre .0)
+    let s = c .before .before .before .before .before .before .before .before .before .before in
+    let least : s .args .k ≤ l .j + 1 = let low = l .inv .0 in omega arith in
+    (lows-later least (s .pre .0), lows-later least (s .pre .1), s .pre .2)
 
 told-requires : tie.Need-told-requires Inv-loop μ-loop
 told-requires c κs = search needs
@@ -81,7 +84,7 @@ told-requires c κs = search needs
 returns-3 : tie.Need-returns-3 Inv-loop μ-loop
 returns-3 c = let l = c .before .before .before .before .before .before .before .before .before .loop in
     let more = c .before .before .before .before .before .before .before .before .loop-test .taken in
-    let this = c .before .before .before .before .before .before .before .field-type .ensures in
+    let this = c .before .before .before .before .before .before .before .a-at .ensures in
     λ deeper m edges lows.
     let first = c .before .among-first .ensures deeper m _ edges
     (lows-later (let least = l .inv .0 in omega arith) lows) in
@@ -98,11 +101,11 @@ loop-again c = let l = c .before .before .before .before .before .loop in (
   omega arith,
   λ deeper m edges lows. l .inv .2 deeper m edges lows
       ∙ turn-next edges lows (l .inv .0) (c .before .before .before .before .loop-test .taken)
-      (c .before .before .before .field-type .ensures) refl (omega arith),
+      (c .before .before .before .a-at .ensures) refl (omega arith),
 )
 
 returns-4 : tie.Need-returns-4 Inv-loop μ-loop
-returns-4 c = let a = c .before .before .before .before .before .before .args in
+returns-4 c = let a = c .before .before .before .before .args in
     let l = c .before .loop in
     λ deeper m edges lows.
     looks-no (l .inv .2 deeper m edges lows
@@ -115,11 +118,11 @@ among-spec =
     Inv-loop
     μ-loop
     loop-holds
-    field-type-requires
+    a-at-requires
     cast-size
     mul-size
     shared-slice-read-size
-    cast-t17
+    cast-t18
     returns
     add-j
     marked-requires

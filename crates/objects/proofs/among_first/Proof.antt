@@ -13,33 +13,35 @@ use Rattle.objects.proofs.among_first.Statement.{statement}
 use Rattle.objects.proofs.among_first.Tie as tie
 use Rattle.objects.proofs.among_first.Reads as reads
 use Rattle.objects.proofs.among_first.Lts as lts
-use Rattle.objects.proofs.field_type.Reads as field-type-reads
+use Rattle.image.proofs.a_at.Reads as a-at-reads
 use Rattle.objects.proofs.marked.Reads as marked-reads
 
 abbrev Inv-loop : tie.InvT-loop
-Inv-loop f plan starts k e j₀ j = (k ≤ j)
-    × ((deeper : ℕ → ℕ → Bool) (m : ℕ) (ends : List Bool) → Edges deeper (held plan) m starts ends → LowTypes f k e m
+Inv-loop f plan starts w k e j₀ j = (k ≤ j)
+    × ((deeper : ℕ → ℕ → Bool) (m : ℕ) (ends : List ℕ) → Edges deeper (held plan) w m starts ends → LowTypes f k e m
     → among deeper (held plan) (ownTypes f k (e - k)) 0 ≡ among deeper (held plan) (ownTypes f j (e - j)) 0)
 
 abbrev μ-loop : tie.MeasureT-loop
-μ-loop f plan starts k e j₀ j = e - j
+μ-loop f plan starts w k e j₀ j = e - j
 
 loop-holds : tie.Need-loop-holds Inv-loop μ-loop
 loop-holds c = (omega arith, λ deeper m ends edges lows. refl)
 
-field-type-requires : tie.Need-field-type-requires Inv-loop μ-loop
-field-type-requires c κs = let s = c .before .before .before .before .before in
-    let rows = s .pre .within in
+a-at-requires : tie.Need-a-at-requires Inv-loop μ-loop
+a-at-requires c κs = let s = c .before .before .before .before in
+    let rows = s .pre .0 .within in
     omega (arith, rows, c .loop-test .taken)
 
 marked-requires : tie.Need-marked-requires Inv-loop μ-loop
-marked-requires c κs = search needs
+marked-requires c κs = let s = c .before .before .before .before .before in
+    let l = c .before .before .loop in
+    (s .pre .2, omega (arith, s .pre .1 .each (l .j) (l .inv .0) (c .before .loop-test .taken)))
 
 returns : tie.Need-returns Inv-loop μ-loop
 returns c = let l = c .before .before .before .before .loop in
     λ deeper m ends edges lows. sym (l .inv .1 deeper m ends edges lows
     ∙ first-yes edges lows (l .inv .0) (c .before .before .before .loop-test .taken)
-    (c .before .before .field-type .ensures) (c .before .marked .ensures)
+    (c .before .before .a-at .ensures) (c .before .marked .ensures)
     (c .if1 .taken))
 
 cast-size : tie.Need-cast-size Inv-loop μ-loop
@@ -50,15 +52,15 @@ mul-size c = search needs
 
 shared-slice-read-size : tie.Need-shared-slice-read-size Inv-loop μ-loop
 shared-slice-read-size c = let l = c .before .before .before .before .before .loop in
-    let s = c .before .before .before .before .before .before .before .before .before in
-    rw (c .before .before .before .field-type .ensures)
-    (s .pre .each (l .j) (l .inv .0) (c .before .before .before .before .loop-test .taken))
+    let s = c .before .before .before .before .before .before .before .before in
+    rw (c .before .before .before .a-at .ensures)
+    (s .pre .0 .each (l .j) (l .inv .0) (c .before .before .before .before .loop-test .taken))
 
 returns-2 : tie.Need-returns-2 Inv-loop μ-loop
 returns-2 c = let l = c .before .before .before .before .before .before .loop in
     λ deeper m ends edges lows. sym (l .inv .1 deeper m ends edges lows
     ∙ first-no edges lows (l .inv .0) (c .before .before .before .before .before .loop-test .taken)
-    (c .before .before .before .before .field-type .ensures) (c .before .before .before .marked .ensures)
+    (c .before .before .before .before .a-at .ensures) (c .before .before .before .marked .ensures)
     refl (c .before .before .if1 .left) (c .if2 .taken))
 
 add-j : tie.Need-add-j Inv-loop μ-loop
@@ -72,13 +74,13 @@ loop-again c = let l = c .before .before .before .before .before .before .loop i
   omega arith,
   λ deeper m ends edges lows. l .inv .1 deeper m ends edges lows
       ∙ first-next edges lows (l .inv .0) (c .before .before .before .before .before .loop-test .taken)
-      (c .before .before .before .before .field-type .ensures)
+      (c .before .before .before .before .a-at .ensures)
       (c .before .before .before .marked .ensures) refl (c .before .before .if1 .left)
       (c .if2 .left),
 )
 
 returns-3 : tie.Need-returns-3 Inv-loop μ-loop
-returns-3 c = let a = c .before .before .before .before .before .args in
+returns-3 c = let a = c .before .before .before .before .args in
     let l = c .before .loop in
     λ deeper m ends edges lows. sym (l .inv .1 deeper m ends edges lows
     ∙ scan-end deeper (held (now (a .plan))) (now (a .f)) (l .j) (a .e) 0 (c .loop-test .left))
@@ -90,7 +92,7 @@ among-first-spec =
     Inv-loop
     μ-loop
     loop-holds
-    field-type-requires
+    a-at-requires
     marked-requires
     returns
     cast-size

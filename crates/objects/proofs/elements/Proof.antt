@@ -19,7 +19,7 @@ cell-requires : tie.Need-cell-requires
 cell-requires c κs = search needs
 
 returns : tie.Need-returns
-returns c = let a = c .before .before .before .before .before .before .args in
+returns c = let a = c .before .before .before .before .args in
     λ deeper m edges low least.
     looks-no (none-past edges low (a .n) (c .before .before .cell .ensures) (c .before .if1 .taken) (c .if2 .taken))
 
@@ -30,7 +30,7 @@ told-requires : tie.Need-told-requires
 told-requires c κs = search needs
 
 returns-2 : tie.Need-returns-2
-returns-2 c = let a = c .before .before .before .before .before .before .before .before .args in
+returns-2 c = let a = c .before .before .before .before .before .before .args in
     λ deeper m edges low least.
     looks-told (c .told .ensures)
     (none-first edges low (a .n) (c .before .before .before .before .cell .ensures)
@@ -50,7 +50,7 @@ told-requires-2 : tie.Need-told-requires-2
 told-requires-2 c κs = search needs
 
 returns-3 : tie.Need-returns-3
-returns-3 c = let a = c .before .before .before .before .before .before .before .before .args in
+returns-3 c = let a = c .before .before .before .before .before .before .args in
     let size = c .before .before .before .before .cell .result in
     let is = c .before .before .before .before .cell .ensures in
     λ deeper m edges low least.
@@ -60,7 +60,7 @@ returns-3 c = let a = c .before .before .before .before .before .before .before 
     (div-add-mod' (a .o) size) (c .before .before .if3 .taken) at)
 
 returns-4 : tie.Need-returns-4
-returns-4 c = let a = c .before .before .before .before .before .before .before .args in
+returns-4 c = let a = c .before .before .before .before .before .args in
     let size = c .before .before .before .cell .result in
     λ deeper m edges low least.
     looks-inside low (omega arith) (parted-inside edges low (a .n) (c .before .before .before .cell .ensures) (a .o / size)
@@ -68,7 +68,7 @@ returns-4 c = let a = c .before .before .before .before .before .before .before 
     (div-add-mod' (a .o) size) (c .before .if3 .left) (mod-lt (a .o) (omega arith)) (c .if4 .taken))
 
 returns-5 : tie.Need-returns-5
-returns-5 c = let a = c .before .before .before .before .before .before .before .args in
+returns-5 c = let a = c .before .before .before .before .before .args in
     let size = c .before .before .before .cell .result in
     λ deeper m edges low least.
     looks-no (parted-past edges low (a .n) (c .before .before .before .cell .ensures) (a .o / size) (a .o % size)

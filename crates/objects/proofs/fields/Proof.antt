@@ -2,7 +2,8 @@ use mathlib.Core.Path.{_≡_, sym, _∙_}
 use native.Mathlib.Omega.{arith}
 use borrow.Author.Needs.{needs}
 use Rattle.objects.proofs.Looks.{looks-yes, looks-told, looks-same}
-use Rattle.objects.proofs.Records.{base-some, own-low, own-room, record-own, record-yes, record-no}
+use Rattle.objects.proofs.Records.{base-some, base-few, own-low, own-room, own-few}
+use Rattle.objects.proofs.Records.{record-own, record-yes, record-no}
 use Rattle.objects.proofs.Bases.{said-end, looks-base}
 use Rattle.objects.proofs.fields.Statement.{statement}
 use Rattle.objects.proofs.fields.Tie as tie
@@ -35,58 +36,74 @@ sub-among : tie.Need-sub-among
 sub-among c = search needs
 
 among-requires : tie.Need-among-requires
-among-requires c κs = let s = c .before .before .before .before .before .before .before .before .before .before in
-    (own-room (s .pre .0) (s .args .r) (s .pre .1) (s .pre .2) (c .before .before .before .before .row-at .ensures), omega arith)
+among-requires c κs = let s = c .before .before .before .before .before .before .before .before in
+    let row = c .before .before .before .before .row-at .ensures in (
+      own-room (s .pre .0) (s .args .r) (s .pre .2) (s .pre .3) row,
+      own-few (s .pre .0) (s .args .r) (s .pre .2) (s .pre .3) row,
+      s .pre .1,
+      omega arith,
+    )
 
 returns : tie.Need-returns
-returns c = let s = c .before .before .before .before .before .before .before .before .before .before .before in
+returns c = let s = c .before .before .before .before .before .before .before .before .before in
     let row = c .before .before .before .before .before .row-at .ensures in
     λ edges.
-    let own = own-low (s .pre .0) (s .args .r) (s .pre .1) (s .pre .2) row in
-    looks-same (record-own (s .pre .0) (s .args .r) (s .pre .1) (s .pre .2) row _ (c .before .before .base-size .ensures)
+    let own = own-low (s .pre .0) (s .args .r) (s .pre .2) (s .pre .3) row in
+    looks-same (record-own (s .pre .0) (s .args .r) (s .pre .2) (s .pre .3) row _ (c .before .before .base-size .ensures)
     (s .args .o) edges (c .before .if1 .taken))
     (c .among .ensures _ (s .args .r) edges own)
 
 in-base-requires : tie.Need-in-base-requires
-in-base-requires c κs = base-some _ _ (c .before .before .base-size .ensures) (c .if2 .taken)
+in-base-requires c κs = let s = c .before .before .before .before .before .before .before .before .before in
+    let row = c .before .before .before .before .before .row-at .ensures in (
+      s .pre .1,
+      base-few (s .pre .0) (s .args .r) (s .pre .2) (s .pre .3) row,
+      base-some _ _ (c .before .before .base-size .ensures) (c .if2 .taken),
+    )
 
 returns-2 : tie.Need-returns-2
-returns-2 c = let s = c .before .before .before .before .before .before .before .before .before .before .before .before in
+returns-2 c = let s = c .before .before .before .before .before .before .before .before .before .before in
     let size = c .before .before .before .base-size .ensures in
     λ edges.
-    looks-base (s .pre .0) (s .args .w) (s .args .r) (s .pre .1) (s .pre .2) (c .before .before .before .before .before .before .row-at .ensures) edges (s .args .o)
+    looks-base (s .pre .0) (s .args .w) (s .args .r) (s .pre .2) (s .pre .3) (c .before .before .before .before .before .before .row-at .ensures) edges (s .args .o)
     size (c .before .if2 .taken) (base-some _ _ size (c .before .if2 .taken)) (c .in-base .ensures)
 
 of-base-requires : tie.Need-of-base-requires
-of-base-requires c κs = search needs
+of-base-requires c κs = let s = c .before .before .before .before .before .before .before .before .before in
+    let row = c .before .before .before .before .before .row-at .ensures in
+    (s .pre .1, base-few (s .pre .0) (s .args .r) (s .pre .2) (s .pre .3) row)
 
 returns-3 : tie.Need-returns-3
-returns-3 c = let s = c .before .before .before .before .before .before .before .before .before .before .before .before .before in
+returns-3 c = let s = c .before .before .before .before .before .before .before .before .before .before .before in
     let row = c .before .before .before .before .before .before .before .row-at .ensures in
     let size = c .before .before .before .before .base-size .ensures in
     let last : s .args .o ≡ c .before .before .before .before .base-size .result = omega (arith, c .before .before .if2 .left, c .before .before .before .if1 .left) in
     λ edges.
-    looks-yes (record-yes (s .pre .0) (s .args .r) (s .pre .1) (s .pre .2) row _ size (s .args .o)
-    (sym (said-end (s .pre .0) (s .args .w) (s .args .r) (s .pre .1) (s .pre .2) row edges (s .args .o) (last ∙ size))
+    looks-yes (record-yes (s .pre .0) (s .args .r) (s .pre .2) (s .pre .3) row _ size (s .args .o)
+    (sym (said-end (s .pre .0) (s .args .w) (s .args .r) (s .pre .2) (s .pre .3) row edges (s .args .o) (last ∙ size))
     ∙ sym (c .before .of-base .ensures) ∙ c .if3 .taken))
 
 among-first-requires : tie.Need-among-first-requires
-among-first-requires c κs = let s = c .before .before .before .before .before .before .before .before .before .before .before .before .before in
-    own-room (s .pre .0) (s .args .r) (s .pre .1) (s .pre .2) (c .before .before .before .before .before .before .before .row-at .ensures)
+among-first-requires c κs = let s = c .before .before .before .before .before .before .before .before .before .before .before in
+    let row = c .before .before .before .before .before .before .before .row-at .ensures in (
+      own-room (s .pre .0) (s .args .r) (s .pre .2) (s .pre .3) row,
+      own-few (s .pre .0) (s .args .r) (s .pre .2) (s .pre .3) row,
+      s .pre .1,
+    )
 
 told-requires : tie.Need-told-requires
 told-requires c κs = search needs
 
 returns-4 : tie.Need-returns-4
-returns-4 c = let s = c .before .before .before .before .before .before .before .before .before .before .before .before .before .before .before in
+returns-4 c = let s = c .before .before .before .before .before .before .before .before .before .before .before .before .before in
     let row = c .before .before .before .before .before .before .before .before .before .row-at .ensures in
     let size = c .before .before .before .before .before .before .base-size .ensures in
     let last : s .args .o ≡ c .before .before .before .before .before .before .base-size .result = omega (arith, c .before .before .before .before .if2 .left, c .before .before .before .before .before .if1 .left) in
     λ edges.
-    let own = own-low (s .pre .0) (s .args .r) (s .pre .1) (s .pre .2) row in
+    let own = own-low (s .pre .0) (s .args .r) (s .pre .2) (s .pre .3) row in
     looks-told (c .told .ensures) (c .before .among-first .ensures _ (s .args .r) _ edges own
-    ∙ record-no (s .pre .0) (s .args .r) (s .pre .1) (s .pre .2) row _ size (s .args .o)
-    (sym (said-end (s .pre .0) (s .args .w) (s .args .r) (s .pre .1) (s .pre .2) row edges (s .args .o) (last ∙ size))
+    ∙ record-no (s .pre .0) (s .args .r) (s .pre .2) (s .pre .3) row _ size (s .args .o)
+    (sym (said-end (s .pre .0) (s .args .w) (s .args .r) (s .pre .2) (s .pre .3) row edges (s .args .o) (last ∙ size))
     ∙ sym (c .before .before .before .of-base .ensures) ∙ c .before .before .if3 .left) last)
 
 pub fields-spec : {M : Type 1} → statement M

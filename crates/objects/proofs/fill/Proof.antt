@@ -1,55 +1,54 @@
-use borrow.Author.Needs.{needs}
-use Prim.Native.Nat.{_-_, _≤_}
+use Prim.Native.Nat.{ℕ, _-_, _≤_}
 use native.Mathlib.Omega.{arith}
+use borrow.Author.Needs.{needs}
 use Rattle.objects.specs.Begins.{beginsAt}
 use Rattle.objects.specs.Looking.{held, Edges, Beyond}
 use Rattle.objects.proofs.Looks.{edges-less}
-use Rattle.objects.proofs.Deciding.{edges-none, edges-more, beyond-none, beyond-next, beyond-more}
+use Rattle.objects.proofs.Deciding.{beyond-none, beyond-next, beyond-more}
+use Rattle.objects.proofs.Joining.{edges-none, edges-more}
 use Rattle.objects.proofs.fill.Statement.{statement}
 use Rattle.objects.proofs.fill.Tie as tie
 use Rattle.objects.proofs.fill.Reads as reads
 use Rattle.objects.proofs.fill.Lts as lts
 use Rattle.image.proofs.rows_of.Reads as rows-of-reads
-use Rattle.objects.proofs.begun.Reads as begun-reads
-use Rattle.sizes.proofs.cell.Reads as cell-reads
+use Rattle.objects.proofs.edges.Reads as edges-reads
 
 abbrev Inv-loop : tie.InvT-loop
-Inv-loop t f plan w starts₀ ends₀ rows r₀ starts ends r = (r ≤ rows) × Beyond r starts₀ starts × Beyond r ends₀ ends
-    × Edges (beginsAt t f w) (held plan) r starts ends
+Inv-loop t f plan starts₀ ends₀ rows r₀ starts ends r = (r ≤ rows) × Beyond r starts₀ starts × Beyond r ends₀ ends
+    × ((w : ℕ) → Edges (beginsAt t f w) (held plan) w r starts ends)
 
 abbrev μ-loop : tie.MeasureT-loop
-μ-loop t f plan w starts₀ ends₀ rows r₀ starts ends r = rows - r
+μ-loop t f plan starts₀ ends₀ rows r₀ starts ends r = rows - r
 
 rows-of-requires : tie.Need-rows-of-requires Inv-loop μ-loop
 rows-of-requires c κs = search needs
 
 loop-holds : tie.Need-loop-holds Inv-loop μ-loop
-loop-holds c = let s = c .before .before .before .before .before .before in
-    (omega arith, beyond-none _, beyond-none _, edges-none (s .pre .0) (s .args .w) _ _)
+loop-holds c = (omega arith, beyond-none _, beyond-none _, λ w. edges-none _ _)
 
-cast-row : tie.Need-cast-row Inv-loop μ-loop
-cast-row c = let s = c .before .before .before .before .before .before .before .before in
-    let few = s .pre .0 .few in
-    omega (arith, c .before .before .rows-of .ensures)
+edges-requires : tie.Need-edges-requires Inv-loop μ-loop
+edges-requires c κs = let n = c .before .before .before .before in
+    ((n .before .before .before .before) .pre .0, omega (arith, n .rows-of .ensures))
 
-cell-requires : tie.Need-cell-requires Inv-loop μ-loop
-cell-requires c κs = search needs
+mul-starts : tie.Need-mul-starts Inv-loop μ-loop
+mul-starts c = let n = c .before .before .before .before .before in
+    let few = n .before .before .before .before .pre .0 .few in
+    omega (arith, few, n .rows-of .ensures)
 
-begun-requires : tie.Need-begun-requires Inv-loop μ-loop
-begun-requires c κs = let n = c .before .before .before .before .before in
-    ((n .before .before .before .before .before .before) .pre .0, omega (arith, n .rows-of .ensures))
+element-write-starts : tie.Need-element-write-starts Inv-loop μ-loop
+element-write-starts c = let n = c .before .before .before .before .before in
+    let few = n .before .before .before .before .pre .0 .few in
+    omega (arith, few, n .rows-of .ensures)
 
-begun-requires-2 : tie.Need-begun-requires-2 Inv-loop μ-loop
-begun-requires-2 c κs = let n = c .before .before .before .before .before .before .before .before in
-    ((n .before .before .before .before .before .before) .pre .0, omega (arith, n .rows-of .ensures))
+mul-ends : tie.Need-mul-ends Inv-loop μ-loop
+mul-ends c = let n = c .before .before .before .before .before in
+    let few = n .before .before .before .before .pre .0 .few in
+    omega (arith, few, n .rows-of .ensures)
 
-slice-write-starts : tie.Need-slice-write-starts Inv-loop μ-loop
-slice-write-starts c = let n = c .before .before .before .before .before .before .before .before .before in
-    omega (arith, n .rows-of .ensures, n .before .before .before .before .before .before .pre .1)
-
-slice-write-ends : tie.Need-slice-write-ends Inv-loop μ-loop
-slice-write-ends c = let n = c .before .before .before .before .before .before .before .before .before in
-    omega (arith, n .rows-of .ensures, n .before .before .before .before .before .before .pre .2)
+element-write-ends : tie.Need-element-write-ends Inv-loop μ-loop
+element-write-ends c = let n = c .before .before .before .before .before in
+    let few = n .before .before .before .before .pre .0 .few in
+    omega (arith, few, n .rows-of .ensures)
 
 add-r : tie.Need-add-r Inv-loop μ-loop
 add-r c = omega arith
@@ -58,29 +57,22 @@ loop-less : tie.Need-loop-less Inv-loop μ-loop
 loop-less c = omega arith
 
 loop-again : tie.Need-loop-again Inv-loop μ-loop
-loop-again c = let n = c .before .before .before .before .before .before .before .before in
-    let l = n .loop in
-    let rows = n .before .rows-of .ensures in
-    let s = n .before .before .before .before .before .before .before in (
+loop-again c = let n = c .before .before .before .before .before in
+    let l = c .before .before .before .before .loop in
+    let s = n .before .before .before .before in
+    let few = s .pre .0 .few in
+    let rows = n .rows-of .ensures in (
       omega arith,
       beyond-next _ (l .inv .1),
       beyond-next _ (l .inv .2),
-      edges-more (s .pre .0) (s .args .w) (omega arith) (omega (arith, rows, s .pre .1))
-          (omega (arith, rows, s .pre .2))
-          (l .inv .3) (c .before .before .before .before .before .before .cell .ensures)
-          (c .before .before .before .begun .ensures (l .inv .3)) (c .begun2 .ensures (l .inv .3)),
+      λ w. edges-more (l .inv .3 w) (omega (arith, few, rows, s .pre .1, l .inv .1 .cells))
+          (omega (arith, few, rows, s .pre .2, l .inv .2 .cells)) (c .edges .ensures w (l .inv .3 w)),
     )
-
-same-length : tie.Need-same-length Inv-loop μ-loop
-same-length c = c .before .loop .inv .1 .cells
-
-same-length-2 : tie.Need-same-length-2 Inv-loop μ-loop
-same-length-2 c = c .before .loop .inv .2 .cells
 
 returns : tie.Need-returns Inv-loop μ-loop
 returns c = let l = c .before .loop in
     let rows = c .before .before .rows-of .ensures in (
-      edges-less (omega (arith, rows)) (l .inv .3),
+      record { each = λ w. edges-less (omega (arith, rows)) (l .inv .3 w) },
       (beyond-more (omega (arith, rows)) (l .inv .1), beyond-more (omega (arith, rows)) (l .inv .2)),
     )
 
@@ -92,15 +84,12 @@ fill-spec =
     μ-loop
     rows-of-requires
     loop-holds
-    cast-row
-    cell-requires
-    begun-requires
-    begun-requires-2
-    slice-write-starts
-    slice-write-ends
+    edges-requires
+    mul-starts
+    element-write-starts
+    mul-ends
+    element-write-ends
     add-r
     loop-less
     loop-again
-    same-length
-    same-length-2
     returns)

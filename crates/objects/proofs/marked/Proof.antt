@@ -1,18 +1,26 @@
-use lib.ListN.{List·getD-eq-default}
+use Rattle.prelude.specs.Bits.{bitOf}
 use borrow.Author.Needs.{needs}
 use Rattle.objects.proofs.marked.Statement.{statement}
 use Rattle.objects.proofs.marked.Tie as tie
 use Rattle.objects.proofs.marked.Reads as reads
 use Rattle.objects.proofs.marked.Lts as lts
 
-shared-slice-read-result : tie.Need-shared-slice-read-result
-shared-slice-read-result c = search needs
+-- src/lib.rt:49:6
+mul-result : tie.Need-mul-result
+mul-result c = search needs
 
+-- src/lib.rt:49:6
+element-copy-out-result : tie.Need-element-copy-out-result
+element-copy-out-result c = search needs
+
+-- src/lib.rt:49:6
+shr-result : tie.Need-shr-result
+shr-result c = search needs
+
+-- src/lib.rt:45:1
 returns : tie.Need-returns
+unfolding bitOf
 returns c = search needs
 
-returns-2 : tie.Need-returns-2
-returns-2 c = search List·getD-eq-default
-
 pub marked-spec : {M : Type 1} → statement M
-marked-spec = tie.close (tie.spec shared-slice-read-result returns returns-2)
+marked-spec = tie.close (tie.spec mul-result element-copy-out-result shr-result returns)

@@ -1,6 +1,6 @@
 use borrow.Author.Needs.{needs}
 use mathlib.Core.Path.{_≡_, refl, sym, _∙_}
-use Prim.Native.Nat.{ℕ, _≤_}
+use Prim.Native.Nat.{_≤_}
 use native.Mathlib.Omega.{arith}
 use Rattle.objects.specs.Begins.{partsOf, among, beginsAt}
 use Rattle.objects.specs.Looking.{held, Edges}
@@ -16,7 +16,7 @@ use Rattle.objects.proofs.parts.Reads as parts-reads
 
 abbrev Inv-loop : tie.InvT-loop
 Inv-loop t f plan starts ends w r o at₀ into₀ at into = (at ≤ r)
-    × (Edges (beginsAt t f w) (held plan) r starts ends
+    × (Edges (beginsAt t f w) (held plan) w r starts ends
     → among (beginsAt t f w) (held plan) (partsOf t f r) o ≡ among (beginsAt t f w) (held plan) (partsOf t f at) into)
 
 abbrev μ-loop : tie.MeasureT-loop
@@ -26,8 +26,8 @@ loop-holds : tie.Need-loop-holds Inv-loop μ-loop
 loop-holds c = (omega arith, λ edges. refl)
 
 parts-requires : tie.Need-parts-requires Inv-loop μ-loop
-parts-requires c κs = let s = c .before .before .before .before .before .before in
-    (s .pre .0, in-table (s .pre .1) (c .loop .inv .0))
+parts-requires c κs = let s = c .before .before .before .before in
+    (s .pre .0, s .pre .1, in-table (s .pre .2) (c .loop .inv .0))
 
 enum-known-look : tie.Need-enum-known-look Inv-loop μ-loop
 enum-known-look c = search needs
@@ -55,7 +55,7 @@ loop-less c = omega arith
 loop-again : tie.Need-loop-again Inv-loop μ-loop
 loop-again c = let n = c .before .before .before .before .before in
     let l = n .loop in
-    let s = n .before .before .before .before .before .before in (
+    let s = n .before .before .before .before in (
       omega arith,
       λ edges.
           let (same, less, some) = looks-on (c .before .before .look .given .1)

@@ -5,9 +5,6 @@ use Rattle.access.proofs.Bounds.{variables-few}
 use Rattle.referents.proofs.Halving.{Halved, halved-none, halved-up, halved-down, halved-end}
 use Rattle.referents.proofs.first_reaching.Statement.{statement}
 use Rattle.referents.proofs.first_reaching.Tie as tie
-use Rattle.referents.proofs.first_reaching.Reads as reads
-use Rattle.referents.proofs.first_reaching.Lts as lts
-use Rattle.access.proofs.place_of.Reads as place-of-reads
 
 abbrev Inv-loop : tie.InvT-loop
 Inv-loop image plan k n at low₀ high₀ low high = Halved (programOf (image .now)) k n at low high

@@ -4,36 +4,27 @@ use denote.Ref.{now}
 use borrow.Author.Needs.{needs}
 use Rattle.semantics.specs.Running.{programOf}
 use Rattle.semantics.proofs.Demand3.{program-accepted}
-use Rattle.objects.proofs.Tabling.{lent-within}
 use Rattle.access.proofs.Bounds.{variables-few}
 use Rattle.referents.proofs.Lending.{variables-are, variables-there}
-use Rattle.referents.proofs.Scanning.{scan-start, scan-below, scan-here, scan-next, scan-none, type-low}
-use Rattle.referents.proofs.Scanning.{ahead-reached, first-room, first-says}
+use Rattle.referents.proofs.Scanning.{scan-start, scan-below, scan-here, scan-next, scan-none}
+use Rattle.referents.proofs.Scanning.{ahead-reached}
 use Rattle.referents.proofs.in_places.Statement.{statement}
 use Rattle.referents.proofs.in_places.Tie as tie
-use Rattle.referents.proofs.in_places.Reads as reads
-use Rattle.referents.proofs.in_places.Lts as lts
-use Rattle.access.proofs.place_of.Reads as place-of-reads
-use Rattle.access.proofs.table.Reads as table-reads
-use Rattle.objects.proofs.of_type.Reads as of-type-reads
-use Rattle.referents.proofs.first_reaching.Reads as first-reaching-reads
-use Rattle.referents.proofs.in_variable.Reads as in-variable-reads
-use Rattle.referents.proofs.starts_there.Reads as starts-there-reads
 
 returns : tie.Need-returns
-returns c = let s = c .before .before .before .before .before in
+returns c = let s = c .before in
     λ lead placed. scan-none (programOf (now (now (s .args .image)))) _ _ lead _ (c .if1 .taken)
 
 first-reaching-requires : tie.Need-first-reaching-requires
 first-reaching-requires c κs = search needs
 
 place-of-requires : tie.Need-place-of-requires
-place-of-requires c κs = let s = c .before .before .before .before .before .before in
+place-of-requires c κs = let s = c .before .before in
     let r = c .first-reaching .ensures in
     (s .pre .0 .planned, omega (arith, s .pre .2, r .some (omega (arith, c .before .if1 .left))))
 
 returns-2 : tie.Need-returns-2
-returns-2 c = let s = c .before .before .before .before .before .before .before .before in
+returns-2 c = let s = c .before .before .before .before in
     let r = c .before .before .first-reaching .ensures in
     λ lead placed.
     sym (scan-start _ _ _ _ lead _ placed (program-accepted _ (s .pre .0 .planned .checked .accepted)) (s .pre .2) r
@@ -41,56 +32,51 @@ returns-2 c = let s = c .before .before .before .before .before .before .before 
     (c .before .place-of .ensures) (c .if2 .taken))
 
 in-variable-requires : tie.Need-in-variable-requires
-in-variable-requires c κs = let s = c .before .before .before .before .before .before .before .before in
+in-variable-requires c κs = let s = c .before .before .before .before in
     let r = c .before .before .first-reaching .ensures in
     (s .pre .0, s .pre .1, omega (arith, s .pre .2, r .some (omega (arith, c .before .before .before .if1 .left))))
 
 returns-3 : tie.Need-returns-3
-returns-3 c = let s = c .before .before .before .before .before .before .before .before .before .before in
+returns-3 c = let s = c .before .before .before .before .before .before in
     let r = c .before .before .before .before .first-reaching .ensures in
+    let more = r .some (omega (arith, c .before .before .before .before .before .if1 .left)) in
     λ lead placed.
     sym (scan-start _ _ _ _ lead _ placed (program-accepted _ (s .pre .0 .planned .checked .accepted)) (s .pre .2) r
-    ∙ scan-here _ _ _ _ lead _ placed (r .least) (r .some (omega (arith, c .before .before .before .before .before .if1 .left)))
-    (c .before .before .before .place-of .ensures) (c .before .before .if2 .left) (c .before .in-variable .ensures) (c .if3 .taken))
+    ∙ scan-here _ _ _ _ lead _ placed (r .least) more (c .before .before .before .place-of .ensures)
+    (c .before .before .if2 .left) (c .before .in-variable .ensures) (c .if3 .taken))
 
 table-requires : tie.Need-table-requires
 table-requires c κs = search needs
 
-of-type-requires : tie.Need-of-type-requires
-of-type-requires c κs = let s = c .before .before .before .before .before .before .before .before .before .before .before .before .before in
-    let l = s .pre .0 in
-    lent-within (type-low (l .types) (s .pre .1)) (l .typed .few) (l .edges .starting)
-
 add-starts-there : tie.Need-add-starts-there
-add-starts-there c = let s = c .before .before .before .before .before .before .before .before .before .before .before .before .before .before in
-    let r = c .before .before .before .before .before .before .before .before .first-reaching .ensures in
+add-starts-there c = let s = c .before .before .before .before .before .before .before .before .before in
+    let r = c .before .before .before .before .before .before .before .first-reaching .ensures in
     omega (arith, r .most, s .pre .2, variables-few (s .pre .0 .planned))
 
 add-starts-there-2 : tie.Need-add-starts-there-2
-add-starts-there-2 c = let s = c .before .before .before .before .before .before .before .before .before .before .before .before .before .before in
+add-starts-there-2 c = let s = c .before .before .before .before .before .before .before .before .before in
     omega (arith, s .pre .2, variables-few (s .pre .0 .planned))
 
 starts-there-requires : tie.Need-starts-there-requires
-starts-there-requires c κs = let s = c .before .before .before .before .before .before .before .before .before .before .before .before .before .before in
+starts-there-requires c κs =
+    let s = c .before .before .before .before .before .before .before .before .before in
     let l = s .pre .0 in
-    let v = c .before .table .ensures in (
-      l .planned,
-      variables-are _ v,
-      variables-there _ v (s .pre .2),
-      first-room (programOf (now (now (s .args .image)))) _ _ (c .of-type .ensures) (l .types) (s .pre .1) (l .typed .few) (l .edges .starting),
-    )
+    let v = c .table .ensures in
+    (l .planned, variables-are _ v, variables-there _ v (s .pre .2), omega (arith, s .pre .1, l .typed .few))
 
 returns-4 : tie.Need-returns-4
-returns-4 c = let s = c .before .before .before .before .before .before .before .before .before .before .before .before .before .before .before in
+returns-4 c =
+    let found = c .before .before .before .before .before .before .before in
+    let s = found .before .before .before in
     let l = s .pre .0 in
-    let r = c .before .before .before .before .before .before .before .before .before .first-reaching .ensures in
-    let more = r .some (omega (arith, c .before .before .before .before .before .before .before .before .before .before .if1 .left)) in
+    let r = found .before .first-reaching .ensures in
+    let more = r .some (omega (arith, found .before .before .if1 .left)) in
     λ lead placed.
-    c .starts-there .ensures _ _ _ lead (first-says (programOf (now (now (s .args .image)))) _ _ (c .before .of-type .ensures) (l .types) (l .fields) (l .edges) (s .pre .1))
-    (ahead-reached placed r)
+    c .starts-there .ensures _ _ lead (l .edges .each _ .start) (ahead-reached placed r)
     ∙ sym (scan-start _ _ _ _ lead _ placed (program-accepted _ (l .planned .checked .accepted)) (s .pre .2) r
-    ∙ scan-next _ _ _ _ lead _ placed (r .least) more (c .before .before .before .before .before .before .before .before .place-of .ensures) (c .before .before .before .before .before .before .before .if2 .left)
-    (c .before .before .before .before .before .before .in-variable .ensures) (c .before .before .before .before .before .if3 .left))
+    ∙ scan-next _ _ _ _ lead _ placed (r .least) more (found .place-of .ensures)
+    (c .before .before .before .before .before .before .if2 .left)
+    (c .before .before .before .before .before .in-variable .ensures) (c .before .before .before .before .if3 .left))
 
 pub in-places-spec : {M : Type 1} → statement M
 in-places-spec =
@@ -103,7 +89,6 @@ in-places-spec =
     in-variable-requires
     returns-3
     table-requires
-    of-type-requires
     add-starts-there
     add-starts-there-2
     starts-there-requires

@@ -3,23 +3,17 @@ use Rattle.semantics.specs.Running.{programOf}
 use Rattle.access.proofs.Bounds.{variable-typed}
 use Rattle.referents.proofs.Scanning.{variable-low}
 use Rattle.referents.proofs.Parameters.{test-other, test-room, test-reference}
-use mathlib.Core.Path.{refl}
 use borrow.Author.Needs.{needs}
 use Rattle.referents.proofs.parameter.Statement.{statement}
 use Rattle.referents.proofs.parameter.Tie as tie
-use Rattle.referents.proofs.parameter.Reads as reads
-use Rattle.referents.proofs.parameter.Lts as lts
-use Rattle.access.proofs.place_of.Reads as place-of-reads
-use Rattle.access.proofs.variable_at.Reads as variable-at-reads
-use Rattle.referents.proofs.reference.Reads as reference-reads
 
 variable-at-requires : tie.Need-variable-at-requires
 variable-at-requires c κs = search needs
 
 returns : tie.Need-returns
-returns c = let s = c .before .before .before .before .before .before .before in
+returns c = let s = c .before .before .before in
     let g = programOf (now (now (s .args .image))) in
-    λ qs older framed oldest start. test-other g _ (c .before .variable-at .ensures) older _ (c .if1 .taken)
+    λ p qs older framed oldest start. test-other g _ (c .before .variable-at .ensures) older _ (c .if1 .taken)
 
 place-of-requires : tie.Need-place-of-requires
 place-of-requires c κs = search needs
@@ -28,22 +22,23 @@ add-a : tie.Need-add-a
 add-a c = search needs
 
 reference-requires : tie.Need-reference-requires
-reference-requires c κs = let s = c .before .before .before .before .before .before .before .before in
+reference-requires c κs = let s = c .before .before .before .before in
     let g = programOf (now (now (s .args .image))) in
     let row = c .before .before .variable-at .ensures in (
       s .pre .0,
       s .pre .1,
-      variable-low _ _ row refl (variable-typed (s .pre .0 .planned) _ (s .pre .2)),
+      variable-low _ _ row (variable-typed (s .pre .0 .planned) _ (s .pre .2)),
       s .pre .3,
       test-room g _ row (c .before .if1 .left) (s .args .base) (c .place-of .ensures) (s .pre .4),
     )
 
 returns-2 : tie.Need-returns-2
-returns-2 c = let s = c .before .before .before .before .before .before .before .before .before in
+returns-2 c = let s = c .before .before .before .before .before in
     let g = programOf (now (now (s .args .image))) in
-    λ qs older framed oldest start.
-    test-reference g _ (c .before .before .before .variable-at .ensures) (c .before .before .if1 .left) older (now (s .args .store))
-    (s .args .base) (c .before .place-of .ensures) (c .reference .ensures qs older framed oldest start)
+    λ p qs older framed oldest start.
+    test-reference g _ (c .before .before .before .variable-at .ensures) (c .before .before .if1 .left) older
+    (now (s .args .store)) (s .args .base) (c .before .place-of .ensures)
+    (c .reference .ensures p qs older framed oldest start)
 
 pub parameter-spec : {M : Type 1} → statement M
 parameter-spec =

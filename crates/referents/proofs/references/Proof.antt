@@ -1,13 +1,10 @@
 use native.Mathlib.Omega.{arith}
-use Rattle.referents.proofs.Lending.{typed-plan, lent-all}
 use borrow.Author.Needs.{needs}
+use Rattle.prelude.specs.Choice.{choose}
+use Rattle.access.specs.Ready.{tableOf}
+use Rattle.referents.proofs.Lending.{typed-plan}
 use Rattle.referents.proofs.references.Statement.{statement}
 use Rattle.referents.proofs.references.Tie as tie
-use Rattle.referents.proofs.references.Reads as reads
-use Rattle.referents.proofs.references.Lts as lts
-use Rattle.access.proofs.table.Reads as table-reads
-use Rattle.objects.proofs.fill_all.Reads as fill-all-reads
-use Rattle.referents.proofs.all_references.Reads as all-references-reads
 
 table-requires : tie.Need-table-requires
 table-requires c κs = search needs
@@ -15,30 +12,26 @@ table-requires c κs = search needs
 table-requires-2 : tie.Need-table-requires-2
 table-requires-2 c κs = search needs
 
-slice-aggregate-fill-all : tie.Need-slice-aggregate-fill-all
-slice-aggregate-fill-all c = search needs
-
-slice-aggregate-fill-all-2 : tie.Need-slice-aggregate-fill-all-2
-slice-aggregate-fill-all-2 c = search needs
-
-fill-all-requires : tie.Need-fill-all-requires
-fill-all-requires c κs = let s = c .before .before .before .before .before .before .before .before .before .before .before in
-    let types = c .before .before .before .before .before .before .table .ensures in
-    let fields = c .before .before .before .table2 .ensures in
-    (typed-plan (s .pre .0 .planned) types fields, omega arith, omega arith)
-
-slice-aggregate-all-references : tie.Need-slice-aggregate-all-references
-slice-aggregate-all-references c = search needs
-
-slice-aggregate-all-references-2 : tie.Need-slice-aggregate-all-references-2
-slice-aggregate-all-references-2 c = search needs
+fill-requires : tie.Need-fill-requires
+unfolding tableOf choose
+fill-requires c κs =
+    let types = c .before .before .before .before .before .before in
+    let s = types .before .before .before .before .before in
+    rw (c .before .before .before .table2 .ensures, types .table .ensures)
+    (typed-plan (s .pre .0 .planned), omega arith, omega arith)
 
 all-references-requires : tie.Need-all-references-requires
+unfolding tableOf choose
 all-references-requires c κs =
-    let n = c .before .before .before .before .before .before .before .before in
-    let s = n .before .before .before .before .before .before .before .before in (
-      lent-all (s .pre .0 .planned) (n .before .before .before .table .ensures) (n .table2 .ensures)
-          (c .before .before .before .before .fill-all .ensures .0),
+    let fields = c .before .before .before .before .before .before in
+    let types = fields .before .before .before in
+    let s = types .before .before .before .before .before in
+    let p = s .pre .0 .planned in (
+      record {
+        planned = p;
+        typed = typed-plan p;
+        edges = rw (fields .table2 .ensures, types .table .ensures) at (c .before .before .fill .ensures .0);
+      },
       s .pre .1,
       s .pre .2,
     )
@@ -49,13 +42,4 @@ returns c = search needs
 pub references-spec : {M : Type 1} → statement M
 references-spec =
     tie.close
-    (tie.spec
-    table-requires
-    table-requires-2
-    slice-aggregate-fill-all
-    slice-aggregate-fill-all-2
-    fill-all-requires
-    slice-aggregate-all-references
-    slice-aggregate-all-references-2
-    all-references-requires
-    returns)
+    (tie.spec table-requires table-requires-2 fill-requires all-references-requires returns)

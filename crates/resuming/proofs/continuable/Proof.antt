@@ -1,14 +1,9 @@
-use mathlib.Core.Path.{_≡_, sym, _∙_, refl}
+use mathlib.Core.Path.{sym, _∙_}
 use borrow.Author.Tests.{not-true, not-false}
 use Rattle.resuming.proofs.Passing.{question-unfinished, question-within, question-sound}
 use borrow.Author.Needs.{needs}
 use Rattle.resuming.proofs.continuable.Statement.{statement}
 use Rattle.resuming.proofs.continuable.Tie as tie
-use Rattle.resuming.proofs.continuable.Reads as reads
-use Rattle.resuming.proofs.continuable.Lts as lts
-use Rattle.resuming.proofs.is_unfinished.Reads as is-unfinished-reads
-use Rattle.resuming.proofs.is_within.Reads as is-within-reads
-use Rattle.resuming.proofs.sound.Reads as sound-reads
 
 is-unfinished-requires : tie.Need-is-unfinished-requires
 is-unfinished-requires c κs = search needs
@@ -29,7 +24,8 @@ returns-3 : tie.Need-returns-3
 returns-3 c =
     c .sound .ensures
     ∙ sym (question-sound _ _ _ _ _ _
-    (sym (c .before .before .before .before .is-unfinished .ensures) ∙ not-false _ (c .before .before .before .if1 .left))
+    (sym (c .before .before .before .before .is-unfinished .ensures)
+    ∙ not-false _ (c .before .before .before .if1 .left))
     (sym (c .before .before .is-within .ensures) ∙ not-false _ (c .before .if2 .left)))
 
 pub continuable-spec : {M : Type 1} → statement M

@@ -1,5 +1,5 @@
 use native.Mathlib.Omega.{arith}
-use mathlib.Core.Path.{_≡_, sym, _∙_, refl}
+use mathlib.Core.Path.{sym, _∙_}
 use borrow.Author.Tests.{not-true, not-false}
 use Rattle.prelude.proofs.Choice.{also-left, also-pass, also-true, also-right}
 use Rattle.access.proofs.Bounds.{variables-few}
@@ -8,12 +8,6 @@ use Rattle.resuming.specs.Reading.{framesSound}
 use borrow.Author.Needs.{needs}
 use Rattle.resuming.proofs.frames_sound.Statement.{statement}
 use Rattle.resuming.proofs.frames_sound.Tie as tie
-use Rattle.resuming.proofs.frames_sound.Reads as reads
-use Rattle.resuming.proofs.frames_sound.Lts as lts
-use Rattle.referents.proofs.references.Reads as references-reads
-use Rattle.resuming.proofs.values_hold.Reads as values-hold-reads
-use Rattle.unwinding.proofs.fill_next.Reads as fill-next-reads
-use Rattle.unwinding.proofs.walk.Reads as walk-reads
 
 slice-aggregate-walk : tie.Need-slice-aggregate-walk
 slice-aggregate-walk c = search needs
@@ -39,7 +33,8 @@ values-hold-requires c κs =
     let start = c .before .before .before .before .before .before .before .before in
     let filled = c .before .before .fill-next .ensures in
     let walked = c .before .before .before .before .before .before .walk .ensures in
-    let (ends, links) = also-true _ _ (sym (walked .0) ∙ not-false _ (c .before .before .before .before .if1 .left)) in (
+    let yes-all = not-false _ (c .before .before .before .before .if1 .left) in
+    let (ends, links) = also-true _ _ (sym (walked .0) ∙ yes-all) in (
       start .pre .0,
       skips-by _ (omega (arith, variables-few (start .pre .0 .planned))) filled,
       start .pre .1,
@@ -80,8 +75,9 @@ unfolding framesSound
 returns-3 c =
     let held = c .before .before .before .before in
     let walked = held .before .before .before .before .before .before .before in
+    let yes-all = not-false _ (held .before .before .before .before .before .if1 .left) in
     c .references .ensures
-    ∙ sym (also-pass _ (sym (walked .walk .ensures .0) ∙ not-false _ (held .before .before .before .before .before .if1 .left))
+    ∙ sym (also-pass _ (sym (walked .walk .ensures .0) ∙ yes-all)
     ∙ also-pass _ (sym (held .values-hold .ensures) ∙ not-false _ (c .before .before .before .if2 .left)))
 
 pub frames-sound-spec : {M : Type 1} → statement M

@@ -2,14 +2,12 @@ use mir.Facts.{toZ-ofZ}
 use mir.Syntax.{w32}
 use mir.Val.{toZ, ofZ}
 use Rattle.resuming.proofs.Numbers.{zero-told}
-use mathlib.Core.Path.{_≡_, sym, _∙_, refl}
+use mathlib.Core.Path.{_≡_, sym, _∙_}
 use borrow.Author.Tests.{eq-eqb, ne-eqb}
 use Rattle.prelude.proofs.Choice.{also-left, also-right, also-pass}
 use Rattle.asking.specs.Continuing.{unfinished}
 use Rattle.resuming.proofs.is_unfinished.Statement.{statement}
 use Rattle.resuming.proofs.is_unfinished.Tie as tie
-use Rattle.resuming.proofs.is_unfinished.Reads as reads
-use Rattle.resuming.proofs.is_unfinished.Lts as lts
 
 returns : tie.Need-returns
 unfolding unfinished

@@ -1,19 +1,11 @@
-use mathlib.Core.Path.{_≡_, sym, _∙_, refl}
+use mathlib.Core.Path.{sym, _∙_}
 use native.Mathlib.Omega.{arith}
-use Prim.Native.Nat.{ℕ, _≤_, _<_}
 use Rattle.prelude.specs.Choice.{choose}
 use Rattle.access.specs.Ready.{tableOf}
-use Rattle.access.proofs.Bounds.{procedures-few}
 use Rattle.resuming.proofs.Passing.{sound-top, sound-row, sound-frames, procedure-low}
 use borrow.Author.Needs.{needs}
 use Rattle.resuming.proofs.sound.Statement.{statement}
 use Rattle.resuming.proofs.sound.Tie as tie
-use Rattle.resuming.proofs.sound.Reads as reads
-use Rattle.resuming.proofs.sound.Lts as lts
-use Rattle.access.proofs.procedure_of.Reads as procedure-of-reads
-use Rattle.access.proofs.table.Reads as table-reads
-use Rattle.image.proofs.rows_of.Reads as rows-of-reads
-use Rattle.resuming.proofs.frames_sound.Reads as frames-sound-reads
 
 cast-if1 : tie.Need-cast-if1
 cast-if1 c = search needs
@@ -58,10 +50,12 @@ returns-3 : tie.Need-returns-3
 unfolding tableOf choose
 returns-3 c =
     let start = c .before .before .before .before .before .before .before .before in
-    let rows = rw (c .before .before .before .before .table .ensures) at (c .before .before .before .rows-of .ensures) in
+    let rows = rw (c .before .before .before .before .table .ensures)
+    at (c .before .before .before .rows-of .ensures) in
     c .frames-sound .ensures
     ∙ rw (c .before .procedure-of .ensures)
-    (sym (sound-frames _ (start .pre .0) _ _ (start .pre .1) (c .before .before .before .before .before .before .before .if1 .left) (rw rows at (c .before .before .if2 .left))))
+    (sym (sound-frames _ (start .pre .0) _ _ (start .pre .1)
+    (c .before .before .before .before .before .before .before .if1 .left) (rw rows at (c .before .before .if2 .left))))
 
 pub sound-spec : {M : Type 1} → statement M
 sound-spec =

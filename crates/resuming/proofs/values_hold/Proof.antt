@@ -1,23 +1,16 @@
-use mathlib.Core.Path.{_≡_, sym, _∙_, refl}
+use mathlib.Core.Path.{sym, _∙_}
 use native.Mathlib.Omega.{arith}
-use Prim.Native.Nat.{_+_, _≤_}
 use borrow.Author.Tests.{not-true, not-false}
 use Rattle.prelude.specs.Choice.{choose}
 use Rattle.access.specs.Ready.{tableOf}
 use Rattle.access.proofs.Bounds.{types-few, procedures-some}
 use Rattle.prelude.proofs.Choice.{also-left, also-pass}
 use Rattle.asking.specs.Passes.{valuesPass}
-use Rattle.resuming.proofs.Passing.{types-kept, readable-by, globals-first, globals-there, globals-room}
+use Rattle.referents.proofs.Lending.{typed-plan}
+use Rattle.resuming.proofs.Passing.{readable-by, globals-first, globals-there, globals-room}
 use borrow.Author.Needs.{needs}
 use Rattle.resuming.proofs.values_hold.Statement.{statement}
 use Rattle.resuming.proofs.values_hold.Tie as tie
-use Rattle.resuming.proofs.values_hold.Reads as reads
-use Rattle.resuming.proofs.values_hold.Lts as lts
-use Rattle.access.proofs.first_variable.Reads as first-variable-reads
-use Rattle.access.proofs.table.Reads as table-reads
-use Rattle.contents.proofs.fill_even.Reads as fill-even-reads
-use Rattle.resuming.proofs.frames_hold.Reads as frames-hold-reads
-use Rattle.resuming.proofs.variables_hold.Reads as variables-hold-reads
 
 table-requires : tie.Need-table-requires
 table-requires c κs = search needs
@@ -32,8 +25,9 @@ fill-even-requires : tie.Need-fill-even-requires
 unfolding tableOf choose
 fill-even-requires c κs =
     let start = c .before .before .before .before .before .before .before .before in
+    let p = start .pre .0 .planned in
     rw (c .before .table2 .ensures, c .before .before .before .before .table .ensures)
-    (types-few (start .pre .0 .planned), types-kept (start .pre .0 .planned), types-few (start .pre .0 .planned))
+    (types-few p, typed-plan p .kept, types-few p)
 
 first-variable-requires : tie.Need-first-variable-requires
 first-variable-requires c κs =
@@ -48,15 +42,22 @@ unfolding tableOf choose
 variables-hold-requires c κs =
     let filled = c .before .before .before in
     let start = filled .before .before .before .before .before .before .before .before .before in
-    let evens = rw (filled .before .before .table2 .ensures, filled .before .before .before .before .before .table .ensures) at (filled .fill-even .ensures) in
-    rw (c .before .first-variable .ensures, globals-first _)
-    (readable-by (start .pre .0 .planned) (types-few (start .pre .0 .planned)) evens (start .pre .3), start .pre .1, globals-there (start .pre .0 .planned), omega (arith, globals-room _ _ _ _ _ (start .pre .4), start .pre .2))
+    let types = filled .before .before .before .before .before .table .ensures in
+    let evens = rw (filled .before .before .table2 .ensures, types) at (filled .fill-even .ensures) in
+    let p = start .pre .0 .planned in
+    rw (c .before .first-variable .ensures, globals-first _) (
+      readable-by p (types-few p) evens (start .pre .3),
+      start .pre .1,
+      globals-there p,
+      omega (arith, globals-room _ _ _ _ _ (start .pre .4), start .pre .2),
+    )
 
 returns : tie.Need-returns
 unfolding valuesPass
 returns c =
-    let held = c .before .variables-hold .ensures in
-    sym (also-left _ (sym (rw (c .before .before .before .first-variable .ensures, globals-first _) at held) ∙ not-true _ (c .if1 .taken)))
+    let held = rw (c .before .before .before .first-variable .ensures, globals-first _)
+    at (c .before .variables-hold .ensures) in
+    sym (also-left _ (sym held ∙ not-true _ (c .if1 .taken)))
 
 slice-aggregate-frames-hold : tie.Need-slice-aggregate-frames-hold
 slice-aggregate-frames-hold c = search needs
@@ -66,15 +67,17 @@ unfolding tableOf choose
 frames-hold-requires c κs =
     let filled = c .before .before .before .before .before .before in
     let start = filled .before .before .before .before .before .before .before .before .before in
-    let evens = rw (filled .before .before .table2 .ensures, filled .before .before .before .before .before .table .ensures) at (filled .fill-even .ensures) in
-    (readable-by (start .pre .0 .planned) (types-few (start .pre .0 .planned)) evens (start .pre .3), start .pre .1, start .pre .2, start .pre .4)
+    let types = filled .before .before .before .before .before .table .ensures in
+    let evens = rw (filled .before .before .table2 .ensures, types) at (filled .fill-even .ensures) in
+    let p = start .pre .0 .planned in
+    (readable-by p (types-few p) evens (start .pre .3), start .pre .1, start .pre .2, start .pre .4)
 
 returns-2 : tie.Need-returns-2
 unfolding valuesPass
 returns-2 c =
-    let held = c .before .before .before .variables-hold .ensures in
-    c .frames-hold .ensures
-    ∙ sym (also-pass _ (sym (rw (c .before .before .before .before .before .first-variable .ensures, globals-first _) at held) ∙ not-false _ (c .before .before .if1 .left)))
+    let held = rw (c .before .before .before .before .before .first-variable .ensures, globals-first _)
+    at (c .before .before .before .variables-hold .ensures) in
+    c .frames-hold .ensures ∙ sym (also-pass _ (sym held ∙ not-false _ (c .before .before .if1 .left)))
 
 pub values-hold-spec : {M : Type 1} → statement M
 values-hold-spec =

@@ -1,18 +1,10 @@
-use mathlib.Core.Path.{_≡_, sym, _∙_}
-use native.Mathlib.Omega.{arith}
-use Prim.Native.Nat.{_+_, _≤_}
-use lib.ListN.{length}
+use mathlib.Core.Path.{sym, _∙_}
 use Rattle.prelude.specs.Choice.{choose}
 use Rattle.access.specs.Ready.{tableOf}
 use Rattle.resuming.proofs.Testing.{test-reference, test-value, inside-value}
 use borrow.Author.Needs.{needs}
 use Rattle.resuming.proofs.variable_holds.Statement.{statement}
 use Rattle.resuming.proofs.variable_holds.Tie as tie
-use Rattle.resuming.proofs.variable_holds.Reads as reads
-use Rattle.resuming.proofs.variable_holds.Lts as lts
-use Rattle.access.proofs.table.Reads as table-reads
-use Rattle.access.proofs.variable_at.Reads as variable-at-reads
-use Rattle.contents.proofs.holds_values.Reads as holds-values-reads
 
 variable-at-requires : tie.Need-variable-at-requires
 variable-at-requires c κs = search needs
@@ -32,8 +24,10 @@ holds-values-requires c κs =
     let kinds = c .before .before .before .before .before .before .before in
     let start = kinds .before .before .before in
     let row = kinds .before .variable-at .ensures in
-    rw (c .before .table2 .ensures, c .before .before .before .before .table .ensures, row)
-    (start .pre .0 .readable, inside-value (start .pre .0 .planned) _ _ (start .pre .1) (rw row at (kinds .if1 .left)) (start .pre .2))
+    rw (c .before .table2 .ensures, c .before .before .before .before .table .ensures, row) (
+      start .pre .0 .readable,
+      inside-value (start .pre .0 .planned) _ _ (start .pre .1) (rw row at (kinds .if1 .left)) (start .pre .2),
+    )
 
 returns-2 : tie.Need-returns-2
 unfolding tableOf choose

@@ -1,7 +1,7 @@
 use borrow.Author.Tests.{not-true, not-false}
-use mathlib.Core.Path.{_≡_, sym, _∙_}
+use mathlib.Core.Path.{sym, _∙_}
 use native.Mathlib.Omega.{arith}
-use Prim.Native.Nat.{_+_, _-_, _≤_, _<_}
+use Prim.Native.Nat.{_+_, _-_, _<_}
 use borrow.Author.Needs.{needs}
 use Rattle.image.specs.Rows.{rowsOf}
 use Rattle.semantics.specs.Running.{programOf}
@@ -13,10 +13,6 @@ use Rattle.resuming.proofs.Testing.{test-free}
 use denote.Ref.{now}
 use Rattle.resuming.proofs.variables_hold.Statement.{statement}
 use Rattle.resuming.proofs.variables_hold.Tie as tie
-use Rattle.resuming.proofs.variables_hold.Reads as reads
-use Rattle.resuming.proofs.variables_hold.Lts as lts
-use Rattle.access.proofs.width_of.Reads as width-of-reads
-use Rattle.resuming.proofs.variable_holds.Reads as variable-holds-reads
 
 abbrev Inv-loop : tie.InvT-loop
 Inv-loop image plan even next store k n a end j₀ at₀ j at =
@@ -62,7 +58,8 @@ returns c =
 there : (c : tie.Else1 Inv-loop μ-loop)
     → let start = c .before .before .before .before .before .before .before in
     c .before .before .before .loop .j < rowsOf (programOf (now (now (start .args .image))) .variables)
-there c = omega (arith, c .before .before .before .before .before .before .before .pre .2, c .before .before .loop-test .taken)
+there c = let start = c .before .before .before .before .before .before .before in
+    omega (arith, start .pre .2, c .before .before .loop-test .taken)
 
 width-of-requires : tie.Need-width-of-requires Inv-loop μ-loop
 width-of-requires c κs = let start = c .before .before .before .before .before .before .before in
@@ -70,7 +67,8 @@ width-of-requires c κs = let start = c .before .before .before .before .before 
 
 add-at : tie.Need-add-at Inv-loop μ-loop
 add-at c = let start = c .before .before .before .before .before .before .before .before in
-    let room = ahead-room _ _ (test-free _) (c .before .before .before .before .loop .inv) (c .before .before .before .loop-test .taken) in
+    let room = ahead-room _ _ (test-free _) (c .before .before .before .before .loop .inv)
+    (c .before .before .before .loop-test .taken) in
     omega (arith, room, c .width-of .ensures, start .pre .3, start .pre .0 .readable .most)
 
 cast-j-2 : tie.Need-cast-j-2 Inv-loop μ-loop
@@ -103,9 +101,11 @@ loop-less c = let start = c .before .before .before .before .before .before .bef
 loop-again : tie.Need-loop-again Inv-loop μ-loop
 loop-again c = let start = c .before .before .before .before .before .before .before .before .before in
     let loop = c .before .before .before .before .before .loop in
-    let passes = sym (c .before .before .before .variable-holds .ensures) ∙ not-false _ (c .before .before .if1 .left) in
+    let passes = sym (c .before .before .before .variable-holds .ensures)
+    ∙ not-false _ (c .before .before .if1 .left) in
     ahead-next _
-    (ahead-more _ _ (test-free _) (loop .inv) (c .before .before .before .before .loop-test .taken) passes (c .before .width-of .ensures))
+    (ahead-more _ _ (test-free _) (loop .inv) (c .before .before .before .before .loop-test .taken) passes
+    (c .before .width-of .ensures))
     (start .pre .1 .each (loop .j + 1) (omega (arith, there (c .before .before))))
 
 returns-2 : tie.Need-returns-2 Inv-loop μ-loop

@@ -18,7 +18,7 @@ cast-t6 c = search needs
 
 returns : tie.Need-returns
 unfolding callerOf
-returns c = rw (← c .before .link .ensures, ← c .link2 .ensures)
+returns c = rw (c .before .link .ensures, c .link2 .ensures)
 
 pub caller-spec : {M : Type 1} → statement M
 caller-spec = tie.close (tie.spec link-requires add-link link-requires-2 cast-t6 returns)

@@ -1,6 +1,5 @@
 -- `unwinding::fill_next` meets its contract: at each turn the places behind i are filled.
-use mathlib.Core.Path.{_≡_, _∙_}
-use Prim.Native.Nat.{_+_, _-_, _≤_, _<_}
+use mathlib.Core.Path.{_∙_}
 use native.Mathlib.Omega.{arith}
 use denote.Ref.{now}
 use lib.ListN.{length-set}
@@ -10,11 +9,6 @@ use Rattle.access.proofs.Bounds.{variables-few}
 use Rattle.unwinding.proofs.Next.{rows-are, Down, down-start, down-next, down-end}
 use Rattle.unwinding.proofs.fill_next.Statement.{statement}
 use Rattle.unwinding.proofs.fill_next.Tie as tie
-use Rattle.unwinding.proofs.fill_next.Reads as reads
-use Rattle.unwinding.proofs.fill_next.Lts as lts
-use Rattle.access.proofs.table.Reads as table-reads
-use Rattle.image.proofs.rows_of.Reads as rows-of-reads
-use Rattle.unwinding.proofs.first_or.Reads as first-or-reads
 
 abbrev Inv-loop : tie.InvT-loop
 Inv-loop image plan next₀ rows first₀ i₀ next first i = Down (programOf (now image)) next₀ next first i

@@ -1,11 +1,8 @@
-use mathlib.Core.Path.{_≡_, sym, _∙_}
+use mathlib.Core.Path.{sym, _∙_}
 use borrow.Author.Needs.{needs}
 use Rattle.unwinding.proofs.Next.{or-behind, or-here}
 use Rattle.unwinding.proofs.first_or.Statement.{statement}
 use Rattle.unwinding.proofs.first_or.Tie as tie
-use Rattle.unwinding.proofs.first_or.Reads as reads
-use Rattle.unwinding.proofs.first_or.Lts as lts
-use Rattle.access.proofs.width_of.Reads as width-of-reads
 
 width-of-requires : tie.Need-width-of-requires
 width-of-requires c κs = search needs

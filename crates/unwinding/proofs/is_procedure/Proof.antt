@@ -1,21 +1,23 @@
--- `unwinding::is_procedure` meets its contract: a body is not empty.
-use mathlib.Core.Path.{_∙_}
-use Rattle.unwinding.proofs.Bodies.{inside-first}
+-- `unwinding::is_procedure` meets its contract: as many procedures as their table has rows.
+use mathlib.Core.Path.{ap}
+use lib.Dec.{ltb}
+use Rattle.prelude.specs.Choice.{choose}
+use Rattle.access.specs.Ready.{tableOf}
 use borrow.Author.Needs.{needs}
 use Rattle.unwinding.proofs.is_procedure.Statement.{statement}
 use Rattle.unwinding.proofs.is_procedure.Tie as tie
 
-procedure-at-requires : tie.Need-procedure-at-requires
-procedure-at-requires c κs = search needs
+table-requires : tie.Need-table-requires
+table-requires c κs = search needs
 
-cast-inside : tie.Need-cast-inside
-cast-inside c = search needs
-
-inside-requires : tie.Need-inside-requires
-inside-requires c κs = search needs
+rows-of-requires : tie.Need-rows-of-requires
+rows-of-requires c κs = search needs
 
 returns : tie.Need-returns
-returns c = c .inside .ensures ∙ inside-first (c .before .before .pre .planned) _ (c .before .procedure-at .ensures)
+unfolding tableOf choose
+returns c =
+    let q = c .before .before .before .before .args .q in
+    rw (c .before .table .ensures) at (ap (ltb q) (c .rows-of .ensures))
 
 pub is-procedure-spec : {M : Type 1} → statement M
-is-procedure-spec = tie.close (tie.spec procedure-at-requires cast-inside inside-requires returns)
+is-procedure-spec = tie.close (tie.spec table-requires rows-of-requires returns)

@@ -1,7 +1,6 @@
 -- `unwinding::size_kept` meets its contract.
 use mathlib.Core.Path.{sym, _∙_}
 use borrow.Author.Tests.{ltb-true, not-true, not-false}
-use Rattle.prelude.specs.Choice.{_also_}
 use Rattle.prelude.proofs.Choice.{also-left, also-right, also-pass}
 use Rattle.unwinding.specs.Links.{sizeKept}
 use Rattle.unwinding.proofs.Links.{end-short, end-same}

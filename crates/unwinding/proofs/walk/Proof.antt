@@ -1,7 +1,7 @@
 -- `unwinding::walk` meets its contract: what is asked of all frames is asked of those that are left.
 use mathlib.Core.Path.{_≡_, refl, sym, _∙_}
 use mathlib.Core.Bool.{true}
-use Prim.Native.Nat.{suc, _+_, _-_, _/_, _≤_, _<_}
+use Prim.Native.Nat.{suc, _+_, _/_, _≤_, _<_}
 use native.Mathlib.Omega.{arith}
 use native.Mathlib.Nat.{div-le-self}
 use borrow.Author.Tests.{not-true, not-false}
@@ -12,8 +12,10 @@ use Rattle.semantics.specs.Running.{programOf}
 use Rattle.asking.specs.State.{chain}
 use Rattle.access.proofs.Bounds.{procedures-few}
 use Rattle.unwinding.specs.Links.{sizeKept}
+use Rattle.unwinding.specs.Blocks.{BLOCK}
 use Rattle.unwinding.proofs.Along.{Along, Past, size-both, size-links, along-start, along-unsized, along-block}
-use Rattle.unwinding.proofs.Along.{along-filled, along-first, past-first, along-uncalled, along-unfallen, along-on}
+use Rattle.unwinding.proofs.Along.{along-filled, along-first, past-first, along-uncalled, along-unfallen}
+use Rattle.unwinding.proofs.Along.{along-on}
 use Rattle.unwinding.proofs.walk.Statement.{statement}
 use Rattle.unwinding.proofs.walk.Tie as tie
 
@@ -66,7 +68,7 @@ filled : (c : tie.After-fill Inv-loop μ-loop) → let l = c .before .before .be
     let s = c .before .before .before .before .before .before in
     let g = programOf (now (s .args .image .now)) in
     Past g (s .args .store .now) (chain g (s .args .store .now) (suc (s .args .base)) (s .args .q) (s .args .base))
-    (s .args .base) (s .args .top) (c .fill .last .0) (l .procedure) (l .start) (l .start / 64) (l .inv .1 .fuel)
+    (s .args .base) (s .args .top) (c .fill .last .0) (l .procedure) (l .start) (l .start / BLOCK) (l .inv .1 .fuel)
 filled c =
     let l = c .before .before .before .before .loop in
     let s = c .before .before .before .before .before .before in
@@ -74,7 +76,7 @@ filled c =
     (c .fill .ensures)
 
 cast-low : tie.Need-cast-low Inv-loop μ-loop
-cast-low c = record { fits = omega (arith, small c, div-le-self (c .before .before .loop .start) 64) }
+cast-low c = record { fits = omega (arith, small c, div-le-self (c .before .before .loop .start) BLOCK) }
 
 cast-packed : tie.Need-cast-packed Inv-loop μ-loop
 cast-packed c = record { fits = omega (arith, small c) }
