@@ -2,7 +2,7 @@
 use mathlib.Core.Path.{_≡_, refl, sym, _∙_, ap}
 use mathlib.Core.Bool.{Bool, true, false}
 use mathlib.Core.List.{List, [], _∷_}
-use Prim.Native.Nat.{ℕ, suc, _+_, _-_, _*_, _/_, _≤_, _<_}
+use Prim.Native.Nat.{ℕ, suc, _+_, _-_, _/_, _≤_, _<_}
 use native.Mathlib.Omega.{arith}
 use native.Mathlib.Decide.{decLt}
 use borrow.Author.Tests.{ltb-true, eqb-true, lt-ltb, eq-eqb, ne-eqb}
@@ -18,18 +18,18 @@ use Rattle.semantics.specs.Layout.{Program}
 use Rattle.semantics.specs.Running.{programOf}
 use Rattle.asking.specs.Asking.{roomOf}
 use Rattle.asking.specs.State.{naturalOf, chain, callKept, endsAt}
-use Rattle.asking.specs.Passes.{linked, Walked, newestBelow}
+use Rattle.asking.specs.Passes.{linked, Walked}
 use Rattle.access.specs.Ready.{Planned}
 use Rattle.access.proofs.Bounds.{procedures-few}
 use Rattle.unwinding.specs.declared.Spot.{Spot}
 use Rattle.unwinding.specs.Links.{linkAt, callerOf, sizeKept, oldestKept}
-use Rattle.unwinding.specs.Blocks.{BLOCKS, BLOCK, blockEnd, Blocks}
+use Rattle.unwinding.specs.Blocks.{BLOCKS, BLOCK, NOWHERE, blockEnd, oldestFrom, Blocks}
 use Rattle.unwinding.proofs.Links.{link-is, link-back}
-use Rattle.unwinding.proofs.Blocks.{block-begun, block-before, block-within, block-all}
+use Rattle.unwinding.proofs.Blocks.{block-begun, block-before, block-within, block-all, from-none, from-older}
 use Rattle.unwinding.proofs.Walking.{frame, frame-links, natural, walked-base, walked-end, walked-links}
 use Rattle.unwinding.proofs.Walking.{walked-procedure, walked-oldest, oldest-walked, Newer, walked-newer}
 use Rattle.unwinding.proofs.Walking.{walked-older, newer-walked, tailOf, chain-is}
-use Rattle.unwinding.proofs.Going.{other-called, below-here, below-older, caller-is}
+use Rattle.unwinding.proofs.Going.{other-called, caller-is}
 use Rattle.unwinding.proofs.Bodies.{call-low}
 
 -- ---- tests of frames
@@ -63,7 +63,7 @@ module _ (g : Program) (store : List ℤ) where
   unfolding sizeKept
   walked-size w = also-yes (lt-ltb _ _ (walked-procedure g w)) (eq-eqb _ _ (walked-end g w))
 
-  pub size-both : (q b e : ℕ) → sizeKept g q b e ≡ true → (q < rowsOf (g .procedures)) × (e ≡ b + frame g q)
+  size-both : (q b e : ℕ) → sizeKept g q b e ≡ true → (q < rowsOf (g .procedures)) × (e ≡ b + frame g q)
   unfolding sizeKept
   size-both q b e said = let (x, y) = also-true _ _ said in (ltb-true _ _ x, eqb-true _ _ y)
 
@@ -110,23 +110,31 @@ module _ (g : Program) (store : List ℤ) (all : List ℕ) (base top : ℕ) wher
   abbrev asked : Bool
   asked = kept g store all base top
 
-  -- the loop stands at the frame of procedure q, from b to e, and blocks below `high` are still to be filled
-  pub record Along (blocks : List ℕ) (q b e high : ℕ) : Type 0 where
+  -- the blocks from `high` on are filled
+  abbrev Noted : List ℕ → ℕ → Type 0
+  Noted blocks high = asked ≡ true → (j : ℕ) → high ≤ j → j < BLOCKS
+      → getD blocks j 0 ≡ oldestFrom g NOWHERE all (blockEnd j)
+
+  -- for those before it the frame at `above` is known, and only these older ones are left
+  abbrev Left : ℕ → ℕ → List ℕ → Type 0
+  Left high above qs = asked ≡ true → (j : ℕ) → j < high
+      → oldestFrom g NOWHERE all (blockEnd j) ≡ oldestFrom g above qs (blockEnd j)
+
+  -- the loop stands at the frame of procedure q, from b to e
+  pub record Along (blocks : List ℕ) (q b e high above : ℕ) : Type 0 where
     pub within : e ≤ top
     pub fuel : ℕ
     pub enough : b ≤ fuel
     pub same : asked ≡ kept g store (q ∷ tailOf g store fuel q b) b e
     pub few : high ≤ BLOCKS
-    pub above : e < blockEnd high
-    pub done : asked ≡ true → (j : ℕ) → high ≤ j → j < BLOCKS → getD blocks j 0 ≡ newestBelow g all (blockEnd j)
-    pub left : asked ≡ true → (j : ℕ) → j < high
-        → newestBelow g all (blockEnd j) ≡ newestBelow g (q ∷ tailOf g store fuel q b) (blockEnd j)
+    pub behind : e < blockEnd high
+    pub done : Noted blocks high
+    pub left : Left high above (q ∷ tailOf g store fuel q b)
 
-  -- the blocks from `low` on are filled, and only this frame's older ones are left for those below
-  pub record Past (blocks : List ℕ) (q b low fuel : ℕ) : Type 0 where
-    pub done : asked ≡ true → (j : ℕ) → low ≤ j → j < BLOCKS → getD blocks j 0 ≡ newestBelow g all (blockEnd j)
-    pub left : asked ≡ true → (j : ℕ) → j < low
-        → newestBelow g all (blockEnd j) ≡ newestBelow g (tailOf g store fuel q b) (blockEnd j)
+  -- and is through with its blocks
+  pub record Past (blocks : List ℕ) (q b fuel : ℕ) : Type 0 where
+    pub done : Noted blocks (b / BLOCK)
+    pub left : Left (b / BLOCK) b (tailOf g store fuel q b)
 
 module _ {image plan : List ℕ} (p : Planned image plan) (store : List ℤ) (all : List ℕ) (base top : ℕ)
     (long : top ≤ length store) (most : length store ≤ 65536) where
@@ -136,14 +144,14 @@ module _ {image plan : List ℕ} (p : Planned image plan) (store : List ℤ) (al
   abbrev wanted : Bool
   wanted = asked g store all base top
 
-  abbrev Stands : List ℕ → ℕ → ℕ → ℕ → ℕ → Type 0
+  abbrev Stands : List ℕ → ℕ → ℕ → ℕ → ℕ → ℕ → Type 0
   Stands = Along g store all base top
 
-  abbrev Done : List ℕ → ℕ → ℕ → ℕ → ℕ → Type 0
+  abbrev Done : List ℕ → ℕ → ℕ → ℕ → Type 0
   Done = Past g store all base top
 
   pub along-start : (q : ℕ) → all ≡ chain g store (suc base) q base → (blocks : List ℕ)
-      → Stands blocks q base top BLOCKS
+      → Stands blocks q base top BLOCKS NOWHERE
   along-start q is blocks =
       let frames = is ∙ chain-is g store base q base in
       record {
@@ -152,12 +160,12 @@ module _ {image plan : List ℕ} (p : Planned image plan) (store : List ℤ) (al
         enough = omega arith;
         same = ap (λ (l : List ℕ). kept g store l base top) frames;
         few = omega arith;
-        above = block-all top (omega arith);
+        behind = block-all top (omega arith);
         done = λ said j h k. absurd (omega arith);
-        left = λ said j h. ap (λ (l : List ℕ). newestBelow g l (blockEnd j)) frames;
+        left = λ said j h. ap (λ (l : List ℕ). oldestFrom g NOWHERE l (blockEnd j)) frames;
       }
 
-  module _ {blocks : List ℕ} {q b e high : ℕ} (h : Stands blocks q b e high) where
+  module _ {blocks : List ℕ} {q b e high above : ℕ} (h : Stands blocks q b e high above) where
     walked : wanted ≡ true → Walked g (q ∷ tailOf g store (h .fuel) q b) store b e
     walked said = kept-walked g store (sym (h .same) ∙ said)
 
@@ -169,27 +177,28 @@ module _ {image plan : List ℕ} (p : Planned image plan) (store : List ℤ) (al
     pub along-block : sizeKept g q b e ≡ true → b / BLOCK ≤ high
     along-block sized =
         let own = size-links g store q b e sized in
-        block-within b high (omega (arith, h .above))
+        block-within b high (omega (arith, h .behind))
 
     pub along-filled : sizeKept g q b e ≡ true → {new : List ℕ}
-        → Filled (b / BLOCK) (high - b / BLOCK) (λ j. q * 65536 + b) blocks new → Done new q b (b / BLOCK) (h .fuel)
+        → Filled (b / BLOCK) (high - b / BLOCK) (λ j. above) blocks new → Done new q b (h .fuel)
     along-filled sized {new} filled = record {
       done = λ said j up few. go said j up few (decLt j high);
       left = λ said j low.
           let base = walked-base g (walked said) in
           let under = block-before b j low in
           h .left said j (omega (arith, along-block sized))
-          ∙ below-older g q (tailOf g store (h .fuel) q b) _ (omega arith);
+          ∙ from-older g above q (tailOf g store (h .fuel) q b) _ (omega arith)
+          ∙ rw (← base);
     }
       where
         go : wanted ≡ true → (j : ℕ) → b / BLOCK ≤ j → j < BLOCKS → Dec (j < high)
-            → getD new j 0 ≡ newestBelow g all (blockEnd j)
+            → getD new j 0 ≡ oldestFrom g NOWHERE all (blockEnd j)
         go said j up few (yes low) =
             let at : b / BLOCK + (j - b / BLOCK) ≡ j = omega arith in
             let base = walked-base g (walked said) in
             let begun = block-begun b j up in
             rw at at (filled .cell (j - b / BLOCK) (omega arith))
-            ∙ sym (h .left said j low ∙ below-here g q (tailOf g store (h .fuel) q b) _ (omega arith) ∙ rw (← base))
+            ∙ sym (h .left said j low ∙ from-none g above q (tailOf g store (h .fuel) q b) _ (omega arith))
         go said j up few (no far) =
             filled .above j (omega (arith, along-block sized)) ∙ h .done said j (omega arith) few
 
@@ -204,12 +213,12 @@ module _ {image plan : List ℕ} (p : Planned image plan) (store : List ℤ) (al
         (oldest-first g store top b e (h .within) long (rw first at sized) said))
         (λ said. first-oldest g store top b e (h .within) (kept-walked g store (sym same ∙ said)))
 
-    pub past-first : q ≡ 0 → {half new : List ℕ} → Done half q b (b / BLOCK) (h .fuel)
-        → Filled 0 (b / BLOCK - 0) (λ j. 0) half new → wanted ≡ true → Blocks g all new
-    unfolding newestBelow
+    pub past-first : q ≡ 0 → {half new : List ℕ} → Done half q b (h .fuel)
+        → Filled 0 (b / BLOCK - 0) (λ j. b) half new → wanted ≡ true → Blocks g all new
+    unfolding oldestFrom
     past-first first {half} {new} past filled said = record { each = λ j few. go j few (decLt j (b / BLOCK)) }
       where
-        go : (j : ℕ) → j < BLOCKS → Dec (j < b / BLOCK) → getD new j 0 ≡ newestBelow g all (blockEnd j)
+        go : (j : ℕ) → j < BLOCKS → Dec (j < b / BLOCK) → getD new j 0 ≡ oldestFrom g NOWHERE all (blockEnd j)
         go j few (yes low) =
             let none = tail-first g store (h .fuel) b in
             let rest = rw (first, none) at (past .left said j low) in
@@ -271,7 +280,7 @@ module _ {image plan : List ℕ} (p : Planned image plan) (store : List ℤ) (al
           (λ said. walked-kept g store (newer-walked g (omega arith) n (kept-walked g store said)))
 
       pub along-on : sizeKept g q b e ≡ true → callKept g q (x .procedure) back ≡ true → x .base < b → {new : List ℕ}
-          → Done new q b (b / BLOCK) (h .fuel) → Stands new (x .procedure) (x .base) b (b / BLOCK)
+          → Done new q b (h .fuel) → Stands new (x .procedure) (x .base) b (b / BLOCK) b
       along-on sized called falls past =
           let n = newer-is sized called falls in
           let own = size-links g store q b e sized in
@@ -285,7 +294,7 @@ module _ {image plan : List ℕ} (p : Planned image plan) (store : List ℤ) (al
             enough = omega arith;
             same = h .same ∙ ap (λ (l : List ℕ). kept g store (q ∷ l) b e) tail ∙ next-same n _ own;
             few = omega (arith, along-block sized, h .few);
-            above = block-begun b (b / BLOCK) (omega arith);
+            behind = block-begun b (b / BLOCK) (omega arith);
             done = past .done;
-            left = λ said j low. past .left said j low ∙ ap (λ (l : List ℕ). newestBelow g l (blockEnd j)) tail;
+            left = λ said j low. past .left said j low ∙ ap (λ (l : List ℕ). oldestFrom g b l (blockEnd j)) tail;
           }

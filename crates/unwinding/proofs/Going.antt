@@ -105,7 +105,6 @@ module _ (g : Program) where
     walked = w;
     below = low;
     packed = rw (walked-base g w) (below-here q qs at (omega (arith, walked-base g w)));
-    same = λ a h. refl;
     object = λ v a h. refl;
   }
 
@@ -122,7 +121,6 @@ module _ (g : Program) where
         walked = n .walked;
         below = n .below;
         packed = below-older q (c ∷ qs) at (omega arith) ∙ n .packed;
-        same = λ a h. below-older q (c ∷ qs) a (omega arith) ∙ n .same a h;
         object = λ w a h. object-older w q (c ∷ qs) a (omega arith) ∙ n .object w a h;
       }
 

@@ -15,8 +15,8 @@ pub record Going (g : Program) (store : List ℤ) (Told : List ℕ → Type 0) (
   pub walked : Walked g (q ∷ older) store b e
   pub told : Told (q ∷ older)
 
--- of frames `all`, which end at e, the newest that begins below an address, with its older ones: what is asked of all
--- of them at an address that is no higher is answered by these
+-- of frames `all`, which end at e, the newest that begins below an address, with its older ones, which hold the objects
+-- that begin no higher
 pub record Newest (g : Program) (all : List ℕ) (store : List ℤ) (e at : ℕ) (s : Spot) : Type 0 where
   pub older : List ℕ
   pub end : ℕ
@@ -24,7 +24,6 @@ pub record Newest (g : Program) (all : List ℕ) (store : List ℤ) (e at : ℕ)
   pub walked : Walked g (s .procedure ∷ older) store (s .base) end
   pub below : s .base < at
   pub packed : newestBelow g all at ≡ s .procedure * 65536 + s .base
-  pub same : (a : ℕ) → a ≤ at → newestBelow g all a ≡ newestBelow g (s .procedure ∷ older) a
   pub object : (w a : ℕ) → a ≤ at → objectAt g w all a ≡ objectAt g w (s .procedure ∷ older) a
 
 -- some frames are the oldest of others

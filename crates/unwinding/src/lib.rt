@@ -29,10 +29,13 @@ pub struct Spot {
 }
 
 // How many blocks a store has at most.
-pub const BLOCKS: usize = 512;
+pub const BLOCKS: usize = 1024;
 
 // How many cells a block has.
-const BLOCK: u32 = 128;
+const BLOCK: u32 = 64;
+
+// Where no frame begins.
+const NOWHERE: u16 = 65535;
 
 // How many places a table of variables with cells has: one a row, and one behind.
 pub const NEXT: usize = 257;
@@ -64,8 +67,29 @@ pub fn caller(store: &[i64], top: u32, base: u32) -> Spot
 }
 
 // The newest frame that begins below an address, which lies behind the globals and no higher than where the frame at
-// `from` begins: few links away from this frame or from that of the address's block, whichever is older.
-pub fn frame_below(store: &[i64], top: u32, blocks: &[u32], from: u32, at: u32) -> Spot
+// base begins: by the links from this frame on.
+fn caller_below(store: &[i64], top: u32, base: u32, at: u32) -> Spot
+    requires { ⌜ (top ≤ length (now store)) × (base ≤ 65536) ⌝ }
+    ensures { λ x. ⌜ ((g : Program) (qs older : List ℕ) (p b e : ℕ) → Walked g qs (now (store .entry)) b e → e ≤ top
+        → rowsOf (g .procedures) ≤ 64 → roomOf g [] < at → Oldest (p ∷ older) qs → base ≡ roomOf g older → at ≤ base
+        → x ≡ spotOf (newestBelow g qs at)) ⌝ }
+{
+    let mut b = base;
+    loop {
+        let older = caller(store, top, b);
+        let start = older.base;
+        if start < at {
+            return older;
+        }
+        if b <= start {
+            return older;
+        }
+        b = start;
+    }
+}
+
+// The same, from the frame above the address's block on or from the one at `from`, whichever is older.
+pub fn frame_below(store: &[i64], top: u32, blocks: &[u16], from: u32, at: u32) -> Spot
     requires { ⌜ (top ≤ length (now store)) × (BLOCKS ≤ length (now blocks)) × (1 ≤ at) × (at ≤ 65536) ⌝ }
     ensures { λ x. ⌜ ((g : Program) (qs older : List ℕ) (p b e : ℕ) → Walked g qs (now (store .entry)) b e → e ≤ top
         → rowsOf (g .procedures) ≤ 64 → Blocks g qs (now (blocks .entry)) → roomOf g [] < at
@@ -73,27 +97,11 @@ pub fn frame_below(store: &[i64], top: u32, blocks: &[u32], from: u32, at: u32) 
         → x ≡ spotOf (newestBelow g qs at)) ⌝ }
 {
     let block = (at - 1) / BLOCK;
-    let packed = blocks[block as usize];
-    let mut q = (packed / 65536) as u16;
-    let mut b = packed % 65536;
-    // q is not the procedure of the frame at `from`, but the loop leaves that frame at once
-    if from < b {
-        b = from;
+    let above = blocks[block as usize] as u32;
+    if above < from {
+        return caller_below(store, top, above, at);
     }
-    while at <= b {
-        let older = caller(store, top, b);
-        let procedure = older.procedure;
-        let base = older.base;
-        if b <= base {
-            return older;
-        }
-        q = procedure;
-        b = base;
-    }
-    Spot {
-        procedure: q,
-        base: b,
-    }
+    caller_below(store, top, from, at)
 }
 
 // ---- frames of a program
@@ -180,7 +188,7 @@ fn oldest_kept(image: &&[u8], plan: &Plan, store: &[i64], top: u32, b: u32) -> b
 // ---- the walk
 
 // Writes one number into the blocks from one on, before another.
-fn fill(blocks: &mut [u32], from: usize, to: usize, number: u32)
+fn fill(blocks: &mut [u16], from: usize, to: usize, number: u16)
     requires { ⌜ (from ≤ to) × (to ≤ length (now blocks)) ⌝ }
     ensures { λ x. ⌜ Filled from (to - from) (λ j. number) (now (blocks .entry)) (now (blocks .exit)) ⌝ }
 {
@@ -191,7 +199,7 @@ fn fill(blocks: &mut [u32], from: usize, to: usize, number: u32)
     }
 }
 
-// Whether the links lead from the frame of procedure q, from base to top, to procedure 0's; if so, the frame of each
+// Whether the links lead from the frame of procedure q, from base to top, to procedure 0's; if so, the frame above each
 // block is noted.
 pub fn walk(
     image: &&[u8],
@@ -200,7 +208,7 @@ pub fn walk(
     q: u16,
     base: u32,
     top: u32,
-    blocks: &mut [u32],
+    blocks: &mut [u16],
 ) -> bool
     requires { ⌜ Ready (now (now image)) (now plan) × (top ≤ length (now store)) × (length (now store) ≤ 65536)
         × (BLOCKS ≤ length (now blocks)) ⌝ }
@@ -216,16 +224,19 @@ pub fn walk(
     let mut procedure = q;
     let mut start = base;
     let mut end = top;
+    // the blocks from `high` on are filled, and the oldest frame above those before it, so far, begins at `above`
     let mut high = BLOCKS;
+    let mut above = NOWHERE;
     loop {
         if !size_kept(image, plan, procedure, start, end) {
             return false;
         }
         let low = (start / BLOCK) as usize;
-        let packed = (procedure as u32) * 65536 + start;
-        fill(blocks, low, high, packed);
+        fill(blocks, low, high, above);
+        high = low;
+        above = start as u16;
         if procedure == 0 {
-            fill(blocks, 0, low, 0);
+            fill(blocks, 0, high, above);
             return oldest_kept(image, plan, store, top, start);
         }
         let older = caller(store, top, start);
@@ -241,7 +252,6 @@ pub fn walk(
         procedure = called;
         end = start;
         start = below;
-        high = low;
     }
 }
 

@@ -1,7 +1,7 @@
 -- `unwinding::walk` meets its contract: what is asked of all frames is asked of those that are left.
 use mathlib.Core.Path.{_≡_, refl, sym, _∙_}
 use mathlib.Core.Bool.{true}
-use Prim.Native.Nat.{suc, _+_, _/_, _≤_, _<_}
+use Prim.Native.Nat.{suc, _+_, _≤_}
 use native.Mathlib.Omega.{arith}
 use native.Mathlib.Nat.{div-le-self}
 use borrow.Author.Tests.{not-true, not-false}
@@ -10,23 +10,22 @@ use lib.ListN.{length}
 use Rattle.prelude.proofs.Choice.{clash}
 use Rattle.semantics.specs.Running.{programOf}
 use Rattle.asking.specs.State.{chain}
-use Rattle.access.proofs.Bounds.{procedures-few}
 use Rattle.unwinding.specs.Links.{sizeKept}
 use Rattle.unwinding.specs.Blocks.{BLOCK}
-use Rattle.unwinding.proofs.Along.{Along, Past, size-both, size-links, along-start, along-unsized, along-block}
+use Rattle.unwinding.proofs.Along.{Along, Past, size-links, along-start, along-unsized, along-block}
 use Rattle.unwinding.proofs.Along.{along-filled, along-first, past-first, along-uncalled, along-unfallen}
 use Rattle.unwinding.proofs.Along.{along-on}
 use Rattle.unwinding.proofs.walk.Statement.{statement}
 use Rattle.unwinding.proofs.walk.Tie as tie
 
 abbrev Inv-loop : tie.InvT-loop
-Inv-loop image plan store q base top blocks₀ procedure₀ start₀ end₀ high₀ blocks procedure start end high =
+Inv-loop image plan store q base top blocks₀ procedure₀ start₀ end₀ high₀ above₀ blocks procedure start end high above =
     (length blocks ≡ length blocks₀)
     × Along (programOf (now image)) store (chain (programOf (now image)) store (suc base) q base) base top blocks
-    procedure start end high
+    procedure start end high above
 
 abbrev μ-loop : tie.MeasureT-loop
-μ-loop image plan store q base top blocks₀ procedure₀ start₀ end₀ high₀ blocks procedure start end high =
+μ-loop image plan store q base top blocks₀ procedure₀ start₀ end₀ high₀ above₀ blocks procedure start end high above =
     start
 
 loop-holds : tie.Need-loop-holds Inv-loop μ-loop
@@ -54,21 +53,20 @@ sized c = sym (c .before .size-kept .ensures) ∙ not-false _ (c .if1 .left)
 
 -- and so lies low
 small : (c : tie.Else1 Inv-loop μ-loop) → let l = c .before .before .loop in
-    (l .procedure < 64) × (l .start + 3 ≤ 65536)
+    l .start + 3 ≤ 65536
 small c =
     let l = c .before .before .loop in
     let s = c .before .before .before .before in
-    let (there, size) = size-both _ (now (s .args .store)) _ _ (l .end) (sized c) in
     let links = size-links _ (now (s .args .store)) _ _ (l .end) (sized c) in
     let within = l .inv .1 .within in
-    (omega (arith, procedures-few (s .pre .0 .planned)), omega (arith, s .pre .1, s .pre .2))
+    omega (arith, s .pre .1, s .pre .2)
 
 -- where its blocks are filled
 filled : (c : tie.After-fill Inv-loop μ-loop) → let l = c .before .before .before .before .loop in
     let s = c .before .before .before .before .before .before in
     let g = programOf (now (s .args .image .now)) in
     Past g (s .args .store .now) (chain g (s .args .store .now) (suc (s .args .base)) (s .args .q) (s .args .base))
-    (s .args .base) (s .args .top) (c .fill .last .0) (l .procedure) (l .start) (l .start / BLOCK) (l .inv .1 .fuel)
+    (s .args .base) (s .args .top) (c .fill .last .0) (l .procedure) (l .start) (l .inv .1 .fuel)
 filled c =
     let l = c .before .before .before .before .loop in
     let s = c .before .before .before .before .before .before in
@@ -78,15 +76,6 @@ filled c =
 cast-low : tie.Need-cast-low Inv-loop μ-loop
 cast-low c = record { fits = omega (arith, small c, div-le-self (c .before .before .loop .start) BLOCK) }
 
-cast-packed : tie.Need-cast-packed Inv-loop μ-loop
-cast-packed c = record { fits = omega (arith, small c) }
-
-mul-packed : tie.Need-mul-packed Inv-loop μ-loop
-mul-packed c = record { fits = omega (arith, small c) }
-
-add-packed : tie.Need-add-packed Inv-loop μ-loop
-add-packed c = record { fits = omega (arith, small c) }
-
 fill-requires : tie.Need-fill-requires Inv-loop μ-loop
 fill-requires c κs =
     let l = c .before .before .before .loop in
@@ -94,6 +83,9 @@ fill-requires c κs =
       along-block (s .pre .0 .planned) _ _ _ _ (s .pre .1) (s .pre .2) (l .inv .1) (sized (c .before)),
       omega (arith, l .inv .0, l .inv .1 .few, s .pre .3),
     )
+
+cast-above : tie.Need-cast-above Inv-loop μ-loop
+cast-above c = record { fits = omega (arith, small (c .before .before .before .before)) }
 
 fill-requires-2 : tie.Need-fill-requires-2 Inv-loop μ-loop
 fill-requires-2 c κs =
@@ -208,10 +200,8 @@ walk-spec =
     same-length
     returns
     cast-low
-    cast-packed
-    mul-packed
-    add-packed
     fill-requires
+    cast-above
     fill-requires-2
     oldest-kept-requires
     same-length-2
