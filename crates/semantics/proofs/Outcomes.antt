@@ -21,15 +21,15 @@ use Rattle.checker.specs.declared.CheckAnswer.the-variants.{Accepted, Refused}
 use Rattle.checker.specs.Check.{questionOf, checkOf, refusalOf, rowOf}
 use Rattle.checker.proofs.Chain.{refused-first}
 use Rattle.checker.proofs.Accepted.{AcceptedTables}
-use Rattle.semantics.specs.declared.RunResult.{RunResult}
 use Rattle.semantics.specs.Memory.{Memory, Cell, tagged, bare}
 use Rattle.semantics.specs.Layout.{Program}
 use Rattle.semantics.specs.Stepping.{State, Next, Next.goes, Next.finished, Next.trapped, Next.stuck, stepOf}
 use Rattle.semantics.specs.Running.{programOf, firstTop, fresh, Ended, onward, runFrom, refusal, ranOf}
-use Rattle.semantics.specs.Running.{numbersOf, refusedWith, resultOf, outputAfter}
+use Rattle.semantics.specs.Running.{numbersOf, refusedWith, resultBy, outputBy, resultOf, outputAfter}
 use Rattle.semantics.specs.Sound.{Sound}
 use Rattle.semantics.specs.After.{Machine, Machine.running, Machine.over, Machine.failed, moved, after}
 use Rattle.semantics.proofs.Simulation.{eraseEnded, run-follows, fresh-erased}
+use Rattle.semantics.proofs.Giving.{result-has}
 use Rattle.semantics.specs.Demand3.{Unchanged, NextOk, NextOk.ok-goes, NextOk.ok-finished, NextOk.ok-trapped}
 use Rattle.semantics.proofs.Beginning.{fresh-sound, fresh-length}
 use Rattle.semantics.proofs.AnyStep.{step-ok}
@@ -296,16 +296,12 @@ module _ (image : List ℕ) (bytes : Bytes image) (accepted : checkOf image ≡ 
 -- "outcome (0 steps used up, 1 finished, 2 trapped)": whatever the image and the store
 pub result-outcome : (image : List ℕ) → Bytes image → (input store output : List ℤ) (steps : ℕ)
     → resultOf image input store output steps .outcome ≤ 2
-unfolding resultOf numbersOf refusedWith choose
-result-outcome image bytes input store output steps = go (eqb (refusal image store) 0) refl
-  where
-    go : (b : Bool) → eqb (refusal image store) 0 ≡ b
-        → choose b (numbersOf (ranOf image input store output steps))
-        (refusedWith (refusal image store) (rowOf (checkOf image))) .outcome ≤ 2
-    go true e =
-        let (accepted, most, least) = refusal-none image store (eqb-true _ _ e) in
-        ran-outcome image bytes accepted input store output most least steps
-    go false e = omega arith
+unfolding resultOf numbersOf refusedWith
+result-outcome image bytes input store output steps =
+    result-has _ _ _ (λ r. r .outcome ≤ 2)
+    (λ none. let (accepted, most, least) = refusal-none image store none in
+    ran-outcome image bytes accepted input store output most least steps)
+    (omega arith)
 
 -- ---- what every run keeps
 
@@ -362,36 +358,32 @@ module _ (image : List ℕ) (input store output : List ℤ) (steps : ℕ) where
   unfolding ranOf
   ran-kept = run-kept tagged (programOf image) input steps 0 (fresh tagged (programOf image) store output)
 
-  -- what holds of the numbers of every run and of every refusal holds of the result
-  result-has : (P : RunResult → Type 0) → P (numbersOf (ranOf image input store output steps))
-      → ((q row : ℕ) → P (refusedWith q row)) → P (resultOf image input store output steps)
-  unfolding resultOf
-  result-has P ran refused = choose-has P _ (λ e. ran) (λ e. refused _ _)
-
   -- "trap is 0 unless trapped"
   pub result-no-trap : (resultOf image input store output steps .outcome ≡ 2 → ⊥)
       → resultOf image input store output steps .trap ≡ 0
-  unfolding numbersOf refusedWith
-  result-no-trap = result-has (λ r. (r .outcome ≡ 2 → ⊥) → r .trap ≡ 0) (ran-kept .no-trap) (λ q row h. refl)
+  unfolding resultOf numbersOf refusedWith
+  result-no-trap =
+      result-has _ _ _ (λ r. (r .outcome ≡ 2 → ⊥) → r .trap ≡ 0) (λ none. ran-kept .no-trap) (λ h. refl)
 
   -- and one of the ten where it trapped
   pub result-named-trap : resultOf image input store output steps .outcome ≡ 2
       → (1 ≤ resultOf image input store output steps .trap) × (resultOf image input store output steps .trap ≤ 10)
-  unfolding numbersOf refusedWith
+  unfolding resultOf numbersOf refusedWith
   result-named-trap =
-      result-has (λ r. r .outcome ≡ 2 → (1 ≤ r .trap) × (r .trap ≤ 10)) (ran-kept .named-trap)
-      (λ q row h. absurd (omega arith))
+      result-has _ _ _ (λ r. r .outcome ≡ 2 → (1 ≤ r .trap) × (r .trap ≤ 10)) (λ none. ran-kept .named-trap)
+      (λ h. absurd (omega arith))
 
   -- "HALT number 0 unless trap 10"
   pub result-halt : (resultOf image input store output steps .trap ≡ 10 → ⊥)
       → resultOf image input store output steps .halt ≡ pos 0
-  unfolding numbersOf refusedWith
-  result-halt = result-has (λ r. (r .trap ≡ 10 → ⊥) → r .halt ≡ pos 0) (ran-kept .halt) (λ q row h. refl)
+  unfolding resultOf numbersOf refusedWith
+  result-halt =
+      result-has _ _ _ (λ r. (r .trap ≡ 10 → ⊥) → r .halt ≡ pos 0) (λ none. ran-kept .halt) (λ h. refl)
 
   -- "output places from written on keep their numbers"; there are as many as were lent
   pub output-kept : (i : ℕ) → resultOf image input store output steps .at .written ≤ i
       → getD (outputAfter image input store output steps) i (pos 0) ≡ getD output i (pos 0)
-  unfolding resultOf outputAfter numbersOf fresh choose
+  unfolding resultOf outputAfter resultBy outputBy numbersOf fresh choose
   output-kept i = go (eqb (refusal image store) 0)
     where
       go : (b : Bool) → choose b (numbersOf (ranOf image input store output steps))
@@ -402,6 +394,6 @@ module _ (image : List ℕ) (input store output : List ℤ) (steps : ℕ) where
       go false h = refl
 
   pub output-places : length (outputAfter image input store output steps) ≡ length output
-  unfolding outputAfter fresh
+  unfolding outputAfter outputBy fresh
   output-places =
       choose-has (λ (l : List ℤ). length l ≡ length output) _ (λ e. ran-kept .output .places) (λ e. refl)
