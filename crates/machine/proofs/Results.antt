@@ -1,13 +1,12 @@
 -- The fresh state in the lent store, and what the code of a run and of a continuation gives back.
-use mathlib.Core.Path.{_≡_, refl, sym, _∙_, ap}
+use mathlib.Core.Path.{_≡_, sym, _∙_, ap}
 use mathlib.Core.Bool.{Bool, true, false}
-use mathlib.Core.List.{List, [], _∷_, _++_, map, map-id, append-assoc}
-use Prim.Native.Nat.{ℕ, zero, suc, _+_, _≤_, _<_}
+use mathlib.Core.List.{List, _∷_, _++_, map-id}
+use Prim.Native.Nat.{ℕ, zero, suc, _+_, _≤_}
 use native.Mathlib.Omega.{arith}
-use borrow.Author.Tests.{eq-eqb, ne-eqb, le-leb, lt-leb}
-use lib.Dec.{eqb}
+use borrow.Author.Tests.{eq-eqb, ne-eqb}
 use lib.IntN.{ℤ, pos}
-use lib.ListN.{length, getD, drop, replicate, length-replicate}
+use lib.ListN.{length, drop, replicate, length-replicate}
 use Rattle.prelude.specs.Choice.{choose}
 use Rattle.prelude.proofs.Choice.{choose-yes, choose-no}
 use Rattle.checker.specs.declared.CheckAnswer.{CheckAnswer}
@@ -19,18 +18,15 @@ use Rattle.frames.specs.Variables.{globalsOf}
 use Rattle.frames.specs.Procedures.{firstVariable, claimedBy}
 use Rattle.places.specs.Places.{roomFrom, globalCells, frameSize}
 use Rattle.semantics.specs.declared.RunResult.{RunResult}
-use Rattle.semantics.specs.Memory.{Cell, bare, tagged, overwrite}
+use Rattle.semantics.specs.Memory.{Cell, bare, overwrite}
 use Rattle.semantics.specs.Layout.{Program, kindsFrom}
-use Rattle.semantics.specs.Stepping.{State}
 use Rattle.semantics.specs.Running.{programOf, globalRoom, firstTop, freshCells, fresh, Ended, runFrom, refusal, ranOf}
-use Rattle.semantics.specs.Running.{numbersOf, refusedWith, resultOf, storeAfter, outputAfter}
-use Rattle.semantics.proofs.Simulation.{eraseEnded}
+use Rattle.semantics.specs.Running.{numbersOf, refusedWith}
 use Rattle.semantics.proofs.Agreeing.{blank-zeros}
 use Rattle.semantics.proofs.Objects.{kinds-room}
 use Rattle.semantics.proofs.Giving.{GivesBack, gives-refused, gives-ended}
 use Rattle.semantics.proofs.Outcomes.{refusal-none, ran-bare}
 use Rattle.calling.specs.Showing.{stateOf, Stands}
-use Rattle.semantics.specs.declared.Registers.{Registers}
 use Rattle.asking.specs.Continuing.{question14}
 use Rattle.asking.proofs.Continuing.{question14-exact}
 use Rattle.asking.proofs.Giving.{Continues, continues-14, continues-run}
