@@ -31,14 +31,14 @@ use Rattle.semantics.proofs.Agreeing.{numbers}
 use Rattle.semantics.proofs.Simulation.{eraseEnded}
 use Rattle.semantics.proofs.Beginning.{fresh-sound, fresh-length}
 use Rattle.semantics.proofs.Demand3.{program-accepted, program-bytes, demand3-from}
-use Rattle.semantics.proofs.Outcomes.{refusal-none, none-refusal, steps-used, run-room, run-kept}
+use Rattle.semantics.proofs.Outcomes.{refusal-none, none-refusal, steps-used, run-ok, run-kept}
 use Rattle.asking.specs.Resuming.{resumed}
 use Rattle.asking.specs.Continuing.{Continuable, unfinished, withinLent, question14, continueRefusal, continuedOf}
 use Rattle.asking.specs.Continuing.{continueResult, continuedStore, continuedOutput, Left, afterRun}
 use Rattle.asking.specs.Continuing.{afterContinue, refusalOn}
 use Rattle.asking.proofs.Built.{number-is, yes-sound}
 use Rattle.asking.proofs.Told.{number-same, sound-told}
-use Rattle.asking.proofs.Resuming.{run-ok, resumed-told, resumed-cells, continue-adds}
+use Rattle.asking.proofs.Resuming.{resumed-told, resumed-cells, continue-adds}
 
 -- ---- question 14
 
@@ -219,7 +219,7 @@ module _ (image : List ℕ) (bytes : Bytes image) (accepted : checkOf image ≡ 
     left-passes =
         let e = runFrom tagged g input n k s in
         let cells : length (numbers (e .state .cells)) ≡ length (s .cells) =
-        length-map (e .state .cells) (tagged .number) ∙ run-room g ok nodes input n k s (starts .sound) in
+        length-map (e .state .cells) (tagged .number) ∙ run-ok g ok nodes input n k s (starts .sound) .room in
         let most = starts .sound .lent in
         let least = starts .least in
         none-continue image input (left .store) (left .output) (left .result) m

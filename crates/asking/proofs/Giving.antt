@@ -21,13 +21,13 @@ use Rattle.semantics.specs.Sound.{Sound, frameWants, wants}
 use Rattle.semantics.proofs.Simulation.{eraseEnded}
 use Rattle.semantics.proofs.Giving.{GivesBack, result-has, gives-refused, gives-ended}
 use Rattle.semantics.proofs.Demand3.{program-accepted, program-bytes}
-use Rattle.semantics.proofs.Outcomes.{refusal-none, run-outcome}
+use Rattle.semantics.proofs.Outcomes.{refusal-none, run-ok}
 use Rattle.asking.specs.State.{soundOf}
 use Rattle.asking.specs.Resuming.{resumed}
 use Rattle.asking.specs.Continuing.{question14, continueRefusal, continuedOf, continueResult, continuedStore}
 use Rattle.asking.specs.Continuing.{continuedOutput}
 use Rattle.asking.proofs.Built.{yes-sound}
-use Rattle.asking.proofs.Resuming.{run-ok, resumed-cells, resumed-bare}
+use Rattle.asking.proofs.Resuming.{resumed-cells, resumed-bare}
 use Rattle.asking.proofs.Continuing.{continue-none, none-continue}
 
 -- the numbers that a sound state has room for
@@ -97,12 +97,12 @@ module _ (image : List ℕ) (input store output : List ℤ) (from : RunResult) (
           few = omega arith;
         }
 
-    -- it is never stuck
-    pub continued-unstuck : continuedOf image input store output from steps .outcome ≡ 3 → ⊥
+    -- its outcome is one of the paper's: it is never stuck
+    pub continued-outcome : continuedOf image input store output from steps .outcome ≤ 2
     unfolding continuedOf
-    continued-unstuck =
+    continued-outcome =
         run-ok g (program-accepted image accepted) (program-bytes image bytes) input steps (from .steps)
-        (resumed g (from .at) store output) state-sound .not-stuck
+        (resumed g (from .at) store output) state-sound .outcome
 
     -- the code's run, on the numbers alone
     abbrev ran : Ended ℤ
@@ -123,10 +123,9 @@ module _ (image : List ℕ) (input store output : List ℤ) (from : RunResult) (
 -- "outcome (0 steps used up, 1 finished, 2 trapped)": whatever the image, the store and the earlier result
 pub continue-outcome : (image : List ℕ) → Bytes image → (input store output : List ℤ) (from : RunResult) (steps : ℕ)
     → continueResult image input store output from steps .outcome ≤ 2
-unfolding continueResult continuedOf numbersOf refusedWith
+unfolding continueResult numbersOf refusedWith
 continue-outcome image bytes input store output from steps =
     result-has _ _ _ (λ r. r .outcome ≤ 2)
     (λ e. let (none, passes) = continue-none image input store output from steps e in
-    run-outcome (programOf image) input steps (from .steps) _
-    (continued-unstuck image input store output from steps bytes none passes))
+    continued-outcome image input store output from steps bytes none passes)
     (omega arith)

@@ -28,7 +28,7 @@ use Rattle.semantics.specs.Running.{programOf, firstTop, fresh, Ended, o
 use Rattle.semantics.specs.Running.{numbersOf, refusedWith, resultBy, outputBy, resultOf, outputAfter}
 use Rattle.semantics.specs.Sound.{Sound}
 use Rattle.semantics.specs.After.{Machine, Machine.running, Machine.over, Machine.failed, moved, after}
-use Rattle.semantics.proofs.Simulation.{eraseEnded, run-follows, fresh-erased}
+use Rattle.semantics.proofs.Simulation.{erase, eraseEnded, run-follows, fresh-erased}
 use Rattle.semantics.proofs.Giving.{result-has}
 use Rattle.semantics.specs.Demand3.{Unchanged, NextOk, NextOk.ok-goes, NextOk.ok-finished, NextOk.ok-trapped}
 use Rattle.semantics.proofs.Beginning.{fresh-sound, fresh-length}
@@ -134,17 +134,6 @@ steps-used g input n k s = go (reported g input n k s)
     go (traps d low c r x) used = absurd (omega arith)
     go (sticks d low c r x) used = absurd (omega arith)
 
--- a run that is not stuck has an outcome of the paper's
-pub run-outcome : (g : Program) (input : List ℤ) (n k : ℕ) (s : State Cell)
-    → (runFrom tagged g input n k s .outcome ≡ 3 → ⊥) → runFrom tagged g input n k s .outcome ≤ 2
-run-outcome g input n k s = go (reported g input n k s)
-  where
-    go : {e : Ended Cell} → Reported g input n k s e → (e .outcome ≡ 3 → ⊥) → e .outcome ≤ 2
-    go (used-up c r) free = omega arith
-    go (finishes d low c r x) free = omega arith
-    go (traps d low c r x) free = omega arith
-    go (sticks d low c r x) free = absurd (free refl)
-
 -- a run takes no more steps than it is lent
 pub steps-lent : (image : List ℕ) (input store output : List ℤ) (steps : ℕ)
     → ranOf image input store output steps .steps ≤ steps
@@ -194,24 +183,39 @@ none-refusal image store accepted most least =
 
 -- ---- what follows from demand 3
 
+-- a run from s: its outcome is one of the paper's, a state that it leaves with its steps used up is sound, and there are
+-- as many cells as before
+pub record RunOk (g : Program) (s : State Cell) (e : Ended Cell) : Type 0 where
+  pub outcome : e .outcome ≤ 2
+  pub sound : e .outcome ≡ 0 → Sound g (e .state)
+  pub room : length (e .state .cells) ≡ length (s .cells)
+
 module _ (g : Program)
     (ok : AcceptedTables (g .types) (g .fields) (g .variables) (g .procedures) (g .nodes) (g .statements))
     (bytes : Bytes (g .nodes)) (input : List ℤ) where
-  -- a run leaves as many cells as there were
-  pub run-room : (n k : ℕ) (s : State Cell) → Sound g s
-      → length (runFrom tagged g input n k s .state .cells) ≡ length (s .cells)
+  -- from every sound state
+  pub run-ok : (n k : ℕ) (s : State Cell) → Sound g s → RunOk g s (runFrom tagged g input n k s)
   unfolding runFrom onward
-  run-room zero k s sound = refl
-  run-room (suc n) k s sound =
-      go (stepOf tagged g input s) (step-ok g ok bytes s sound input) (λ u h. run-room n (k + 1) u h)
+  run-ok zero k s sound = record { outcome = omega arith; sound = λ used. sound; room = refl }
+  run-ok (suc n) k s sound =
+      go (stepOf tagged g input s) (step-ok g ok bytes s sound input) (λ u h. run-ok n (k + 1) u h)
     where
       go : (x : Next Cell) → NextOk g s x
-          → ((u : State Cell) → Sound g u
-          → length (runFrom tagged g input n (k + 1) u .state .cells) ≡ length (u .cells))
-          → length (onward x s (k + 1) (λ u. runFrom tagged g input n (k + 1) u) .state .cells) ≡ length (s .cells)
-      go x (ok-goes {s′ = u} next cells output) later = later u next ∙ cells
-      go x ok-finished later = refl
-      go x (ok-trapped same) later = same .cells
+          → ((u : State Cell) → Sound g u → RunOk g u (runFrom tagged g input n (k + 1) u))
+          → RunOk g s (onward x s (k + 1) (λ u. runFrom tagged g input n (k + 1) u))
+      go x (ok-goes {s′ = u} next cells output) later =
+          let rest = later u next in
+          record { outcome = rest .outcome; sound = rest .sound; room = rest .room ∙ cells }
+      go x ok-finished later = record { outcome = omega arith; sound = λ used. absurd (omega arith); room = refl }
+      go x (ok-trapped same) later =
+          record { outcome = omega arith; sound = λ used. absurd (omega arith); room = same .cells }
+
+  -- the bare machine, on the numbers alone, does the same
+  pub run-bare : (n k : ℕ) (s : State Cell) → Sound g s
+      → runFrom bare g input n k (erase s) ≡ eraseEnded (runFrom tagged g input n k s)
+  run-bare n k s sound =
+      let few = run-ok n k s sound .outcome in
+      run-follows g input n k s (λ three. absurd (omega arith))
 
 module _ (image : List ℕ) (bytes : Bytes image) (accepted : checkOf image ≡ Accepted) (input store output : List ℤ)
     (most : length store ≤ 65536) (least : firstTop (programOf image) ≤ length store) (steps : ℕ) where
@@ -235,18 +239,20 @@ module _ (image : List ℕ) (bytes : Bytes image) (accepted : checkOf image ≡ 
       go x e (sound-over sound step) = let z : _≡_ {A = ℕ} 0 1 = cc in absurd (omega arith)
       go x e (sound-failed sound step same left) = let z : _≡_ {A = ℕ} 0 1 = cc in absurd (omega arith)
 
+  first-sound : Sound (programOf image) first
+  first-sound = fresh-sound (programOf image) (program-accepted image accepted) store output most least
+
+  ran-ok : RunOk (programOf image) first (ranOf image input store output steps)
+  unfolding ranOf
+  ran-ok =
+      run-ok (programOf image) (program-accepted image accepted) (program-bytes image bytes) input steps 0 first first-sound
+
+  pub ran-outcome : ranOf image input store output steps .outcome ≤ 2
+  ran-outcome = ran-ok .outcome
+
   -- a run is never stuck
   pub never-stuck : ranOf image input store output steps .outcome ≡ 3 → ⊥
-  never-stuck = go ran
-    where
-      go : {e : Ended Cell} → Reported (programOf image) input steps 0 first e → e .outcome ≡ 3 → ⊥
-      go (used-up c r) three = absurd (omega arith)
-      go (finishes d low c r x) three = absurd (omega arith)
-      go (traps d low c r x) three = absurd (omega arith)
-      go (sticks {u = u} {v} d low c r x) three = stuck-not (rw x at (running-sound d u r .1))
-        where
-          stuck-not : NextOk (programOf image) u (stuck v) → ⊥
-          stuck-not h = elim h [ ]
+  never-stuck three = absurd (omega (arith, ran-outcome))
 
   -- "After any trap nothing below top, no output and no count but steps has changed, and row, base and top stay."
   pub trap-unchanged : ranOf image input store output steps .outcome ≡ 2
@@ -278,20 +284,13 @@ module _ (image : List ℕ) (bytes : Bytes image) (accepted : checkOf image ≡ 
   unfolding ranOf
   ran-bare =
       rw (fresh-erased (programOf image) store output)
-      (run-follows (programOf image) input steps 0 first never-stuck)
+      (run-bare (programOf image) (program-accepted image accepted) (program-bytes image bytes) input steps 0 first
+      first-sound)
 
   -- a run leaves as many cells as it was lent
   pub ran-cells : length (ranOf image input store output steps .state .cells) ≡ length store
-  unfolding ranOf fresh
-  ran-cells =
-      let ok = program-accepted image accepted in
-      run-room (programOf image) ok (program-bytes image bytes) input steps 0 first
-      (fresh-sound (programOf image) ok store output most least)
-      ∙ fresh-length (programOf image) ok store least
-
-  pub ran-outcome : ranOf image input store output steps .outcome ≤ 2
-  unfolding ranOf
-  ran-outcome = run-outcome (programOf image) input steps 0 first never-stuck
+  unfolding fresh
+  ran-cells = ran-ok .room ∙ fresh-length (programOf image) (program-accepted image accepted) store least
 
 -- "outcome (0 steps used up, 1 finished, 2 trapped)": whatever the image and the store
 pub result-outcome : (image : List ℕ) → Bytes image → (input store output : List ℤ) (steps : ℕ)
