@@ -230,7 +230,8 @@ module _ (image : List ℕ) (bytes : Bytes image) (accepted : checkOf image ≡ 
     left-adds : afterContinue image input left m ≡ leftBy (eraseEnded (runFrom tagged g input (n + m) k s))
     unfolding continuedOf numbersOf
     left-adds =
-        continue-left image input left m left-passes ∙ ap leftBy (continue-adds g ok nodes input n m k s (starts .sound) used)
+        continue-left image input left m left-passes
+        ∙ ap leftBy (continue-adds g ok nodes input n m k s (starts .sound) used)
 
 -- ---- after a run
 

@@ -38,12 +38,13 @@ pub record Ranged (s : Registers) (store : List ℤ) : Type 0 where
   pub few : length store ≤ 65536
 
 module _ (image : List ℕ) (input store output : List ℤ) (from : RunResult) (steps : ℕ) where
-  -- what it gives back
+  -- a continuation's numbers, every cell of the store and every output place
   abbrev pub Continues : RunResult → List ℤ → List ℤ → Type 0
   Continues =
       GivesBack (continueRefusal image input store output from steps) (rowOf (checkOf image))
       (continuedOf image input store output from steps) store output
 
+  -- they are those of its contract
   pub continue-gives : {r : RunResult} {cells places : List ℤ} → Continues r cells places
       → (r ≡ continueResult image input store output from steps)
       × ((cells ≡ continuedStore image input store output from steps)

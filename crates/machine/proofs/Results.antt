@@ -90,7 +90,7 @@ unfolding checkOf
 question-some image q row e = refused-first (questionOf image) 11 1 q row e .least
 
 -- a refusal of the check is the run's
-pub check-refuses : (image : List ℕ) (store : List ℤ) (q row : ℕ) → checkOf image ≡ Refused q row
+check-refuses : (image : List ℕ) (store : List ℤ) (q row : ℕ) → checkOf image ≡ Refused q row
     → (refusal image store ≡ q) × (q ≡ 0 → ⊥) × (rowOf (checkOf image) ≡ row)
 unfolding refusal refusalOf rowOf
 check-refuses image store q row this =

@@ -14,7 +14,7 @@ use Rattle.semantics.specs.Running.{Ended, refusal, ranOf, numbersOf, re
 use Rattle.semantics.specs.Running.{resultOf, storeAfter, outputAfter}
 use Rattle.semantics.proofs.Simulation.{eraseEnded}
 
--- the numbers, every cell of the store and every output place
+-- a call's numbers, every cell of the store and every output place
 pub record GivesBack (q row : ℕ) (e : Ended Cell) (store output : List ℤ) (r : RunResult) (cells places : List ℤ)
     : Type 0 where
   pub result : r ≡ resultBy q row e
@@ -52,7 +52,7 @@ module _ {q row : ℕ} {e : Ended Cell} {store output : List ℤ} {r : RunResult
         sent = sym sent ∙ ap (λ (x : Ended ℤ). x .state .output) same ∙ sym (choose-yes _ _ _ yes);
       }
 
--- what a run gives back
+-- a run's are those of its contract
 pub run-gives : (image : List ℕ) (input store output : List ℤ) (steps : ℕ) {r : RunResult} {cells places : List ℤ}
     → GivesBack (refusal image store) (rowOf (checkOf image)) (ranOf image input store output steps) store output r
     cells places

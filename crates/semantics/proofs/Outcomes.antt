@@ -183,8 +183,8 @@ none-refusal image store accepted most least =
 
 -- ---- what follows from demand 3
 
--- a run from s: its outcome is one of the paper's, a state that it leaves with its steps used up is sound, and there are
--- as many cells as before
+-- a run from s: its outcome is one of the paper's, so it is never stuck; a state with its steps used up is sound; and
+-- there are as many cells as before
 pub record RunOk (g : Program) (s : State Cell) (e : Ended Cell) : Type 0 where
   pub outcome : e .outcome ≤ 2
   pub sound : e .outcome ≡ 0 → Sound g (e .state)
@@ -239,13 +239,12 @@ module _ (image : List ℕ) (bytes : Bytes image) (accepted : checkOf image ≡ 
       go x e (sound-over sound step) = let z : _≡_ {A = ℕ} 0 1 = cc in absurd (omega arith)
       go x e (sound-failed sound step same left) = let z : _≡_ {A = ℕ} 0 1 = cc in absurd (omega arith)
 
-  first-sound : Sound (programOf image) first
-  first-sound = fresh-sound (programOf image) (program-accepted image accepted) store output most least
-
   ran-ok : RunOk (programOf image) first (ranOf image input store output steps)
   unfolding ranOf
   ran-ok =
-      run-ok (programOf image) (program-accepted image accepted) (program-bytes image bytes) input steps 0 first first-sound
+      let ok = program-accepted image accepted in
+      run-ok (programOf image) ok (program-bytes image bytes) input steps 0 first
+      (fresh-sound (programOf image) ok store output most least)
 
   pub ran-outcome : ranOf image input store output steps .outcome ≤ 2
   ran-outcome = ran-ok .outcome
@@ -284,8 +283,7 @@ module _ (image : List ℕ) (bytes : Bytes image) (accepted : checkOf image ≡ 
   unfolding ranOf
   ran-bare =
       rw (fresh-erased (programOf image) store output)
-      (run-bare (programOf image) (program-accepted image accepted) (program-bytes image bytes) input steps 0 first
-      first-sound)
+      (run-follows (programOf image) input steps 0 first never-stuck)
 
   -- a run leaves as many cells as it was lent
   pub ran-cells : length (ranOf image input store output steps .state .cells) ≡ length store
