@@ -98,12 +98,16 @@ module _ (image : List ℕ) (input store output : List ℤ) (from : RunResult) (
           few = omega arith;
         }
 
-    -- its outcome is one of the paper's: it is never stuck
+    -- its outcome is one of the paper's
     pub continued-outcome : continuedOf image input store output from steps .outcome ≤ 2
     unfolding continuedOf
     continued-outcome =
         run-ok g (program-accepted image accepted) (program-bytes image bytes) input steps (from .steps)
         (resumed g (from .at) store output) state-sound .outcome
+
+    -- it is never stuck
+    pub continued-unstuck : continuedOf image input store output from steps .outcome ≡ 3 → ⊥
+    continued-unstuck three = absurd (omega (arith, continued-outcome))
 
     -- the code's run, on the numbers alone
     abbrev ran : Ended ℤ
