@@ -8,12 +8,12 @@ use mathlib.Core.List.{List}
 use mathlib.Core.Logic.{⊎-elim}
 use Prim.Native.Nat.{ℕ, _+_, _≤_}
 use native.Mathlib.Omega.{arith}
-use borrow.Author.Tests.{leb-true, le-leb, eqb-true, eq-eqb}
+use borrow.Author.Tests.{leb-true, le-leb, eqb-true, eq-eqb, ne-eqb}
 use lib.Dec.{eqb}
 use lib.IntN.{ℤ}
 use lib.ListN.{length, length-map}
 use Rattle.prelude.specs.Choice.{choose, _also_}
-use Rattle.prelude.proofs.Choice.{choose-yes, choose-cases, also-true, clash}
+use Rattle.prelude.proofs.Choice.{choose-yes, choose-no, choose-cases, also-true, clash}
 use Rattle.image.specs.Rows.{Bytes}
 use Rattle.checker.specs.declared.CheckAnswer.the-variants.{Accepted}
 use Rattle.checker.specs.Check.{checkOf}
@@ -23,7 +23,7 @@ use Rattle.semantics.specs.Memory.{Cell, tagged}
 use Rattle.semantics.specs.Layout.{Program}
 use Rattle.semantics.specs.Stepping.{State}
 use Rattle.semantics.specs.Running.{programOf, firstTop, fresh, Ended, runFrom, refusal, ranOf, numbersOf}
-use Rattle.semantics.specs.Running.{resultOf, storeAfter, outputAfter}
+use Rattle.semantics.specs.Running.{resultBy, storeBy, outputBy, resultOf, storeAfter, outputAfter}
 use Rattle.semantics.specs.Sound.{Sound}
 use Rattle.semantics.specs.After.{after}
 use Rattle.semantics.specs.Demand3.{SoundAfter}
@@ -31,14 +31,14 @@ use Rattle.semantics.proofs.Agreeing.{numbers}
 use Rattle.semantics.proofs.Simulation.{eraseEnded}
 use Rattle.semantics.proofs.Beginning.{fresh-sound, fresh-length}
 use Rattle.semantics.proofs.Demand3.{program-accepted, program-bytes, demand3-from}
-use Rattle.semantics.proofs.Outcomes.{refusal-none, none-refusal, steps-used, run-room, run-kept}
+use Rattle.semantics.proofs.Outcomes.{refusal-none, none-refusal, steps-used, run-ok, run-kept}
 use Rattle.asking.specs.Resuming.{resumed}
 use Rattle.asking.specs.Continuing.{Continuable, unfinished, withinLent, question14, continueRefusal, continuedOf}
 use Rattle.asking.specs.Continuing.{continueResult, continuedStore, continuedOutput, Left, afterRun}
 use Rattle.asking.specs.Continuing.{afterContinue, refusalOn}
 use Rattle.asking.proofs.Built.{number-is, yes-sound}
 use Rattle.asking.proofs.Told.{number-same, sound-told}
-use Rattle.asking.proofs.Resuming.{run-ok, resumed-told, resumed-cells, continue-adds}
+use Rattle.asking.proofs.Resuming.{resumed-told, resumed-cells, continue-adds}
 
 -- ---- question 14
 
@@ -128,6 +128,12 @@ unfolding continueRefusal
 none-continue image input store output r n none passes =
     choose-yes _ _ _ (eq-eqb _ 0 none) ∙ choose-yes _ _ _ passes
 
+-- a refusal of the run's is the continuation's
+pub continue-refused : (image : List ℕ) (input store output : List ℤ) (r : RunResult) (n q : ℕ)
+    → refusal image store ≡ q → (q ≡ 0 → ⊥) → continueRefusal image input store output r n ≡ q
+unfolding continueRefusal
+continue-refused image input store output r n q e some = choose-no _ _ _ (ne-eqb _ 0 (λ z. some (sym e ∙ z))) ∙ e
+
 -- ---- what calls leave
 
 -- by where the run ended, in numbers
@@ -136,13 +142,13 @@ leftBy e = record { result = numbersOf e; store = e .state .cells; output = e .s
 
 run-left : (image : List ℕ) (input store output : List ℤ) (n : ℕ) → refusal image store ≡ 0
     → afterRun image input store output n ≡ leftBy (eraseEnded (ranOf image input store output n))
-unfolding afterRun resultOf storeAfter outputAfter numbersOf choose
+unfolding afterRun resultOf storeAfter outputAfter resultBy storeBy outputBy numbersOf choose
 run-left image input store output n none = rw (eq-eqb _ 0 none)
 
 continue-left : (image : List ℕ) (input : List ℤ) (l : Left) (n : ℕ) → refusalOn image input l n ≡ 0
     → afterContinue image input l n
     ≡ leftBy (eraseEnded (continuedOf image input (l .store) (l .output) (l .result) n))
-unfolding afterContinue continueResult continuedStore continuedOutput numbersOf choose
+unfolding afterContinue continueResult continuedStore continuedOutput resultBy storeBy outputBy numbersOf choose
 continue-left image input l n none = rw (eq-eqb _ 0 none)
 
 -- ---- in two goes
@@ -213,7 +219,7 @@ module _ (image : List ℕ) (bytes : Bytes image) (accepted : checkOf image ≡ 
     left-passes =
         let e = runFrom tagged g input n k s in
         let cells : length (numbers (e .state .cells)) ≡ length (s .cells) =
-        length-map (e .state .cells) (tagged .number) ∙ run-room g ok nodes input n k s (starts .sound) in
+        length-map (e .state .cells) (tagged .number) ∙ run-ok g ok nodes input n k s (starts .sound) .room in
         let most = starts .sound .lent in
         let least = starts .least in
         none-continue image input (left .store) (left .output) (left .result) m
@@ -224,7 +230,8 @@ module _ (image : List ℕ) (bytes : Bytes image) (accepted : checkOf image ≡ 
     left-adds : afterContinue image input left m ≡ leftBy (eraseEnded (runFrom tagged g input (n + m) k s))
     unfolding continuedOf numbersOf
     left-adds =
-        continue-left image input left m left-passes ∙ ap leftBy (continue-adds g ok nodes input n m k s (starts .sound) used)
+        continue-left image input left m left-passes
+        ∙ ap leftBy (continue-adds g ok nodes input n m k s (starts .sound) used)
 
 -- ---- after a run
 

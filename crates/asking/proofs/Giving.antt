@@ -1,14 +1,13 @@
 -- What the code of a continuation has to show: the bare machine's run, or a refusal.
-use mathlib.Core.Path.{_≡_, sym, _∙_, ap}
+use mathlib.Core.Path.{_≡_, _∙_}
 use mathlib.Core.Bool.{true, false}
 use mathlib.Core.List.{List}
 use Prim.Native.Nat.{ℕ, _≤_}
 use native.Mathlib.Omega.{arith}
-use borrow.Author.Tests.{eqb-true, eq-eqb, ne-eqb}
-use lib.Dec.{eqb}
+use borrow.Author.Tests.{eq-eqb}
 use lib.IntN.{ℤ}
 use lib.ListN.{length, length-append}
-use Rattle.prelude.proofs.Choice.{choose-yes, choose-no, choose-has, also-true}
+use Rattle.prelude.proofs.Choice.{choose-yes, choose-no, also-true}
 use Rattle.image.specs.Rows.{Bytes}
 use Rattle.statements.proofs.Bodies.{end-within}
 use Rattle.checker.specs.declared.CheckAnswer.the-variants.{Accepted}
@@ -20,22 +19,16 @@ use Rattle.semantics.specs.Layout.{Program}
 use Rattle.semantics.specs.Running.{programOf, Ended, runFrom, refusal, numbersOf, refusedWith}
 use Rattle.semantics.specs.Sound.{Sound, frameWants, wants}
 use Rattle.semantics.proofs.Simulation.{eraseEnded}
+use Rattle.semantics.proofs.Giving.{GivesBack, result-has, gives-refused, gives-ended}
 use Rattle.semantics.proofs.Demand3.{program-accepted, program-bytes}
-use Rattle.semantics.proofs.Outcomes.{refusal-none, run-outcome}
+use Rattle.semantics.proofs.Outcomes.{refusal-none, run-ok}
 use Rattle.asking.specs.State.{soundOf}
 use Rattle.asking.specs.Resuming.{resumed}
 use Rattle.asking.specs.Continuing.{question14, continueRefusal, continuedOf, continueResult, continuedStore}
 use Rattle.asking.specs.Continuing.{continuedOutput}
 use Rattle.asking.proofs.Built.{yes-sound}
-use Rattle.asking.proofs.Resuming.{run-ok, resumed-cells, resumed-bare}
+use Rattle.asking.proofs.Resuming.{resumed-cells, resumed-bare}
 use Rattle.asking.proofs.Continuing.{continue-none, none-continue}
-
--- a continuation's numbers, every cell of the store and every output place
-pub record Continues (image : List ℕ) (input store output : List ℤ) (from : RunResult) (steps : ℕ) (r : RunResult)
-    (cells places : List ℤ) : Type 0 where
-  pub result : r ≡ continueResult image input store output from steps
-  pub left : cells ≡ continuedStore image input store output from steps
-  pub sent : places ≡ continuedOutput image input store output from steps
 
 -- the numbers that a sound state has room for
 pub record Ranged (s : Registers) (store : List ℤ) : Type 0 where
@@ -45,36 +38,27 @@ pub record Ranged (s : Registers) (store : List ℤ) : Type 0 where
   pub few : length store ≤ 65536
 
 module _ (image : List ℕ) (input store output : List ℤ) (from : RunResult) (steps : ℕ) where
-  -- ---- refusals
+  -- a continuation's numbers, every cell of the store and every output place
+  abbrev pub Continues : RunResult → List ℤ → List ℤ → Type 0
+  Continues =
+      GivesBack (continueRefusal image input store output from steps) (rowOf (checkOf image))
+      (continuedOf image input store output from steps) store output
 
-  -- one with a number
-  refused : (q row : ℕ) → continueRefusal image input store output from steps ≡ q → (q ≡ 0 → ⊥)
-      → rowOf (checkOf image) ≡ row
-      → Continues image input store output from steps (refusedWith q row) store output
+  -- they are those of its contract
+  pub continue-gives : {r : RunResult} {cells places : List ℤ} → Continues r cells places
+      → (r ≡ continueResult image input store output from steps)
+      × ((cells ≡ continuedStore image input store output from steps)
+      × (places ≡ continuedOutput image input store output from steps))
   unfolding continueResult continuedStore continuedOutput
-  refused q row e some r =
-      let refuses : eqb (continueRefusal image input store output from steps) 0 ≡ false =
-      ne-eqb _ 0 (λ z. some (sym e ∙ z)) in
-      record {
-        result = sym (choose-no _ _ _ refuses ∙ rw (e, r));
-        left = sym (choose-no _ _ _ refuses);
-        sent = sym (choose-no _ _ _ refuses);
-      }
+  continue-gives h = (h .result, (h .left, h .sent))
 
-  -- by a question of the run's
-  pub continues-refused : (q row : ℕ) → refusal image store ≡ q → (q ≡ 0 → ⊥) → rowOf (checkOf image) ≡ row
-      → Continues image input store output from steps (refusedWith q row) store output
-  unfolding continueRefusal
-  continues-refused q row e some r =
-      refused q row (choose-no _ _ _ (ne-eqb _ 0 (λ z. some (sym e ∙ z))) ∙ e) some r
-
-  -- by question 14, "row 0"
+  -- a refusal by question 14, "row 0"
   pub continues-14 : refusal image store ≡ 0 → question14 (programOf image) input store output from steps ≡ false
-      → Continues image input store output from steps (refusedWith 14 0) store output
+      → {r : RunResult} → r ≡ refusedWith 14 0 → Continues r store output
   unfolding continueRefusal rowOf
-  continues-14 none fails =
-      refused 14 0 (choose-yes _ _ _ (eq-eqb _ 0 none) ∙ choose-no _ _ _ fails) (λ z. absurd (omega arith))
-      (rw (refusal-none image store none .0))
+  continues-14 none fails result =
+      gives-refused (choose-yes _ _ _ (eq-eqb _ 0 none) ∙ choose-no _ _ _ fails)
+      (rw (refusal-none image store none .0)) (λ z. absurd (omega arith)) result
 
   -- ---- a continuation
 
@@ -114,12 +98,16 @@ module _ (image : List ℕ) (input store output : List ℤ) (from : RunResult) (
           few = omega arith;
         }
 
+    -- its outcome is one of the paper's
+    pub continued-outcome : continuedOf image input store output from steps .outcome ≤ 2
+    unfolding continuedOf
+    continued-outcome =
+        run-ok g (program-accepted image accepted) (program-bytes image bytes) input steps (from .steps)
+        (resumed g (from .at) store output) state-sound .outcome
+
     -- it is never stuck
     pub continued-unstuck : continuedOf image input store output from steps .outcome ≡ 3 → ⊥
-    unfolding continuedOf
-    continued-unstuck =
-        run-ok g (program-accepted image accepted) (program-bytes image bytes) input steps (from .steps)
-        (resumed g (from .at) store output) state-sound .not-stuck
+    continued-unstuck three = absurd (omega (arith, continued-outcome))
 
     -- the code's run, on the numbers alone
     abbrev ran : Ended ℤ
@@ -134,27 +122,15 @@ module _ (image : List ℕ) (input store output : List ℤ) (from : RunResult) (
 
     -- so what it gives is what is asked for
     pub continues-run : {r : RunResult} {cells places : List ℤ} → r ≡ numbersOf ran → ran .state .cells ≡ cells
-        → ran .state .output ≡ places → Continues image input store output from steps r cells places
-    unfolding continueResult continuedStore continuedOutput numbersOf
-    continues-run result left sent =
-        let yes : eqb (continueRefusal image input store output from steps) 0 ≡ true =
-        eq-eqb _ 0 (none-continue image input store output from steps none passes) in
-        record {
-          result = result ∙ ap (λ (x : Ended ℤ). numbersOf x) continued-bare ∙ sym (choose-yes _ _ _ yes);
-          left = sym left ∙ ap (λ (x : Ended ℤ). x .state .cells) continued-bare ∙ sym (choose-yes _ _ _ yes);
-          sent = sym sent ∙ ap (λ (x : Ended ℤ). x .state .output) continued-bare ∙ sym (choose-yes _ _ _ yes);
-        }
+        → ran .state .output ≡ places → Continues r cells places
+    continues-run = gives-ended (none-continue image input store output from steps none passes) continued-bare
 
 -- "outcome (0 steps used up, 1 finished, 2 trapped)": whatever the image, the store and the earlier result
 pub continue-outcome : (image : List ℕ) → Bytes image → (input store output : List ℤ) (from : RunResult) (steps : ℕ)
     → continueResult image input store output from steps .outcome ≤ 2
-unfolding continueResult continuedOf numbersOf refusedWith
+unfolding continueResult numbersOf refusedWith
 continue-outcome image bytes input store output from steps =
-    choose-has (λ (r : RunResult). r .outcome ≤ 2) _ (λ e. go (eqb-true _ _ e)) (λ e. omega arith)
-  where
-    go : continueRefusal image input store output from steps ≡ 0
-        → continuedOf image input store output from steps .outcome ≤ 2
-    go e =
-        let (none, passes) = continue-none image input store output from steps e in
-        run-outcome (programOf image) input steps (from .steps) _
-        (continued-unstuck image input store output from steps bytes none passes)
+    result-has _ _ _ (λ r. r .outcome ≤ 2)
+    (λ e. let (none, passes) = continue-none image input store output from steps e in
+    continued-outcome image input store output from steps bytes none passes)
+    (omega arith)

@@ -16,9 +16,8 @@ use Rattle.semantics.specs.Stepping.{State, Next, Next.goes, Next.finished, Nex
 use Rattle.semantics.specs.Running.{Ended, onward, runFrom}
 use Rattle.semantics.specs.Sound.{Sound}
 use Rattle.semantics.proofs.Agreeing.{numbers}
-use Rattle.semantics.proofs.Simulation.{erase, eraseEnded, run-follows}
-use Rattle.semantics.specs.Demand3.{NextOk, NextOk.ok-goes, NextOk.ok-finished, NextOk.ok-trapped}
-use Rattle.semantics.proofs.AnyStep.{step-ok}
+use Rattle.semantics.proofs.Simulation.{erase, eraseEnded}
+use Rattle.semantics.proofs.Outcomes.{run-ok, run-bare}
 use Rattle.asking.specs.State.{zipped, dressed, kindsBelow, framesOf, soundOf}
 use Rattle.asking.specs.Resuming.{resumed}
 use Rattle.asking.proofs.Built.{yes-sound}
@@ -93,33 +92,13 @@ module _ (g : Program) (s : Registers) (store output : List ℤ) where
 module _ (g : Program)
     (ok : AcceptedTables (g .types) (g .fields) (g .variables) (g .procedures) (g .nodes) (g .statements))
     (bytes : Bytes (g .nodes)) (input : List ℤ) where
-  -- ---- from any sound state
-
-  -- a run is never stuck, and one whose steps are used up leaves a sound state
-  pub record RunOk (e : Ended Cell) : Type 0 where
-    pub not-stuck : e .outcome ≡ 3 → ⊥
-    pub sound : e .outcome ≡ 0 → Sound g (e .state)
-
-  pub run-ok : (n k : ℕ) (s : State Cell) → Sound g s → RunOk (runFrom tagged g input n k s)
-  unfolding runFrom onward
-  run-ok zero k s sound = record { not-stuck = λ e. absurd (omega arith); sound = λ e. sound }
-  run-ok (suc n) k s sound =
-      go (stepOf tagged g input s) (step-ok g ok bytes s sound input) (λ u h. run-ok n (k + 1) u h)
-    where
-      go : (x : Next Cell) → NextOk g s x → ((u : State Cell) → Sound g u → RunOk (runFrom tagged g input n (k + 1) u))
-          → RunOk (onward x s (k + 1) (λ u. runFrom tagged g input n (k + 1) u))
-      go x (ok-goes {s′ = u} next cells output) ih = ih u next
-      go x ok-finished ih = record { not-stuck = λ e. absurd (omega arith); sound = λ e. absurd (omega arith) }
-      go x (ok-trapped same) ih = record { not-stuck = λ e. absurd (omega arith); sound = λ e. absurd (omega arith) }
-
   -- a run that goes on from numbers does on the bare machine what it does on the tagged one
   pub resumed-bare : (s : Registers) (store output : List ℤ) → soundOf g s store ≡ true → (n k : ℕ)
       → runFrom bare g input n k (record { at = s; cells = store; output = output })
       ≡ eraseEnded (runFrom tagged g input n k (resumed g s store output))
   resumed-bare s store output e n k =
       ap (λ (u : State ℤ). runFrom bare g input n k u) (sym (resumed-erased g s store output))
-      ∙ run-follows g input n k (resumed g s store output)
-      (run-ok n k (resumed g s store output) (yes-sound g ok s store output e) .not-stuck)
+      ∙ run-bare g ok bytes input n k (resumed g s store output) (yes-sound g ok s store output e)
 
   -- "Where a run of n steps ends with outcome 0, continuing for m gives what one run of n + m gives": in numbers, since
   -- above top the two runs' cells may have other kinds
@@ -130,12 +109,10 @@ module _ (g : Program)
       ≡ eraseEnded (runFrom tagged g input (n + m) k s)
   continue-adds n m k s sound used =
       let e = runFrom tagged g input n k s in
-      let first = run-ok n k s sound in
-      let told = sound-told g ok (e .state) (first .sound used) in
-      let bare-first = run-follows g input n k s (first .not-stuck) in
-      let both = run-follows g input (n + m) k s (run-ok (n + m) k s sound .not-stuck) in
+      let told = sound-told g ok (e .state) (run-ok g ok bytes input n k s sound .sound used) in
+      let bare-first = run-bare g ok bytes input n k s sound in
       let used-too : runFrom bare g input n k (erase s) .outcome ≡ 0 =
       ap (λ (x : Ended ℤ). x .outcome) bare-first ∙ used in
       sym (resumed-bare (e .state .at) (numbers (e .state .cells)) (e .state .output) told m (e .steps))
       ∙ ap (λ (x : Ended ℤ). runFrom bare g input m (x .steps) (x .state)) (sym bare-first)
-      ∙ sym (run-split bare g input n m k (erase s) used-too) ∙ both
+      ∙ sym (run-split bare g input n m k (erase s) used-too) ∙ run-bare g ok bytes input (n + m) k s sound

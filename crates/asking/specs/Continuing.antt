@@ -2,7 +2,7 @@
 use Prim.Native.Nat.{ℕ, _+_, _≤_}
 use mathlib.Core.Path.{_≡_}
 use mathlib.Core.Bool.{Bool}
-use mathlib.Core.List.{List, map}
+use mathlib.Core.List.{List}
 use lib.Dec.{leb, eqb}
 use lib.IntN.{ℤ, pos}
 use lib.ListN.{length}
@@ -12,7 +12,7 @@ use Rattle.semantics.specs.declared.RunResult.{RunResult}
 use Rattle.semantics.specs.Memory.{Cell, tagged}
 use Rattle.semantics.specs.Layout.{Program}
 use Rattle.semantics.specs.Sound.{Sound}
-use Rattle.semantics.specs.Running.{programOf, Ended, runFrom, refusal, numbersOf, refusedWith}
+use Rattle.semantics.specs.Running.{programOf, Ended, runFrom, refusal, resultBy, storeBy, outputBy}
 use Rattle.semantics.specs.Running.{resultOf, storeAfter, outputAfter}
 use Rattle.asking.specs.State.{isNumber, soundOf}
 use Rattle.asking.specs.Resuming.{resumed}
@@ -67,19 +67,16 @@ continuedOf image input store output r n =
 -- a refusal by 12 to 14 has row 0, as the check refuses none
 unfoldable pub continueResult : List ℕ → List ℤ → List ℤ → List ℤ → RunResult → ℕ → RunResult
 continueResult image input store output r n =
-    choose (eqb (continueRefusal image input store output r n) 0)
-    (numbersOf (continuedOf image input store output r n))
-    (refusedWith (continueRefusal image input store output r n) (rowOf (checkOf image)))
+    resultBy (continueRefusal image input store output r n) (rowOf (checkOf image))
+    (continuedOf image input store output r n)
 
 unfoldable pub continuedStore : List ℕ → List ℤ → List ℤ → List ℤ → RunResult → ℕ → List ℤ
 continuedStore image input store output r n =
-    choose (eqb (continueRefusal image input store output r n) 0)
-    (map (tagged .number) (continuedOf image input store output r n .state .cells)) store
+    storeBy (continueRefusal image input store output r n) (continuedOf image input store output r n) store
 
 unfoldable pub continuedOutput : List ℕ → List ℤ → List ℤ → List ℤ → RunResult → ℕ → List ℤ
 continuedOutput image input store output r n =
-    choose (eqb (continueRefusal image input store output r n) 0)
-    (continuedOf image input store output r n .state .output) output
+    outputBy (continueRefusal image input store output r n) (continuedOf image input store output r n) output
 
 -- ---- a run and a continuation as they are called
 

@@ -1,13 +1,12 @@
--- The fresh state in the lent store, and the three results of a run and of a refusal.
-use mathlib.Core.Path.{_≡_, refl, sym, _∙_, ap}
+-- The fresh state in the lent store, and what the code of a run and of a continuation gives back.
+use mathlib.Core.Path.{_≡_, sym, _∙_, ap}
 use mathlib.Core.Bool.{Bool, true, false}
-use mathlib.Core.List.{List, [], _∷_, _++_, map, map-id, append-assoc}
-use Prim.Native.Nat.{ℕ, zero, suc, _+_, _≤_, _<_}
+use mathlib.Core.List.{List, _∷_, _++_, map-id}
+use Prim.Native.Nat.{ℕ, zero, suc, _+_, _≤_}
 use native.Mathlib.Omega.{arith}
-use borrow.Author.Tests.{eq-eqb, ne-eqb, le-leb, lt-leb}
-use lib.Dec.{eqb}
+use borrow.Author.Tests.{eq-eqb, ne-eqb}
 use lib.IntN.{ℤ, pos}
-use lib.ListN.{length, getD, drop, replicate, length-replicate}
+use lib.ListN.{length, drop, replicate, length-replicate}
 use Rattle.prelude.specs.Choice.{choose}
 use Rattle.prelude.proofs.Choice.{choose-yes, choose-no}
 use Rattle.checker.specs.declared.CheckAnswer.{CheckAnswer}
@@ -19,20 +18,18 @@ use Rattle.frames.specs.Variables.{globalsOf}
 use Rattle.frames.specs.Procedures.{firstVariable, claimedBy}
 use Rattle.places.specs.Places.{roomFrom, globalCells, frameSize}
 use Rattle.semantics.specs.declared.RunResult.{RunResult}
-use Rattle.semantics.specs.Memory.{Cell, bare, tagged, overwrite}
+use Rattle.semantics.specs.Memory.{Cell, bare, overwrite}
 use Rattle.semantics.specs.Layout.{Program, kindsFrom}
-use Rattle.semantics.specs.Stepping.{State}
 use Rattle.semantics.specs.Running.{programOf, globalRoom, firstTop, freshCells, fresh, Ended, runFrom, refusal, ranOf}
-use Rattle.semantics.specs.Running.{numbersOf, refusedWith, resultOf, storeAfter, outputAfter}
-use Rattle.semantics.proofs.Simulation.{eraseEnded}
+use Rattle.semantics.specs.Running.{numbersOf, refusedWith}
 use Rattle.semantics.proofs.Agreeing.{blank-zeros}
 use Rattle.semantics.proofs.Objects.{kinds-room}
+use Rattle.semantics.proofs.Giving.{GivesBack, gives-refused, gives-ended}
 use Rattle.semantics.proofs.Outcomes.{refusal-none, ran-bare}
 use Rattle.calling.specs.Showing.{stateOf, Stands}
-use Rattle.semantics.specs.declared.Registers.{Registers}
 use Rattle.asking.specs.Continuing.{question14}
 use Rattle.asking.proofs.Continuing.{question14-exact}
-use Rattle.asking.proofs.Giving.{Continues, Ranged, continues-refused, continues-14, continues-run}
+use Rattle.asking.proofs.Giving.{Continues, continues-14, continues-run}
 use Rattle.machine.specs.Stopping.{Stops, storeQuestion}
 
 -- ---- the fresh state
@@ -85,15 +82,6 @@ fresh-stands g store cells base top room few same = record {
   few = omega arith;
 }
 
--- ---- the three results
-
--- the numbers, every cell of the store and every output place
-pub record Gives (image : List ℕ) (input store output : List ℤ) (steps : ℕ) (r : RunResult) (cells places : List ℤ)
-    : Type 0 where
-  pub result : r ≡ resultOf image input store output steps
-  pub left : cells ≡ storeAfter image input store output steps
-  pub sent : places ≡ outputAfter image input store output steps
-
 -- ---- what is asked first
 
 -- a refusal's question has a number
@@ -102,7 +90,7 @@ unfolding checkOf
 question-some image q row e = refused-first (questionOf image) 11 1 q row e .least
 
 -- a refusal of the check is the run's
-pub check-refuses : (image : List ℕ) (store : List ℤ) (q row : ℕ) → checkOf image ≡ Refused q row
+check-refuses : (image : List ℕ) (store : List ℤ) (q row : ℕ) → checkOf image ≡ Refused q row
     → (refusal image store ≡ q) × (q ≡ 0 → ⊥) × (rowOf (checkOf image) ≡ row)
 unfolding refusal refusalOf rowOf
 check-refuses image store q row this =
@@ -118,79 +106,44 @@ store-refuses image store accepted =
     let none : refusalOf (checkOf image) ≡ 0 = rw accepted in
     choose-yes _ _ _ (eq-eqb _ 0 none)
 
-module _ (image : List ℕ) (input store output : List ℤ) (steps : ℕ) where
-  -- a refusal
-  gives-no : (q row : ℕ) → refusal image store ≡ q → (q ≡ 0 → ⊥) → rowOf (checkOf image) ≡ row
-      → Gives image input store output steps (refusedWith q row) store output
-  unfolding resultOf storeAfter outputAfter
-  gives-no q row e some r =
-      let refuses : eqb (refusal image store) 0 ≡ false = ne-eqb _ 0 (λ z. some (sym e ∙ z)) in
-      record {
-        result = sym (choose-no _ _ _ refuses ∙ rw (e, r));
-        left = sym (choose-no _ _ _ refuses);
-        sent = sym (choose-no _ _ _ refuses);
-      }
-
-  -- by the check
-  pub gives-refused : (x : CheckAnswer) (q row : ℕ) → x ≡ Refused q row → x ≡ checkOf image
-      → Gives image input store output steps (refusedWith (refusalOf x) (rowOf x)) store output
+-- a call whose refusal q is the run's, where the run has one
+module _ (image : List ℕ) (store : List ℤ) {q : ℕ}
+    (first : (asked : ℕ) → refusal image store ≡ asked → (asked ≡ 0 → ⊥) → q ≡ asked) {e : Ended Cell}
+    {output : List ℤ} {r : RunResult} where
+  -- refused by the check
+  pub gives-check : (x : CheckAnswer) (asked row : ℕ) → x ≡ Refused asked row → x ≡ checkOf image
+      → r ≡ refusedWith (refusalOf x) (rowOf x)
+      → GivesBack q (rowOf (checkOf image)) e store output r store output
   unfolding refusalOf rowOf
-  gives-refused x q row is e =
-      let (number, some, at) = check-refuses image store q row (sym e ∙ is) in
-      rw is (gives-no q row number some at)
+  gives-check x asked row is same result =
+      let (number, some, at) = check-refuses image store asked row (sym same ∙ is) in
+      gives-refused (first asked number some) at some (rw is at result)
 
-  module _ (accepted : checkOf image ≡ Accepted) where
-    -- by question 12 or 13
-    pub gives-store : (q : ℕ) → q ≡ storeQuestion (programOf image) (length store) → (q ≡ 0 → ⊥)
-        → Gives image input store output steps (refusedWith q 0) store output
-    unfolding rowOf
-    gives-store q is some = gives-no q 0 (store-refuses image store accepted ∙ sym is) some (rw accepted)
+  -- by question 12 or 13
+  pub gives-store : checkOf image ≡ Accepted → (asked : ℕ)
+      → asked ≡ storeQuestion (programOf image) (length store) → (asked ≡ 0 → ⊥) → r ≡ refusedWith asked 0
+      → GivesBack q (rowOf (checkOf image)) e store output r store output
+  unfolding rowOf
+  gives-store accepted asked is some result =
+      gives-refused (first asked (store-refuses image store accepted ∙ sym is) some) (rw accepted) some result
 
-    -- a run: the tagged machine's, since the code's is the bare one's
-    pub gives-run : Bytes image → storeQuestion (programOf image) (length store) ≡ 0 → {base top : ℕ} {zeroed : List ℤ}
-        → base ≡ globalRoom (programOf image) → top ≡ firstTop (programOf image)
-        → zeroed ≡ overwrite store 0 (replicate top (pos 0)) → {result : RunResult} {cells places : List ℤ}
-        → Stops (runFrom bare (programOf image) input steps 0
-        (stateOf (record { row = 0; base = base; top = top; read = 0; written = 0 }) zeroed output)) result cells places
-        → Gives image input store output steps result cells places
-    unfolding resultOf storeAfter outputAfter numbersOf
-    gives-run bytes passes base-is top-is zeroed-is stops =
-        let none = store-refuses image store accepted ∙ passes in
-        let (here, few, room) = refusal-none image store none in
-        let yes : eqb (refusal image store) 0 ≡ true = eq-eqb _ 0 none in
-        let ran = rw (
-          fresh-is (programOf image) store output base-is top-is zeroed-is,
-          ran-bare image bytes accepted input store output few room steps,
-        ) at stops in
-        record {
-          result = ran .answer ∙ sym (choose-yes _ _ _ yes);
-          left = sym (ran .cells-left) ∙ sym (choose-yes _ _ _ yes);
-          sent = sym (ran .output-left) ∙ sym (choose-yes _ _ _ yes);
-        }
+-- ---- a run
 
--- ---- a continuation
-
--- a sound state stands where steps can be taken
-pub ranged-stands : {s : Registers} {store : List ℤ} → Ranged s store → Stands s store
-ranged-stands h = record { row = h .row; base = h .base; top = h .top; few = h .few }
-
-module _ (image : List ℕ) (input store output : List ℤ) (from : RunResult) (steps : ℕ) where
-  -- a refusal by the check
-  pub continues-check : (x : CheckAnswer) (q row : ℕ) → x ≡ Refused q row → x ≡ checkOf image
-      → Continues image input store output from steps (refusedWith (refusalOf x) (rowOf x)) store output
-  unfolding refusalOf rowOf
-  continues-check x q row is e =
-      let (number, some, at) = check-refuses image store q row (sym e ∙ is) in
-      rw is (continues-refused image input store output from steps q row number some at)
-
-  module _ (accepted : checkOf image ≡ Accepted) where
-    -- by question 12 or 13
-    pub continues-store : (q : ℕ) → q ≡ storeQuestion (programOf image) (length store) → (q ≡ 0 → ⊥)
-        → Continues image input store output from steps (refusedWith q 0) store output
-    unfolding rowOf
-    continues-store q is some =
-        continues-refused image input store output from steps q 0 (store-refuses image store accepted ∙ sym is) some
-        (rw accepted)
+-- the tagged machine's, since the code's is the bare one's
+pub gives-run : (image : List ℕ) (input store output : List ℤ) (steps : ℕ) → checkOf image ≡ Accepted → Bytes image
+    → storeQuestion (programOf image) (length store) ≡ 0 → {base top : ℕ} {zeroed : List ℤ}
+    → base ≡ globalRoom (programOf image) → top ≡ firstTop (programOf image)
+    → zeroed ≡ overwrite store 0 (replicate top (pos 0)) → {r : RunResult} {cells places : List ℤ}
+    → Stops (runFrom bare (programOf image) input steps 0
+    (stateOf (record { row = 0; base = base; top = top; read = 0; written = 0 }) zeroed output)) r cells places
+    → GivesBack (refusal image store) (rowOf (checkOf image)) (ranOf image input store output steps) store output r
+    cells places
+gives-run image input store output steps accepted bytes passes base top zeroed stops =
+    let none = store-refuses image store accepted ∙ passes in
+    let (here, few, room) = refusal-none image store none in
+    let ran = rw (fresh-is (programOf image) store output base top zeroed) at stops in
+    gives-ended none (ran-bare image bytes accepted input store output few room steps) (ran .answer) (ran .cells-left)
+    (ran .output-left)
 
 -- ---- a continuation of no steps
 
@@ -207,11 +160,12 @@ module _ (image : List ℕ) (input store output : List ℤ) (from : RunResult) (
 
   -- the earlier result as it was, or a refusal
   pub continues-kept : (passes : Bool) → passes ≡ question14 (programOf image) input store output from 0
-      → Continues image input store output from steps (choose passes from (refusedWith 14 0)) store output
+      → {r : RunResult} → r ≡ choose passes from (refusedWith 14 0)
+      → Continues image input store output from steps r store output
   unfolding choose runFrom
-  continues-kept true is =
+  continues-kept true is result =
       let asked : question14 (programOf image) input store output from steps ≡ true = rw idle (sym is) in
-      continues-run image input store output from steps bytes none asked (still (sym is)) (rw idle) (rw idle)
-  continues-kept false is =
+      continues-run image input store output from steps bytes none asked (result ∙ still (sym is)) (rw idle) (rw idle)
+  continues-kept false is result =
       let asked : question14 (programOf image) input store output from steps ≡ false = rw idle (sym is) in
-      continues-14 image input store output from steps none asked
+      continues-14 image input store output from steps none asked result

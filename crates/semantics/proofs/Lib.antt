@@ -12,6 +12,7 @@ pub mod AnyStep
 pub mod Beginning
 pub mod Demand3
 pub mod Reporting
+pub mod Giving
 pub mod Outcomes
 pub mod Opened
 pub mod Images

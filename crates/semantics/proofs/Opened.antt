@@ -50,7 +50,8 @@ use Rattle.semantics.specs.Stepping.{written, onPart, otherRecord, copie
 use Rattle.semantics.specs.Stepping.{entered, called, jumped, returned, inputAt, afterRead, received, sent}
 use Rattle.semantics.specs.Stepping.{halted, perform, stepOf}
 use Rattle.semantics.specs.Running.{programOf, globalRoom, firstTop, freshCells, fresh, onward, runFrom}
-use Rattle.semantics.specs.Running.{refusal, ranOf, numbersOf, refusedWith, resultOf, storeAfter, outputAfter}
+use Rattle.semantics.specs.Running.{refusal, ranOf, numbersOf, refusedWith, resultBy, storeBy, outputBy}
+use Rattle.semantics.specs.Running.{resultOf, storeAfter, outputAfter}
 
 -- rows and rules
 unfoldable pub rows : Unit {0}
@@ -139,5 +140,5 @@ stepping = tt
 -- the whole run, the check before it
 unfoldable pub run : Unit {0}
 unfolding check integers operators values memory finding stepping programOf globalRoom firstTop freshCells fresh
-    onward runFrom refusal ranOf numbersOf refusedWith resultOf storeAfter outputAfter
+    onward runFrom refusal ranOf numbersOf refusedWith resultBy storeBy outputBy resultOf storeAfter outputAfter
 run = tt

@@ -21,15 +21,15 @@ use Rattle.checker.specs.declared.CheckAnswer.the-variants.{Accepted, Refused}
 use Rattle.checker.specs.Check.{questionOf, checkOf, refusalOf, rowOf}
 use Rattle.checker.proofs.Chain.{refused-first}
 use Rattle.checker.proofs.Accepted.{AcceptedTables}
-use Rattle.semantics.specs.declared.RunResult.{RunResult}
 use Rattle.semantics.specs.Memory.{Memory, Cell, tagged, bare}
 use Rattle.semantics.specs.Layout.{Program}
 use Rattle.semantics.specs.Stepping.{State, Next, Next.goes, Next.finished, Next.trapped, Next.stuck, stepOf}
 use Rattle.semantics.specs.Running.{programOf, firstTop, fresh, Ended, onward, runFrom, refusal, ranOf}
-use Rattle.semantics.specs.Running.{numbersOf, refusedWith, resultOf, outputAfter}
+use Rattle.semantics.specs.Running.{numbersOf, refusedWith, resultBy, outputBy, resultOf, outputAfter}
 use Rattle.semantics.specs.Sound.{Sound}
 use Rattle.semantics.specs.After.{Machine, Machine.running, Machine.over, Machine.failed, moved, after}
-use Rattle.semantics.proofs.Simulation.{eraseEnded, run-follows, fresh-erased}
+use Rattle.semantics.proofs.Simulation.{erase, eraseEnded, run-follows, fresh-erased}
+use Rattle.semantics.proofs.Giving.{result-has}
 use Rattle.semantics.specs.Demand3.{Unchanged, NextOk, NextOk.ok-goes, NextOk.ok-finished, NextOk.ok-trapped}
 use Rattle.semantics.proofs.Beginning.{fresh-sound, fresh-length}
 use Rattle.semantics.proofs.AnyStep.{step-ok}
@@ -134,17 +134,6 @@ steps-used g input n k s = go (reported g input n k s)
     go (traps d low c r x) used = absurd (omega arith)
     go (sticks d low c r x) used = absurd (omega arith)
 
--- a run that is not stuck has an outcome of the paper's
-pub run-outcome : (g : Program) (input : List ℤ) (n k : ℕ) (s : State Cell)
-    → (runFrom tagged g input n k s .outcome ≡ 3 → ⊥) → runFrom tagged g input n k s .outcome ≤ 2
-run-outcome g input n k s = go (reported g input n k s)
-  where
-    go : {e : Ended Cell} → Reported g input n k s e → (e .outcome ≡ 3 → ⊥) → e .outcome ≤ 2
-    go (used-up c r) free = omega arith
-    go (finishes d low c r x) free = omega arith
-    go (traps d low c r x) free = omega arith
-    go (sticks d low c r x) free = absurd (free refl)
-
 -- a run takes no more steps than it is lent
 pub steps-lent : (image : List ℕ) (input store output : List ℤ) (steps : ℕ)
     → ranOf image input store output steps .steps ≤ steps
@@ -194,24 +183,39 @@ none-refusal image store accepted most least =
 
 -- ---- what follows from demand 3
 
+-- a run from s: its outcome is one of the paper's, so it is never stuck; a state with its steps used up is sound; and
+-- there are as many cells as before
+pub record RunOk (g : Program) (s : State Cell) (e : Ended Cell) : Type 0 where
+  pub outcome : e .outcome ≤ 2
+  pub sound : e .outcome ≡ 0 → Sound g (e .state)
+  pub room : length (e .state .cells) ≡ length (s .cells)
+
 module _ (g : Program)
     (ok : AcceptedTables (g .types) (g .fields) (g .variables) (g .procedures) (g .nodes) (g .statements))
     (bytes : Bytes (g .nodes)) (input : List ℤ) where
-  -- a run leaves as many cells as there were
-  pub run-room : (n k : ℕ) (s : State Cell) → Sound g s
-      → length (runFrom tagged g input n k s .state .cells) ≡ length (s .cells)
+  -- from every sound state
+  pub run-ok : (n k : ℕ) (s : State Cell) → Sound g s → RunOk g s (runFrom tagged g input n k s)
   unfolding runFrom onward
-  run-room zero k s sound = refl
-  run-room (suc n) k s sound =
-      go (stepOf tagged g input s) (step-ok g ok bytes s sound input) (λ u h. run-room n (k + 1) u h)
+  run-ok zero k s sound = record { outcome = omega arith; sound = λ used. sound; room = refl }
+  run-ok (suc n) k s sound =
+      go (stepOf tagged g input s) (step-ok g ok bytes s sound input) (λ u h. run-ok n (k + 1) u h)
     where
       go : (x : Next Cell) → NextOk g s x
-          → ((u : State Cell) → Sound g u
-          → length (runFrom tagged g input n (k + 1) u .state .cells) ≡ length (u .cells))
-          → length (onward x s (k + 1) (λ u. runFrom tagged g input n (k + 1) u) .state .cells) ≡ length (s .cells)
-      go x (ok-goes {s′ = u} next cells output) later = later u next ∙ cells
-      go x ok-finished later = refl
-      go x (ok-trapped same) later = same .cells
+          → ((u : State Cell) → Sound g u → RunOk g u (runFrom tagged g input n (k + 1) u))
+          → RunOk g s (onward x s (k + 1) (λ u. runFrom tagged g input n (k + 1) u))
+      go x (ok-goes {s′ = u} next cells output) later =
+          let rest = later u next in
+          record { outcome = rest .outcome; sound = rest .sound; room = rest .room ∙ cells }
+      go x ok-finished later = record { outcome = omega arith; sound = λ used. absurd (omega arith); room = refl }
+      go x (ok-trapped same) later =
+          record { outcome = omega arith; sound = λ used. absurd (omega arith); room = same .cells }
+
+  -- the bare machine, on the numbers alone, does the same
+  pub run-bare : (n k : ℕ) (s : State Cell) → Sound g s
+      → runFrom bare g input n k (erase s) ≡ eraseEnded (runFrom tagged g input n k s)
+  run-bare n k s sound =
+      let few = run-ok n k s sound .outcome in
+      run-follows g input n k s (λ three. absurd (omega arith))
 
 module _ (image : List ℕ) (bytes : Bytes image) (accepted : checkOf image ≡ Accepted) (input store output : List ℤ)
     (most : length store ≤ 65536) (least : firstTop (programOf image) ≤ length store) (steps : ℕ) where
@@ -235,18 +239,19 @@ module _ (image : List ℕ) (bytes : Bytes image) (accepted : checkOf image ≡ 
       go x e (sound-over sound step) = let z : _≡_ {A = ℕ} 0 1 = cc in absurd (omega arith)
       go x e (sound-failed sound step same left) = let z : _≡_ {A = ℕ} 0 1 = cc in absurd (omega arith)
 
+  ran-ok : RunOk (programOf image) first (ranOf image input store output steps)
+  unfolding ranOf
+  ran-ok =
+      let ok = program-accepted image accepted in
+      run-ok (programOf image) ok (program-bytes image bytes) input steps 0 first
+      (fresh-sound (programOf image) ok store output most least)
+
+  pub ran-outcome : ranOf image input store output steps .outcome ≤ 2
+  ran-outcome = ran-ok .outcome
+
   -- a run is never stuck
   pub never-stuck : ranOf image input store output steps .outcome ≡ 3 → ⊥
-  never-stuck = go ran
-    where
-      go : {e : Ended Cell} → Reported (programOf image) input steps 0 first e → e .outcome ≡ 3 → ⊥
-      go (used-up c r) three = absurd (omega arith)
-      go (finishes d low c r x) three = absurd (omega arith)
-      go (traps d low c r x) three = absurd (omega arith)
-      go (sticks {u = u} {v} d low c r x) three = stuck-not (rw x at (running-sound d u r .1))
-        where
-          stuck-not : NextOk (programOf image) u (stuck v) → ⊥
-          stuck-not h = elim h [ ]
+  never-stuck three = absurd (omega (arith, ran-outcome))
 
   -- "After any trap nothing below top, no output and no count but steps has changed, and row, base and top stay."
   pub trap-unchanged : ranOf image input store output steps .outcome ≡ 2
@@ -282,30 +287,18 @@ module _ (image : List ℕ) (bytes : Bytes image) (accepted : checkOf image ≡ 
 
   -- a run leaves as many cells as it was lent
   pub ran-cells : length (ranOf image input store output steps .state .cells) ≡ length store
-  unfolding ranOf fresh
-  ran-cells =
-      let ok = program-accepted image accepted in
-      run-room (programOf image) ok (program-bytes image bytes) input steps 0 first
-      (fresh-sound (programOf image) ok store output most least)
-      ∙ fresh-length (programOf image) ok store least
-
-  pub ran-outcome : ranOf image input store output steps .outcome ≤ 2
-  unfolding ranOf
-  ran-outcome = run-outcome (programOf image) input steps 0 first never-stuck
+  unfolding fresh
+  ran-cells = ran-ok .room ∙ fresh-length (programOf image) (program-accepted image accepted) store least
 
 -- "outcome (0 steps used up, 1 finished, 2 trapped)": whatever the image and the store
 pub result-outcome : (image : List ℕ) → Bytes image → (input store output : List ℤ) (steps : ℕ)
     → resultOf image input store output steps .outcome ≤ 2
-unfolding resultOf numbersOf refusedWith choose
-result-outcome image bytes input store output steps = go (eqb (refusal image store) 0) refl
-  where
-    go : (b : Bool) → eqb (refusal image store) 0 ≡ b
-        → choose b (numbersOf (ranOf image input store output steps))
-        (refusedWith (refusal image store) (rowOf (checkOf image))) .outcome ≤ 2
-    go true e =
-        let (accepted, most, least) = refusal-none image store (eqb-true _ _ e) in
-        ran-outcome image bytes accepted input store output most least steps
-    go false e = omega arith
+unfolding resultOf numbersOf refusedWith
+result-outcome image bytes input store output steps =
+    result-has _ _ _ (λ r. r .outcome ≤ 2)
+    (λ none. let (accepted, most, least) = refusal-none image store none in
+    ran-outcome image bytes accepted input store output most least steps)
+    (omega arith)
 
 -- ---- what every run keeps
 
@@ -362,36 +355,32 @@ module _ (image : List ℕ) (input store output : List ℤ) (steps : ℕ) where
   unfolding ranOf
   ran-kept = run-kept tagged (programOf image) input steps 0 (fresh tagged (programOf image) store output)
 
-  -- what holds of the numbers of every run and of every refusal holds of the result
-  result-has : (P : RunResult → Type 0) → P (numbersOf (ranOf image input store output steps))
-      → ((q row : ℕ) → P (refusedWith q row)) → P (resultOf image input store output steps)
-  unfolding resultOf
-  result-has P ran refused = choose-has P _ (λ e. ran) (λ e. refused _ _)
-
   -- "trap is 0 unless trapped"
   pub result-no-trap : (resultOf image input store output steps .outcome ≡ 2 → ⊥)
       → resultOf image input store output steps .trap ≡ 0
-  unfolding numbersOf refusedWith
-  result-no-trap = result-has (λ r. (r .outcome ≡ 2 → ⊥) → r .trap ≡ 0) (ran-kept .no-trap) (λ q row h. refl)
+  unfolding resultOf numbersOf refusedWith
+  result-no-trap =
+      result-has _ _ _ (λ r. (r .outcome ≡ 2 → ⊥) → r .trap ≡ 0) (λ none. ran-kept .no-trap) (λ h. refl)
 
   -- and one of the ten where it trapped
   pub result-named-trap : resultOf image input store output steps .outcome ≡ 2
       → (1 ≤ resultOf image input store output steps .trap) × (resultOf image input store output steps .trap ≤ 10)
-  unfolding numbersOf refusedWith
+  unfolding resultOf numbersOf refusedWith
   result-named-trap =
-      result-has (λ r. r .outcome ≡ 2 → (1 ≤ r .trap) × (r .trap ≤ 10)) (ran-kept .named-trap)
-      (λ q row h. absurd (omega arith))
+      result-has _ _ _ (λ r. r .outcome ≡ 2 → (1 ≤ r .trap) × (r .trap ≤ 10)) (λ none. ran-kept .named-trap)
+      (λ h. absurd (omega arith))
 
   -- "HALT number 0 unless trap 10"
   pub result-halt : (resultOf image input store output steps .trap ≡ 10 → ⊥)
       → resultOf image input store output steps .halt ≡ pos 0
-  unfolding numbersOf refusedWith
-  result-halt = result-has (λ r. (r .trap ≡ 10 → ⊥) → r .halt ≡ pos 0) (ran-kept .halt) (λ q row h. refl)
+  unfolding resultOf numbersOf refusedWith
+  result-halt =
+      result-has _ _ _ (λ r. (r .trap ≡ 10 → ⊥) → r .halt ≡ pos 0) (λ none. ran-kept .halt) (λ h. refl)
 
   -- "output places from written on keep their numbers"; there are as many as were lent
   pub output-kept : (i : ℕ) → resultOf image input store output steps .at .written ≤ i
       → getD (outputAfter image input store output steps) i (pos 0) ≡ getD output i (pos 0)
-  unfolding resultOf outputAfter numbersOf fresh choose
+  unfolding resultOf outputAfter resultBy outputBy numbersOf fresh choose
   output-kept i = go (eqb (refusal image store) 0)
     where
       go : (b : Bool) → choose b (numbersOf (ranOf image input store output steps))
@@ -402,6 +391,6 @@ module _ (image : List ℕ) (input store output : List ℤ) (steps : ℕ) where
       go false h = refl
 
   pub output-places : length (outputAfter image input store output steps) ≡ length output
-  unfolding outputAfter fresh
+  unfolding outputAfter outputBy fresh
   output-places =
       choose-has (λ (l : List ℤ). length l ≡ length output) _ (λ e. ran-kept .output .places) (λ e. refl)

@@ -1,8 +1,7 @@
 -- The run of an image and its results.
-use Prim.Native.Nat.{ℕ, zero, suc, _+_, _*_}
-use mathlib.Core.Bool.{Bool, true, false}
-use mathlib.Core.List.{List, [], _∷_, _++_, map}
-use lib.Dec.{ltb, leb, eqb}
+use Prim.Native.Nat.{ℕ, zero, suc, _+_}
+use mathlib.Core.List.{List, _++_, map}
+use lib.Dec.{leb, eqb}
 use lib.IntN.{ℤ, pos}
 use lib.ListN.{length, drop, replicate}
 use Rattle.prelude.specs.Choice.{choose}
@@ -13,7 +12,6 @@ use Rattle.places.specs.Places.{globalCells, frameSize}
 use Rattle.values.specs.Values.{trapNumber}
 use Rattle.checker.specs.Check.{typesIn, fieldsIn, variablesIn, proceduresIn, nodesIn, statementsIn}
 use Rattle.checker.specs.Check.{checkOf, refusalOf, rowOf}
-use Rattle.values.specs.declared.Trap.{Trap}
 use Rattle.semantics.specs.declared.RunResult.{RunResult}
 use Rattle.semantics.specs.Memory.{LINK, Cell, Memory, tagged}
 use Rattle.semantics.specs.Layout.{Program, kindsFrom}
@@ -88,11 +86,7 @@ refusal image store =
     (choose (leb (length store) 65536) (choose (leb (firstTop (programOf image)) (length store)) 0 13) 12)
     (refusalOf (checkOf image))
 
--- ---- the results
-
-unfoldable pub ranOf : List ℕ → List ℤ → List ℤ → List ℤ → ℕ → Ended Cell
-ranOf image input store output steps =
-    runFrom tagged (programOf image) input steps 0 (fresh tagged (programOf image) store output)
+-- ---- what a call gives back: "a refusal leaves store and output untouched, other results 0"
 
 -- "refusal, row of refusal, outcome, trap, HALT number, statement row, steps, read, written", with base and top
 unfoldable pub numbersOf : {X : Type 0} → Ended X → RunResult
@@ -106,7 +100,7 @@ numbersOf e = record {
   at = e .state .at;
 }
 
--- "a refusal leaves store and output untouched, other results 0"
+-- a refusal's: "other results 0"
 unfoldable pub refusedWith : ℕ → ℕ → RunResult
 refusedWith q row = record {
   refusal = q;
@@ -118,16 +112,32 @@ refusedWith q row = record {
   at = record { row = 0; base = 0; top = 0; read = 0; written = 0 };
 }
 
+-- the result, by the number of the refusal or 0, its row, and where the call ended
+unfoldable pub resultBy : ℕ → ℕ → Ended Cell → RunResult
+resultBy q row e = choose (eqb q 0) (numbersOf e) (refusedWith q row)
+
+-- the store, which "a refusal leaves .. untouched"
+unfoldable pub storeBy : ℕ → Ended Cell → List ℤ → List ℤ
+storeBy q e store = choose (eqb q 0) (map (tagged .number) (e .state .cells)) store
+
+-- the output, which "a refusal leaves .. untouched"
+unfoldable pub outputBy : ℕ → Ended Cell → List ℤ → List ℤ
+outputBy q e output = choose (eqb q 0) (e .state .output) output
+
+-- ---- the results of a run
+
+unfoldable pub ranOf : List ℕ → List ℤ → List ℤ → List ℤ → ℕ → Ended Cell
+ranOf image input store output steps =
+    runFrom tagged (programOf image) input steps 0 (fresh tagged (programOf image) store output)
+
 unfoldable pub resultOf : List ℕ → List ℤ → List ℤ → List ℤ → ℕ → RunResult
 resultOf image input store output steps =
-    choose (eqb (refusal image store) 0) (numbersOf (ranOf image input store output steps))
-    (refusedWith (refusal image store) (rowOf (checkOf image)))
+    resultBy (refusal image store) (rowOf (checkOf image)) (ranOf image input store output steps)
 
 unfoldable pub storeAfter : List ℕ → List ℤ → List ℤ → List ℤ → ℕ → List ℤ
 storeAfter image input store output steps =
-    choose (eqb (refusal image store) 0)
-    (map (tagged .number) (ranOf image input store output steps .state .cells)) store
+    storeBy (refusal image store) (ranOf image input store output steps) store
 
 unfoldable pub outputAfter : List ℕ → List ℤ → List ℤ → List ℤ → ℕ → List ℤ
 outputAfter image input store output steps =
-    choose (eqb (refusal image store) 0) (ranOf image input store output steps .state .output) output
+    outputBy (refusal image store) (ranOf image input store output steps) output

@@ -5,9 +5,9 @@ use borrow.Author.Tests.{not-true, not-false}
 use denote.Ref.{now}
 use Rattle.access.proofs.Opening.{opened-ready}
 use Rattle.semantics.proofs.Outcomes.{refusal-none}
-use Rattle.asking.proofs.Continuing.{question14-exact}
-use Rattle.asking.proofs.Giving.{continues-14, continued-ranged, continues-run}
-use Rattle.machine.proofs.Results.{store-refuses, ranged-stands, continues-check, continues-store, continues-kept}
+use Rattle.asking.proofs.Continuing.{question14-exact, continue-refused}
+use Rattle.asking.proofs.Giving.{continue-gives, continues-14, continued-ranged, continues-run}
+use Rattle.machine.proofs.Results.{store-refuses, gives-check, gives-store, continues-kept}
 use borrow.Author.Needs.{needs}
 use Rattle.machine.proofs.resume.Statement.{statement}
 use Rattle.machine.proofs.resume.Tie as tie
@@ -38,8 +38,7 @@ refused-by-requires c κs = search needs
 
 returns : tie.Need-returns
 returns c =
-    let gives = continues-check _ _ _ _ _ _ _ _ _ (c .before .enum-told2 .given .1) (c .before .before .before .before .open-image .ensures .0) in
-    (c .refused-by .ensures ∙ gives .result, (gives .left, gives .sent))
+    continue-gives _ _ _ _ _ _ (gives-check _ _ (continue-refused _ _ _ _ _ _) _ _ _ (c .before .enum-told2 .given .1) (c .before .before .before .before .open-image .ensures .0) (c .refused-by .ensures))
 
 store-question-requires : tie.Need-store-question-requires
 store-question-requires c κs = opened-ready _ _ _ _ (omega arith) (c .before .before .enum-told .given .1) (sym (c .before .before .before .before .before .open-image .ensures .0)) (c .before .before .before .before .before .open-image .ensures .1)
@@ -49,8 +48,7 @@ refused-requires c κs = search needs
 
 returns-2 : tie.Need-returns-2
 returns-2 c =
-    let gives = continues-store _ _ _ _ _ _ (sym (c .before .before .before .before .before .before .before .before .open-image .ensures .0) ∙ c .before .before .before .before .before .enum-told .given .1) _ (c .before .before .store-question .ensures) (c .before .if1 .taken) in
-    (c .refused .ensures ∙ gives .result, (gives .left, gives .sent))
+    continue-gives _ _ _ _ _ _ (gives-store _ _ (continue-refused _ _ _ _ _ _) (sym (c .before .before .before .before .before .before .before .before .open-image .ensures .0) ∙ c .before .before .before .before .before .enum-told .given .1) _ (c .before .before .store-question .ensures) (c .before .if1 .taken) (c .refused .ensures))
 
 continuable-requires : tie.Need-continuable-requires
 continuable-requires c κs =
@@ -68,9 +66,8 @@ same-length-2 c = search needs
 returns-3 : tie.Need-returns-3
 returns-3 c =
     let bytes = c .before .before .before .before .before .before .before .before .before .before .before .before .before .before .before .before .shared-slice-known .given in
-    let gives = continues-kept _ _ _ _ _ _ (record { each = λ i. omega (arith, bytes i) }) (store-refuses _ (now (c .before .before .before .before .before .before .before .before .before .before .before .before .before .before .before .before .before .args .store)) (sym (c .before .before .before .before .before .before .before .before .before .before .before .before .before .before .open-image .ensures .0) ∙ c .before .before .before .before .before .before .before .before .before .before .before .enum-told .given .1) ∙ sym (c .before .before .before .before .before .before .before .before .store-question .ensures) ∙ c .before .before .before .before .before .before .before .if1 .left)
-    (c .before .before .before .before .before .before .if2 .taken) _ (c .before .continuable .ensures) in
-    (c .kept .ensures ∙ gives .result, (gives .left, gives .sent))
+    continue-gives _ _ _ _ _ _ (continues-kept _ _ _ _ _ _ (record { each = λ i. omega (arith, bytes i) }) (store-refuses _ (now (c .before .before .before .before .before .before .before .before .before .before .before .before .before .before .before .before .before .args .store)) (sym (c .before .before .before .before .before .before .before .before .before .before .before .before .before .before .open-image .ensures .0) ∙ c .before .before .before .before .before .before .before .before .before .before .before .enum-told .given .1) ∙ sym (c .before .before .before .before .before .before .before .before .store-question .ensures) ∙ c .before .before .before .before .before .before .before .if1 .left)
+    (c .before .before .before .before .before .before .if2 .taken) _ (c .before .continuable .ensures) (c .kept .ensures))
 
 continuable-requires-2 : tie.Need-continuable-requires-2
 continuable-requires-2 c κs =
@@ -87,17 +84,17 @@ same-length-4 c = search needs
 
 returns-4 : tie.Need-returns-4
 returns-4 c =
-    let gives = continues-14 _ _ _ _ _ _ (store-refuses _ (now (c .before .before .before .before .before .before .before .before .before .before .before .before .before .before .before .before .before .before .args .store)) (sym (c .before .before .before .before .before .before .before .before .before .before .before .before .before .before .before .open-image .ensures .0) ∙ c .before .before .before .before .before .before .before .before .before .before .before .before .enum-told .given .1) ∙ sym (c .before .before .before .before .before .before .before .before .before .store-question .ensures) ∙ c .before .before .before .before .before .before .before .before .if1 .left)
-    (sym (c .before .before .continuable2 .ensures) ∙ not-true _ (c .before .if3 .taken)) in
-    (c .refused2 .ensures ∙ gives .result, (gives .left, gives .sent))
+    continue-gives _ _ _ _ _ _ (continues-14 _ _ _ _ _ _ (store-refuses _ (now (c .before .before .before .before .before .before .before .before .before .before .before .before .before .before .before .before .before .before .args .store)) (sym (c .before .before .before .before .before .before .before .before .before .before .before .before .before .before .before .open-image .ensures .0) ∙ c .before .before .before .before .before .before .before .before .before .before .before .before .enum-told .given .1) ∙ sym (c .before .before .before .before .before .before .before .before .before .store-question .ensures) ∙ c .before .before .before .before .before .before .before .before .if1 .left)
+    (sym (c .before .before .continuable2 .ensures) ∙ not-true _ (c .before .if3 .taken)) (c .refused2 .ensures))
 
 advance-requires : tie.Need-advance-requires
 advance-requires c κs =
     let bytes = c .before .before .before .before .before .before .before .before .before .before .before .before .before .before .before .before .before .before .before .before .shared-slice-known .given in
-    let passes = sym (c .before .before .before .before .before .continuable2 .ensures) ∙ not-false _ (c .before .before .before .before .if3 .left) in (
+    let passes = sym (c .before .before .before .before .before .continuable2 .ensures) ∙ not-false _ (c .before .before .before .before .if3 .left) in
+    let ranged = continued-ranged _ _ _ _ _ _ (record { each = λ i. omega (arith, bytes i) }) (store-refuses _ (now (c .before .before .before .before .before .before .before .before .before .before .before .before .before .before .before .before .before .before .before .before .before .args .store)) (sym (c .before .before .before .before .before .before .before .before .before .before .before .before .before .before .before .before .before .before .open-image .ensures .0) ∙ c .before .before .before .before .before .before .before .before .before .before .before .before .before .before .before .enum-told .given .1) ∙ sym (c .before .before .before .before .before .before .before .before .before .before .before .before .store-question .ensures) ∙ c .before .before .before .before .before .before .before .before .before .before .before .if1 .left) passes in (
       opened-ready _ _ _ _ (omega arith) (c .before .before .before .before .before .before .before .before .before .before .before .before .before .before .before .enum-told .given .1) (sym (c .before .before .before .before .before .before .before .before .before .before .before .before .before .before .before .before .before .before .open-image .ensures .0)) (c .before .before .before .before .before .before .before .before .before .before .before .before .before .before .before .before .before .before .open-image .ensures .1),
-      ranged-stands (continued-ranged _ _ _ _ _ _ (record { each = λ i. omega (arith, bytes i) }) (store-refuses _ (now (c .before .before .before .before .before .before .before .before .before .before .before .before .before .before .before .before .before .before .before .before .before .args .store)) (sym (c .before .before .before .before .before .before .before .before .before .before .before .before .before .before .before .before .before .before .open-image .ensures .0) ∙ c .before .before .before .before .before .before .before .before .before .before .before .before .before .before .before .enum-told .given .1) ∙ sym (c .before .before .before .before .before .before .before .before .before .before .before .before .store-question .ensures) ∙ c .before .before .before .before .before .before .before .before .before .before .before .if1 .left) passes),
-      question14-exact _ (sym (c .before .before .before .before .before .before .before .before .before .before .before .before .before .before .before .before .before .before .open-image .ensures .0) ∙ c .before .before .before .before .before .before .before .before .before .before .before .before .before .before .before .enum-told .given .1) _ _ _ _ _ .0 passes .steps,
+      record { row = omega (arith, ranged .row); base = omega (arith, ranged .base); top = omega (arith, ranged .top); few = ranged .few },
+      omega (arith, question14-exact _ (sym (c .before .before .before .before .before .before .before .before .before .before .before .before .before .before .before .before .before .before .open-image .ensures .0) ∙ c .before .before .before .before .before .before .before .before .before .before .before .before .before .before .before .enum-told .given .1) _ _ _ _ _ .0 passes .steps),
     )
 
 same-length-5 : tie.Need-same-length-5
@@ -111,9 +108,8 @@ returns-5 c =
     let bytes = c .before .before .before .before .before .before .before .before .before .before .before .before .before .before .before .before .before .before .before .before .before .before .before .shared-slice-known .given in
     let passes = sym (c .before .before .before .before .before .before .before .before .continuable2 .ensures) ∙ not-false _ (c .before .before .before .before .before .before .before .if3 .left) in
     let stops = c .before .before .advance .ensures in
-    let gives = continues-run _ _ _ _ _ _ (record { each = λ i. omega (arith, bytes i) }) (store-refuses _ (now (c .before .before .before .before .before .before .before .before .before .before .before .before .before .before .before .before .before .before .before .before .before .before .before .before .args .store)) (sym (c .before .before .before .before .before .before .before .before .before .before .before .before .before .before .before .before .before .before .before .before .before .open-image .ensures .0) ∙ c .before .before .before .before .before .before .before .before .before .before .before .before .before .before .before .before .before .before .enum-told .given .1) ∙ sym (c .before .before .before .before .before .before .before .before .before .before .before .before .before .before .before .store-question .ensures) ∙ c .before .before .before .before .before .before .before .before .before .before .before .before .before .before .if1 .left) passes (stops .answer)
-    (stops .cells-left) (stops .output-left) in
-    (gives .result, (gives .left, gives .sent))
+    continue-gives _ _ _ _ _ _ (continues-run _ _ _ _ _ _ (record { each = λ i. omega (arith, bytes i) }) (store-refuses _ (now (c .before .before .before .before .before .before .before .before .before .before .before .before .before .before .before .before .before .before .before .before .before .before .before .before .args .store)) (sym (c .before .before .before .before .before .before .before .before .before .before .before .before .before .before .before .before .before .before .before .before .before .open-image .ensures .0) ∙ c .before .before .before .before .before .before .before .before .before .before .before .before .before .before .before .before .before .before .enum-told .given .1) ∙ sym (c .before .before .before .before .before .before .before .before .before .before .before .before .before .before .before .store-question .ensures) ∙ c .before .before .before .before .before .before .before .before .before .before .before .before .before .before .if1 .left) passes (stops .answer)
+    (stops .cells-left) (stops .output-left))
 
 pub resume-spec : {M : Type 1} → statement M
 resume-spec =

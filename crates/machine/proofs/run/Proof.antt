@@ -3,8 +3,9 @@ use native.Mathlib.Omega.{arith}
 use Prim.Native.Nat.{ℕ, _≤_, _<_}
 use denote.Ref.{now}
 use Rattle.access.proofs.Opening.{opened-ready}
+use Rattle.semantics.proofs.Giving.{run-gives}
 use Rattle.semantics.proofs.Outcomes.{refusal-none}
-use Rattle.machine.proofs.Results.{fresh-stands, store-refuses, gives-refused, gives-store, gives-run}
+use Rattle.machine.proofs.Results.{fresh-stands, store-refuses, gives-check, gives-store, gives-run}
 use borrow.Author.Needs.{needs}
 use Rattle.machine.proofs.run.Statement.{statement}
 use Rattle.machine.proofs.run.Tie as tie
@@ -36,8 +37,7 @@ refused-by-requires c κs = search needs
 
 returns : tie.Need-returns
 returns c =
-    let gives = gives-refused _ _ _ _ _ _ _ _ (c .before .enum-told2 .given .1) (c .before .before .before .before .open-image .ensures .0) in
-    (c .refused-by .ensures ∙ gives .result, (gives .left, gives .sent))
+    run-gives _ _ _ _ _ (gives-check _ _ (λ asked number some. number) _ _ _ (c .before .enum-told2 .given .1) (c .before .before .before .before .open-image .ensures .0) (c .refused-by .ensures))
 
 store-question-requires : tie.Need-store-question-requires
 store-question-requires c κs = opened-ready _ _ _ _ (omega arith) (c .before .before .enum-told .given .1) (sym (c .before .before .before .before .before .open-image .ensures .0)) (c .before .before .before .before .before .open-image .ensures .1)
@@ -47,8 +47,7 @@ refused-requires c κs = search needs
 
 returns-2 : tie.Need-returns-2
 returns-2 c =
-    let gives = gives-store _ _ _ _ _ (sym (c .before .before .before .before .before .before .before .before .open-image .ensures .0) ∙ c .before .before .before .before .before .enum-told .given .1) _ (c .before .before .store-question .ensures) (c .before .if1 .taken) in
-    (c .refused .ensures ∙ gives .result, (gives .left, gives .sent))
+    run-gives _ _ _ _ _ (gives-store _ _ (λ asked number some. number) (sym (c .before .before .before .before .before .before .before .before .open-image .ensures .0) ∙ c .before .before .before .before .before .enum-told .given .1) _ (c .before .before .store-question .ensures) (c .before .if1 .taken) (c .refused .ensures))
 
 global-room-requires : tie.Need-global-room-requires
 global-room-requires c κs = let ready = opened-ready _ _ _ _ (omega arith) (c .before .before .before .before .before .before .enum-told .given .1) (sym (c .before .before .before .before .before .before .before .before .before .open-image .ensures .0)) (c .before .before .before .before .before .before .before .before .before .open-image .ensures .1) in ready .planned
@@ -84,10 +83,9 @@ returns-3 : tie.Need-returns-3
 returns-3 c =
     let accepted = sym (c .before .before .before .before .before .before .before .before .before .before .before .before .before .before .before .before .before .before .before .before .before .before .before .open-image .ensures .0) ∙ c .before .before .before .before .before .before .before .before .before .before .before .before .before .before .before .before .before .before .before .before .enum-told .given .1 in
     let bytes = c .before .before .before .before .before .before .before .before .before .before .before .before .before .before .before .before .before .before .before .before .before .before .before .before .before .shared-slice-known .given in
-    let gives = gives-run _ _ _ _ _ accepted (record { each = λ i. omega (arith, bytes i) })
+    run-gives _ _ _ _ _ (gives-run _ _ _ _ _ accepted (record { each = λ i. omega (arith, bytes i) })
     (sym (c .before .before .before .before .before .before .before .before .before .before .before .before .before .before .before .before .before .store-question .ensures) ∙ c .before .before .before .before .before .before .before .before .before .before .before .before .before .before .before .before .if1 .left) (c .before .before .before .before .before .before .before .before .before .before .before .before .before .global-room .ensures)
-    (c .before .before .before .before .before .before .before .before .before .before .first-top .ensures) (c .before .before .before .before .before .before .before .before .zero .ensures) (c .before .before .advance .ensures) in
-    (gives .result, (gives .left, gives .sent))
+    (c .before .before .before .before .before .before .before .before .before .before .first-top .ensures) (c .before .before .before .before .before .before .before .before .zero .ensures) (c .before .before .advance .ensures))
 
 pub run-spec : {M : Type 1} → statement M
 run-spec =
