@@ -93,8 +93,8 @@ loop-again c = let n = c .before .before .before .before .before in
       omega arith,
       λ deeper w m x edges lows cells words.
           field-more deeper (held (now (a .plan))) w edges lows
-          (l .inv .2 deeper w m x edges lows cells words) (l .inv .0) (n .before .loop-test .taken) (n .a-at .ensures) (c .before .before .before .before .cell .ensures)
-          (c .before .before .across .ensures) (c .across2 .ensures),
+          (l .inv .2 deeper w m x edges lows cells words) (l .inv .0) (n .before .loop-test .taken) (n .a-at .ensures)
+          (c .before .before .before .before .cell .ensures) (c .before .before .across .ensures) (c .across2 .ensures),
     )
 
 returns : tie.Need-returns Inv-loop μ-loop
