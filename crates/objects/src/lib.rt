@@ -330,7 +330,7 @@ fn base_edges(starts: &Words, ends: &Words, a: u16) -> EdgeWords
     }
 }
 
-// What a word says, and what another says that n cells part from it: nothing where there are some.
+// What a word says, and also what another says where the n cells between them are none.
 fn across(word: u64, n: usize, other: u64) -> u64
     ensures { λ x. ⌜ x ≡ choose (eqb n 0) (bitOr word other) word ⌝ }
 {

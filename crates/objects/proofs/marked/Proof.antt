@@ -5,19 +5,15 @@ use Rattle.objects.proofs.marked.Tie as tie
 use Rattle.objects.proofs.marked.Reads as reads
 use Rattle.objects.proofs.marked.Lts as lts
 
--- src/lib.rt:49:6
 mul-result : tie.Need-mul-result
 mul-result c = search needs
 
--- src/lib.rt:49:6
 element-copy-out-result : tie.Need-element-copy-out-result
 element-copy-out-result c = search needs
 
--- src/lib.rt:49:6
 shr-result : tie.Need-shr-result
 shr-result c = search needs
 
--- src/lib.rt:45:1
 returns : tie.Need-returns
 unfolding bitOf
 returns c = search needs
