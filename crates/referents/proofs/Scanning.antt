@@ -69,16 +69,26 @@ module _ (g : Program) (w k n lead at : ℕ) (placed : Placed g k n lead) where
       scan-next e =
           left-next _ _ _ k n lead at j more (omega (arith, is, place-is least more)) least (sym inside-is ∙ e)
 
+      -- one begins behind this row; where none does, the row decides
+      pub scan-behind : left (j + 1) ≡ true → left j ≡ true
+      scan-behind h = go x refl
+        where
+          go : (y : Bool) → x ≡ y → left j ≡ true
+          go true e = scan-here e
+          go false e = scan-next e ∙ h
+
+      pub scan-last : left (j + 1) ≡ false → x ≡ left j
+      scan-last h = go x refl
+        where
+          go : (y : Bool) → x ≡ y → x ≡ left j
+          go true e = e ∙ sym (scan-here e)
+          go false e = e ∙ sym (scan-next e ∙ h)
+
 -- no variables
 pub scan-none : (g : Program) (w k : ℕ) {n : ℕ} (lead at : ℕ) → n ≡ 0 → false ≡ inPlaces g w k n lead at
 scan-none g w k lead at none = rw none (sym (also-right _ (search-none _ _ _ k (at - lead))))
 
 -- ---- those that begin at the address
-
-pub start-of : (a : Bool) {b : Bool} → b ≡ true → a ≡ (a also b)
-unfolding _also_
-start-of true e = sym e
-start-of false e = refl
 
 -- behind the row that is reached
 pub ahead-reached : {g : Program} {k n lead at j : ℕ} → Placed g k n lead → Reached g k n at j

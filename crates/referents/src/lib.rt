@@ -144,11 +144,11 @@ fn in_places(
     if at < place {
         return false;
     }
-    if in_variable(image, plan, starts, ends, w, j, at - place) {
+    let v = access::table(*image, plan, 2);
+    if starts_there(image, plan, v, starts, w, j + 1, k + n, at) {
         return true;
     }
-    let v = access::table(*image, plan, 2);
-    starts_there(image, plan, v, starts, w, j + 1, k + n, at)
+    in_variable(image, plan, starts, ends, w, j, at - place)
 }
 
 // ---- objects in frames
@@ -162,7 +162,7 @@ fn object_at(
     ends: &Words,
     store: &[i64],
     top: u32,
-    blocks: &[u32],
+    blocks: &[u16],
     from: u32,
     w: u16,
     at: u32,
@@ -199,7 +199,7 @@ fn reference(
     ends: &Words,
     store: &[i64],
     top: u32,
-    blocks: &[u32],
+    blocks: &[u16],
     base: u32,
     r: u16,
     a: u32,
@@ -247,7 +247,7 @@ fn parameter(
     ends: &Words,
     store: &[i64],
     top: u32,
-    blocks: &[u32],
+    blocks: &[u16],
     base: u32,
     k: u32,
 ) -> bool
@@ -282,7 +282,7 @@ fn frame_references(
     next: &[u16],
     store: &[i64],
     top: u32,
-    blocks: &[u32],
+    blocks: &[u16],
     q: u16,
     base: u32,
 ) -> bool
@@ -327,7 +327,7 @@ fn all_references(
     q: u16,
     base: u32,
     top: u32,
-    blocks: &[u32],
+    blocks: &[u16],
 ) -> bool
     requires { ⌜ Lent (now (now image)) (now plan) (now starts) (now ends)
         × Skips (programOf (now (now image))) (now next)
@@ -370,7 +370,7 @@ pub fn references(
     q: u16,
     base: u32,
     top: u32,
-    blocks: &[u32],
+    blocks: &[u16],
 ) -> bool
     requires { ⌜ Ready (now (now image)) (now plan) × Skips (programOf (now (now image))) (now next)
         × Asked (programOf (now (now image))) (now store) q base top (now blocks) ⌝ }

@@ -176,7 +176,7 @@ fn frames_sound(image: &&[u8], plan: &Plan, store: &[i64], q: u16, base: u32, to
         (chain (programOf (now (now (image .entry)))) (now (store .entry)) (suc base) q base) (now (store .entry))
         base top ⌝ }
 {
-    let mut blocks = [0u32; BLOCKS];
+    let mut blocks = [0u16; BLOCKS];
     if !unwinding::walk(image, plan, store, q, base, top, &mut blocks) {
         return false;
     }
