@@ -159,7 +159,8 @@ fn in_base(starts: &Words, w: u16, a: u16, o: u32) -> Look
     Look::Inside((a as usize) - 1, o)
 }
 
-// A look o cells into the fields of the record in row r: what is behind a base's start begins in the base as in a field.
+// A look o cells into the fields of the record in row r: what is behind a base's start begins in the base as in a
+// field.
 fn fields(
     t: &[u8],
     f: &[u8],

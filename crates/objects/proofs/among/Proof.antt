@@ -70,7 +70,8 @@ returns-2 c = let l = c .before .before .before .before .before .before .before 
     let this = c .before .before .before .before .before .a-at .ensures in (
       λ deeper m edges lows.
           looks-yes deeper (l .inv .2 deeper m edges lows ∙ turn-yes edges lows (l .inv .0) more this refl
-          (omega (arith, c .before .before .before .if1 .taken, c .before .before .if2 .left)) (c .before .marked .ensures) (c .if3 .taken)),
+          (omega (arith, c .before .before .before .if1 .taken, c .before .before .if2 .left))
+          (c .before .marked .ensures) (c .if3 .taken)),
       λ m lows. yes-below,
     )
 
@@ -87,15 +88,15 @@ told-requires : tie.Need-told-requires Inv-loop μ-loop
 told-requires c κs = search needs
 
 returns-3 : tie.Need-returns-3 Inv-loop μ-loop
-returns-3 c = let l = c .before .before .before .before .before .before .before .before .before .loop in
-    let more = c .before .before .before .before .before .before .before .before .loop-test .taken in
-    let this = c .before .before .before .before .before .before .before .a-at .ensures in (
+returns-3 c = let n = c .before .before .before .before in
+    let l = n .before .before .before .before .before .loop in
+    let more = n .before .before .before .before .loop-test .taken in
+    let this = n .before .before .before .a-at .ensures in (
       λ deeper m edges lows.
           let first = c .before .among-first .ensures deeper m _ edges
           (lows-later (let least = l .inv .0 in omega arith) lows) in
           looks-told deeper (c .told .ensures) (first ∙ sym (l .inv .2 deeper m edges lows
-          ∙ turn-end edges lows (l .inv .0) more this refl
-          (omega (arith, c .before .before .before .before .before .if1 .taken, c .before .before .before .before .if2 .left))
+          ∙ turn-end edges lows (l .inv .0) more this refl (omega (arith, n .before .if1 .taken, n .if2 .left))
           (c .before .before .before .marked .ensures) (c .before .before .if3 .left))),
       λ m lows. below-told _ (c .told .ensures),
     )

@@ -21,7 +21,8 @@ cell-requires c κs = search needs
 returns : tie.Need-returns
 returns c = let a = c .before .before .before .before .args in (
   λ deeper m edges low least.
-      looks-no deeper (none-past edges low (a .n) (c .before .before .cell .ensures) (c .before .if1 .taken) (c .if2 .taken)),
+      looks-no deeper
+      (none-past edges low (a .n) (c .before .before .cell .ensures) (c .before .if1 .taken) (c .if2 .taken)),
   λ m low. no-below,
 )
 
@@ -69,8 +70,9 @@ returns-4 : tie.Need-returns-4
 returns-4 c = let a = c .before .before .before .before .before .args in
     let size = c .before .before .before .cell .result in (
       λ deeper m edges low least.
-          looks-inside deeper _ _ (parted-inside edges low (a .n) (c .before .before .before .cell .ensures) (a .o / size)
-          (a .o % size) (omega arith)
+          looks-inside deeper _ _
+          (parted-inside edges low (a .n) (c .before .before .before .cell .ensures) (a .o / size) (a .o % size)
+          (omega arith)
           (div-add-mod' (a .o) size) (c .before .if3 .left) (mod-lt (a .o) (omega arith)) (c .if4 .taken)),
       λ m low. inside-below {o = a .o % size} low (omega arith),
     )
@@ -79,7 +81,8 @@ returns-5 : tie.Need-returns-5
 returns-5 c = let a = c .before .before .before .before .before .args in
     let size = c .before .before .before .cell .result in (
       λ deeper m edges low least.
-          looks-no deeper (parted-past edges low (a .n) (c .before .before .before .cell .ensures) (a .o / size) (a .o % size)
+          looks-no deeper
+          (parted-past edges low (a .n) (c .before .before .before .cell .ensures) (a .o / size) (a .o % size)
           (omega arith)
           (div-add-mod' (a .o) size) (c .before .if3 .left) (c .if4 .left)),
       λ m low. no-below,

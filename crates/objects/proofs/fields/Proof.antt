@@ -95,8 +95,9 @@ returns-3 c = let s = c .before .before .before .before .before .before .before 
     )
 
 among-first-requires : tie.Need-among-first-requires
-among-first-requires c κs = let s = c .before .before .before .before .before .before .before .before .before .before .before in
-    let row = c .before .before .before .before .before .before .before .row-at .ensures in (
+among-first-requires c κs = let n = c .before .before .before .before .before .before .before in
+    let s = n .before .before .before .before in
+    let row = n .row-at .ensures in (
       own-room (s .pre .0) (s .args .r) (s .pre .2) (s .pre .3) row,
       own-few (s .pre .0) (s .args .r) (s .pre .2) (s .pre .3) row,
       s .pre .1,
@@ -106,11 +107,12 @@ told-requires : tie.Need-told-requires
 told-requires c κs = search needs
 
 returns-4 : tie.Need-returns-4
-returns-4 c = let s = c .before .before .before .before .before .before .before .before .before .before .before .before .before in
-    let row = c .before .before .before .before .before .before .before .before .before .row-at .ensures in
-    let size = c .before .before .before .before .before .before .base-cells .ensures in
-    let last : s .args .o ≡ c .before .before .before .before .before .before .base-cells .result =
-    omega (arith, c .before .before .before .before .if2 .left, c .before .before .before .before .before .if1 .left) in (
+returns-4 c = let n = c .before .before .before .before in
+    let s = n .before .before .before .before .before .before .before .before .before in
+    let row = n .before .before .before .before .before .row-at .ensures in
+    let size = n .before .before .base-cells .ensures in
+    let last : s .args .o ≡ n .before .before .base-cells .result =
+    omega (arith, n .if2 .left, n .before .if1 .left) in (
       λ edges.
           let own = own-low (s .pre .0) (s .args .r) (s .pre .2) (s .pre .3) row in
           looks-told _ (c .told .ensures) (c .before .among-first .ensures _ (s .args .r) _ edges own
