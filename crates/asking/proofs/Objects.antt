@@ -121,6 +121,12 @@ nth-held : {X : Type 0} (d : X) {l : List X} {n : ℕ} {x : X} → Nth l n x →
 nth-held d here = (refl, omega arith)
 nth-held d (there h) = let (e, l) = nth-held d h in (e, omega arith)
 
+-- at an address where the newest frame does not begin below, only older ones can have it
+pub object-older : (g : Program) (w q : ℕ) (qs : List ℕ) (at : ℕ) → at ≤ roomOf g qs
+    → objectAt g w (q ∷ qs) at ≡ objectAt g w qs at
+unfolding objectAt
+object-older g w q qs at h = choose-no _ _ _ (le-ltb (roomOf g qs) at h)
+
 module _ (g : Program)
     (ok : AcceptedTables (g .types) (g .fields) (g .variables) (g .procedures) (g .nodes) (g .statements)) (w : ℕ) where
   abbrev size : ℕ → ℕ
@@ -296,11 +302,6 @@ module _ (g : Program)
   variable-typed : (k : ℕ) → k < rowsOf (g .variables) → rowAt (g .variables) k .a < rowsOf (g .types)
   variable-typed k h = ok .variable k h .typed
 
-  -- at an address where the newest frame does not begin below, only older ones can have it
-  pub older-yes : (q : ℕ) (qs : List ℕ) (at : ℕ) → at ≤ roomOf g qs → objectAt g w (q ∷ qs) at ≡ objectAt g w qs at
-  unfolding objectAt
-  older-yes q qs at h = choose-no _ _ _ (le-ltb (roomOf g qs) at h)
-
   own-yes : (q : ℕ) (qs : List ℕ) (j x : ℕ) → j < claimedBy (rowAt (g .procedures) q)
       → rowAt (g .variables) (firstVariable (g .variables) (g .procedures) q + j) .kind ≤ 2
       → deeper (rowAt (g .variables) (firstVariable (g .variables) (g .procedures) q + j) .a) x ≡ true
@@ -337,10 +338,10 @@ module _ (g : Program)
   whole-yes [] o st (a-global k h) b = global-yes k o h b
   whole-yes (f ∷ fs) o (a-frame st low called slots) (a-global k h) b =
       let there = begins-object {fs = fs} (of-global k h) b in
-      older-yes (f .procedure) (procedures-of fs) _ (object-within st there) ∙ whole-yes fs o st (a-global k h) b
+      object-older g w (f .procedure) (procedures-of fs) _ (object-within st there) ∙ whole-yes fs o st (a-global k h) b
   whole-yes (f ∷ fs) o (a-frame st low called slots) (an-older h) b =
       let there = begins-object (whole-object h) b in
-      older-yes (f .procedure) (procedures-of fs) _ (object-within st there) ∙ whole-yes fs o st h b
+      object-older g w (f .procedure) (procedures-of fs) _ (object-within st there) ∙ whole-yes fs o st h b
   whole-yes (f ∷ fs) o (a-frame st low called slots) (an-own {k = k} own kind) b =
       let q : ℕ = f .procedure in
       let first : ℕ = firstVariable (g .variables) (g .procedures) q in

@@ -10,7 +10,7 @@ use lib.IntN.{ℤ}
 use lib.ListN.{length, drop}
 use lib.Seq.{drop-drop}
 use Rattle.prelude.specs.Choice.{choose, _also_}
-use Rattle.prelude.proofs.Choice.{choose-no}
+use Rattle.prelude.proofs.Choice.{choose-no, also-first}
 use Rattle.image.specs.Rows.{rowAt, rowsOf}
 use Rattle.frames.specs.Variables.{globalsOf}
 use Rattle.frames.specs.Procedures.{firstVariable, claimedBy}
@@ -28,11 +28,6 @@ use Rattle.asking.specs.Passes.{valuesPass, referencesPass}
 
 -- ---- tests in another order
 
-also-all : (a : Bool) → (a also true) ≡ a
-unfolding _also_
-also-all true = refl
-also-all false = refl
-
 also-later : (a b c : Bool) → ((a also b) also c) ≡ (a also b also c)
 unfolding _also_
 also-later true b c = refl
@@ -40,7 +35,7 @@ also-later false b c = refl
 
 also-turned : (a b : Bool) → (a also b) ≡ (b also a)
 unfolding _also_
-also-turned true b = sym (also-all b)
+also-turned true b = sym (also-first b refl)
 also-turned false true = refl
 also-turned false false = refl
 
@@ -91,7 +86,7 @@ module _ (g : Program) where
     where
       go : (var r v : Bool) → choose var r v ≡ (choose var true v also choose var r true)
       go true r v = refl
-      go false r v = sym (also-all v)
+      go false r v = sym (also-first v refl)
 
   slots-pass : (qs : List ℕ) (n k : ℕ) (l : List ℤ)
       → slotsKept g qs k n l
@@ -153,7 +148,7 @@ module _ (g : Program) where
   unfolding stackKept linked valuesPass referencesPass framesPass _also_
   passes-same [] store =
       globals-pass (globalsOf (g .variables)) 0 store (λ j h. global-kind (g .variables) j (omega arith))
-      ∙ sym (also-all _) ∙ sym (also-all _)
+      ∙ sym (also-first _ refl) ∙ sym (also-first _ refl)
   passes-same (q ∷ qs) store =
       ap₂ _also_ (passes-same qs store) (frame-parts q qs store)
       ∙ next-pass (linked g qs store) (variablesPass g (valueTest g) 0 (globalsOf (g .variables)) store)

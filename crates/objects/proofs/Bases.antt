@@ -20,7 +20,7 @@ use Rattle.shapes.proofs.Accepted.{Based, Based.no-base, Based.on-base}
 use Rattle.objects.specs.Begins.{among, beginsAt}
 use Rattle.objects.specs.declared.Look.{Look}
 use Rattle.objects.specs.declared.Look.the-variants as Ls
-use Rattle.objects.specs.Looking.{held, Typed, Edges, toldBy, saidOfBase, lookInBase, Looks}
+use Rattle.objects.specs.Looking.{held, Typed, Edges, toldBy, settled, saidOfBase, lookInBase}
 use Rattle.objects.proofs.Beginning.{itself-none}
 use Rattle.objects.proofs.Looks.{looks-told, looks-inside}
 use Rattle.objects.proofs.Records.{kept, on, base-lower, record-in}
@@ -109,16 +109,14 @@ module _ {t f plan : List ℕ} (typed : Typed t f plan) (w : ℕ) where
       inner-whole : inner ≡ whole
       inner-whole = record-in typed r low kind this (beginsAt t f w) is o h
 
-      pub looks-base : {x : Look} → x ≡ lookInBase starts w (row .a) o → Looks (beginsAt t f w) r x whole
+      pub looks-base : {x : Look} → x ≡ lookInBase starts w (row .a) o → settled (beginsAt t f w) x ≡ whole
       unfolding lookInBase
       looks-base {x} e = go (eqb o 0) refl
         where
-          go : (b : Bool) → eqb o 0 ≡ b → Looks (beginsAt t f w) r x whole
+          go : (b : Bool) → eqb o 0 ≡ b → settled (beginsAt t f w) x ≡ whole
           go true q =
-              looks-told {b = saidOfBase starts w (row .a)} (e ∙ choose-yes _ _ _ q)
+              looks-told _ {b = saidOfBase starts w (row .a)} (e ∙ choose-yes _ _ _ q)
               (said-start (eqb-true o 0 q) ∙ inner-whole)
           go false q =
-              let more = eqb-false o 0 q in
-              let (less, on-record) = base-lower typed r low kind this some in
               let inside : x ≡ Ls.Inside (row .a - 1) o = e ∙ choose-no _ _ _ q in
-              rw inside (looks-inside less (omega arith) (sym inner-whole ∙ inner-later some more))
+              rw inside (looks-inside _ _ _ (sym inner-whole ∙ inner-later some (eqb-false o 0 q)))

@@ -23,21 +23,22 @@ use Rattle.objects.proofs.Records.{kept, by-plan}
 module _ {t f plan : List ℕ} (typed : Typed t f plan) where
   -- ---- parts by the kind
 
-  pub element-few : (r : ℕ) → r < rowsOf t → {row : Row} → row ≡ rowAt t r → row .kind ≡ 3 → row .a < ROWS
-  element-few r low this kind =
+  pub element-low : (r : ℕ) → r < rowsOf t → {row : Row} → row ≡ rowAt t r → row .kind ≡ 3 → row .a < r
+  element-low r low this kind =
       let is = array-row t f (kept typed) r low (rw (← this) kind) in
-      let few = typed .few in
-      let less : rowAt t r .a < ROWS = omega (arith, is .low) in
-      rw this less
+      rw this (is .low)
+
+  pub element-few : (r : ℕ) → r < rowsOf t → {row : Row} → row ≡ rowAt t r → row .kind ≡ 3 → row .a < ROWS
+  element-few r low this kind = let few = typed .few in omega (arith, element-low r low this kind)
 
   module _ (r : ℕ) (low : r < rowsOf t) {row : Row} (this : row ≡ rowAt t r) (deeper : ℕ → ℕ → Bool) (o : ℕ) where
-    pub part-array : row .kind ≡ 3 → (row .a < r) × (1 ≤ row .b)
+    pub part-array : row .kind ≡ 3 → (1 ≤ row .b)
         × (among deeper (held plan) (replicate (row .b) (row .a)) o ≡ among deeper (held plan) (partsOf t f r) o)
     part-array kind =
         let k : rowAt t r .kind ≡ 3 = rw (← this) kind in
         let is = array-row t f (kept typed) r low k in
         let same : replicate (row .b) (row .a) ≡ partsOf t f r = rw this (sym (array-parts t f r k)) in
-        (rw this (is .low), rw this (is .least), ap (λ l. among deeper (held plan) l o) same)
+        (rw this (is .least), ap (λ l. among deeper (held plan) l o) same)
 
     pub part-record : row .kind ≡ 4
         → among deeper (held plan) (fieldsOf t f r) o ≡ among deeper (held plan) (partsOf t f r) o

@@ -23,7 +23,7 @@ use Rattle.objects.specs.Begins.{partsOf, among, beginsAt}
 use Rattle.objects.specs.Looking.{held, Typed, Edges, AtEdges, saidOfBase}
 use Rattle.objects.proofs.Beginning.{array-size}
 use Rattle.objects.proofs.Records.{kept, held-size, fields-held, whole, record-past}
-use Rattle.objects.proofs.Deciding.{part-array, part-record, part-none, begins-by, by-inner}
+use Rattle.objects.proofs.Deciding.{element-low, part-array, part-record, part-none, begins-by, by-inner}
 use Rattle.objects.proofs.Bases.{said-start, said-end}
 use Rattle.objects.proofs.Joining.{or-bit, at-same, at-many}
 
@@ -52,9 +52,10 @@ module _ {t f plan : List ℕ} (typed : Typed t f plan) (w r : ℕ) (low : r < r
     module _ {starts ends : List ℕ} (edges : Edges (beginsAt t f w) (held plan) w r starts ends) where
       pub at-array : row .kind ≡ 3 → Parts (getD starts (row .a) 0) (getD ends (row .a) 0)
       at-array kind =
-          let (less, least, same) = part-array typed r low this (beginsAt t f w) 0 kind in
+          let less = element-low typed r low this kind in
+          let (least, same) = part-array typed r low this (beginsAt t f w) 0 kind in
           rw (array-held kind less) at
-          (at-same (λ o. part-array typed r low this (beginsAt t f w) o kind .2) (at-many edges less (row .b) least))
+          (at-same (λ o. part-array typed r low this (beginsAt t f w) o kind .1) (at-many edges less (row .b) least))
 
       -- a record's base
       pub at-base : row .kind ≡ 4 → {before first last : ℕ} → before ≡ ofBase 0 (held plan) (row .a)

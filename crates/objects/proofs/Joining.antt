@@ -26,7 +26,7 @@ use Rattle.objects.specs.Begins.{among}
 use Rattle.objects.specs.Looking.{Edges, AtEdges, LowTypes}
 use Rattle.objects.specs.Tables.{ROWS}
 use Rattle.objects.proofs.Following.{first-alone, among-append}
-use Rattle.objects.proofs.Looks.{between-start, between-end, none-first, elements-past, turn-low}
+use Rattle.objects.proofs.Looks.{between-start, between-end, none-first, elements-past, row-low}
 
 -- ---- bits
 
@@ -217,7 +217,7 @@ module _ (deeper : ℕ → ℕ → Bool) (size : ℕ → ℕ) (w : ℕ) where
         → Joined whole (ownTypes f (j + 1) (e - (j + 1))) (n + own) x y
     field-more least more {u} this is p q =
         let row = own-step f j e more in
-        rw (p, q, is, this) (joined-next edges (rw this at (turn-low edges lows least more this)) (rw row at h))
+        rw (p, q, is, this) (joined-next edges (rw this at (row-low lows least more this)) (rw row at h))
 
     pub field-end : e ≤ j → AtEdges (among deeper size whole) (sum (map size whole)) w first last
     field-end past = joined-all (rw (own-end f j e past) at h)

@@ -17,46 +17,39 @@ use Rattle.shapes.proofs.Rows.{own-step, own-end}
 use Rattle.objects.specs.Begins.{among}
 use Rattle.objects.specs.declared.Look.{Look}
 use Rattle.objects.specs.declared.Look.the-variants as Ls
-use Rattle.objects.specs.Looking.{Edges, LowTypes, toldBy, settled, Looks}
+use Rattle.objects.specs.Looking.{Edges, LowTypes, toldBy, settled}
 use Rattle.objects.specs.Looking.{Below, Below.yes-below, Below.no-below, Below.inside-below}
 use Rattle.objects.proofs.Look.{the-type as lookType}
 use Rattle.objects.proofs.Following.{among-here, among-stop, among-next, among-past, some-among}
 use Rattle.objects.proofs.Following.{many-size, many-before, nth-many, many-none, many-empty, many-inside}
 
--- ---- looks
+-- ---- what looks come to
 
-module _ {deeper : ℕ → ℕ → Bool} {m : ℕ} where
-  pub looks-yes : {b : Bool} → b ≡ true → Looks deeper m Ls.Yes b
+module _ (deeper : ℕ → ℕ → Bool) where
+  pub looks-yes : {b : Bool} → b ≡ true → settled deeper Ls.Yes ≡ b
   unfolding settled
-  looks-yes e = record { answer = sym e; lower = yes-below }
+  looks-yes e = sym e
 
-  pub looks-no : {b : Bool} → b ≡ false → Looks deeper m Ls.No b
+  pub looks-no : {b : Bool} → b ≡ false → settled deeper Ls.No ≡ b
   unfolding settled
-  looks-no e = record { answer = sym e; lower = no-below }
+  looks-no e = sym e
 
-  pub looks-inside : {b : Bool} {u o : ℕ} → u < m → 0 < o → b ≡ deeper u o → Looks deeper m (Ls.Inside u o) b
+  pub looks-inside : (u o : ℕ) {b : Bool} → b ≡ deeper u o → settled deeper (Ls.Inside u o) ≡ b
   unfolding settled
-  looks-inside low some e = record { answer = sym e; lower = inside-below low some }
+  looks-inside u o e = sym e
 
-  pub looks-same : {x : Look} {b c : Bool} → b ≡ c → Looks deeper m x b → Looks deeper m x c
-  looks-same e h = record { answer = h .answer ∙ e; lower = h .lower }
-
-  pub looks-told : {x : Look} {b c : Bool} → x ≡ toldBy b → b ≡ c → Looks deeper m x c
+  pub looks-told : {x : Look} {b c : Bool} → x ≡ toldBy b → b ≡ c → settled deeper x ≡ c
   unfolding toldBy
   looks-told {b = b} is e = rw is (go b e)
     where
-      go : (b : Bool) {c : Bool} → b ≡ c → Looks deeper m (toldBy b) c
+      go : (b : Bool) {c : Bool} → b ≡ c → settled deeper (toldBy b) ≡ c
       go true e = looks-yes (sym e)
       go false e = looks-no (sym e)
 
--- what a look that leads on says
-pub looks-on : {deeper : ℕ → ℕ → Bool} {m : ℕ} {x : Look} {b : Bool} {u o : ℕ} → x ≡ Ls.Inside u o
-    → Looks deeper m x b → (deeper u o ≡ b) × (u < m) × (0 < o)
-unfolding settled
-looks-on {m = m} {u = u} {o = o} e h = let (low, some) = go (rw e at (h .lower)) in (rw e at (h .answer), low, some)
-  where
-    go : Below m (Ls.Inside u o) → (u < m) × (0 < o)
-    go (inside-below l some) = (l, some)
+  -- one that leads on
+  pub looks-on : {x : Look} {b : Bool} {u o : ℕ} → x ≡ Ls.Inside u o → settled deeper x ≡ b → deeper u o ≡ b
+  unfolding settled
+  looks-on e h = rw e at h
 
 -- one that leads nowhere comes to the same answer whatever lies deeper
 settled-by : (d : ℕ → ℕ → Bool) (x : Look) → OneOf (0 ∷ 1 ∷ []) (tagOf lookType x)
@@ -66,15 +59,32 @@ settled-by d Ls.Yes h = refl
 settled-by d Ls.No h = refl
 settled-by d (Ls.Inside u o) h = ⊎-elim (λ e. absurd (omega arith)) (λ e. absurd (omega arith)) h
 
-pub looks-end : {deeper : ℕ → ℕ → Bool} {m : ℕ} {x : Look} {b y : Bool} → y ≡ settled (λ u o. false) x
-    → OneOf (0 ∷ 1 ∷ []) (tagOf lookType x) → Looks deeper m x b → y ≡ b
-looks-end {deeper = deeper} {x = x} is nowhere h = is ∙ settled-by deeper x nowhere ∙ h .answer
+pub looks-end : (deeper : ℕ → ℕ → Bool) (x : Look) {b y : Bool} → y ≡ settled (λ u o. false) x
+    → OneOf (0 ∷ 1 ∷ []) (tagOf lookType x) → settled deeper x ≡ b → y ≡ b
+looks-end deeper x is nowhere h = is ∙ settled-by deeper x nowhere ∙ h
 
 pub settled-no : (x : Look) → OneOf (1 ∷ 2 ∷ []) (tagOf lookType x) → settled (λ u o. false) x ≡ false
 unfolding settled
 settled-no Ls.Yes h = ⊎-elim (λ e. absurd (omega arith)) (λ e. absurd (omega arith)) h
 settled-no Ls.No h = refl
 settled-no (Ls.Inside u o) h = refl
+
+-- ---- where they lead
+
+module _ {m : ℕ} where
+  pub below-told : (b : Bool) {x : Look} → x ≡ toldBy b → Below m x
+  unfolding toldBy
+  below-told b is = rw is (go b)
+    where
+      go : (b : Bool) → Below m (toldBy b)
+      go true = yes-below
+      go false = no-below
+
+  pub below-on : {x : Look} {u o : ℕ} → x ≡ Ls.Inside u o → Below m x → (u < m) × (0 < o)
+  below-on {u = u} {o = o} e h = go (rw e at h)
+    where
+      go : Below m (Ls.Inside u o) → (u < m) × (0 < o)
+      go (inside-below low some) = (low, some)
 
 -- ---- edges
 
@@ -97,11 +107,14 @@ lows-more low h = record {
   each = λ i least more. let l = h .each i least more in omega arith;
 }
 
+pub row-low : {f : List ℕ} {k j e m u : ℕ} → LowTypes f k e m → k ≤ j → j < e → u ≡ rowAt f j .a → u < m
+row-low {j = j} lows least more this = rw this (lows .each j least more)
+
 module _ {deeper : ℕ → ℕ → Bool} {size : ℕ → ℕ} {w m : ℕ} {starts ends : List ℕ} {f : List ℕ} {k e : ℕ}
     (edges : Edges deeper size w m starts ends) (lows : LowTypes f k e m) {j : ℕ} (least : k ≤ j) (more : j < e)
     {u : ℕ} (this : u ≡ rowAt f j .a) where
-  pub turn-low : u < m
-  turn-low = rw this (lows .each j least more)
+  turn-low : u < m
+  turn-low = row-low lows least more this
 
   abbrev here-on : ℕ → Bool
   here-on o = among deeper size (ownTypes f j (e - j)) o

@@ -86,12 +86,18 @@ module _ {t f plan : List ℕ} (typed : Typed t f plan) where
     pub own-few : LowTypes f (row .b) (row .b + row .c) ROWS
     own-few = lows-more (let few = typed .few in omega arith) own-low
 
-    pub base-few : row .a ≤ ROWS
-    base-few = go (row .a) on
+    pub base-low : row .a ≤ at
+    base-low = go (row .a) on
       where
-        go : (a : ℕ) → Based t at a → a ≤ ROWS
+        go : (a : ℕ) → Based t at a → a ≤ at
         go zero b = omega arith
-        go (suc k) (on-base l kind) = let few = typed .few in omega arith
+        go (suc k) (on-base l kind) = omega arith
+
+    pub base-room : row .a ≤ length plan
+    base-room = let few = typed .room in omega (arith, base-low)
+
+    pub base-few : row .a ≤ ROWS
+    base-few = let few = typed .few in omega (arith, base-low)
 
     pub base-lower : 0 < row .a → (row .a - 1 < at) × (rowAt t (row .a - 1) .kind ≡ 4)
     base-lower h = go (row .a) on h

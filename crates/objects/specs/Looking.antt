@@ -77,8 +77,3 @@ pub data Below (m : ℕ) : Look → Type 0 where
   yes-below : Below m Ls.Yes
   no-below : Below m Ls.No
   inside-below : {u o : ℕ} → u < m → 0 < o → Below m (Ls.Inside u o)
-
--- a look comes to this answer, by types below row m
-pub record Looks (deeper : ℕ → ℕ → Bool) (m : ℕ) (x : Look) (b : Bool) : Type 0 where
-  pub answer : settled deeper x ≡ b
-  pub lower : Below m x

@@ -14,10 +14,10 @@ ghost use Rattle.prelude.specs.Bits.{bitOf};
 ghost use Rattle.prelude.specs.Choice.{choose};
 ghost use Rattle.prelude.specs.Parts.{sum};
 ghost use Rattle.image.specs.Rows.{rowAt, rowsOf};
-ghost use Rattle.shapes.specs.Forms.{ownTypes};
+ghost use Rattle.shapes.specs.Forms.{ofBase, ownTypes};
 ghost use Rattle.shapes.specs.Sizes.{fieldsOf};
 ghost use Rattle.objects.specs.Begins.{partsOf, among as amongOf, beginsAt};
-ghost use Rattle.objects.specs.Looking.{held, Typed, Edges, AtEdges, Beyond, LowTypes, toldBy, settled, Looks};
+ghost use Rattle.objects.specs.Looking.{held, Typed, Edges, AtEdges, Beyond, LowTypes, toldBy, settled, Below};
 ghost use Rattle.objects.specs.Looking.{saidOfBase, lookInBase};
 ghost use Rattle.objects.specs.Tables.{ROWS, AllEdges};
 
@@ -97,26 +97,39 @@ fn among(
     ensures { λ x. ⌜ ((deeper : ℕ → ℕ → Bool) (m : ℕ)
         → Edges deeper (held (now (plan .entry))) w m (now (starts .entry)) (now (ends .entry))
         → LowTypes (now (f .entry)) k e m
-        → Looks deeper m x (amongOf deeper (held (now (plan .entry))) (ownTypes (now (f .entry)) k (e - k)) o)) ⌝ }
+        → settled deeper x ≡ amongOf deeper (held (now (plan .entry))) (ownTypes (now (f .entry)) k (e - k)) o) ⌝ }
+    ensures lower { λ x. ⌜ ((m : ℕ) → LowTypes (now (f .entry)) k e m → Below m x) ⌝ }
 {
     let mut j = k;
     let mut rest = o;
     while j < e {
         let u = image::a_at(f, j);
         let size = plan[u as usize];
-        if rest < size {
-            return Look::Inside(u as usize, rest);
-        }
-        j = j + 1;
-        if rest == size {
+        if rest <= size {
+            if rest < size {
+                return Look::Inside(u as usize, rest);
+            }
             if marked(ends, w, u) {
                 return Look::Yes;
             }
-            return told(among_first(f, plan, starts, w, j, e));
+            return told(among_first(f, plan, starts, w, j + 1, e));
         }
+        j = j + 1;
         rest = rest - size;
     }
     Look::No
+}
+
+// The size of a record's base, whose row plus 1 is a: the plan has that row.
+fn base_cells(plan: &[u32], a: u16) -> u32
+    requires { ⌜ a ≤ length (now plan) ⌝ }
+    ensures { λ x. ⌜ x ≡ ofBase 0 (held (now (plan .entry))) a ⌝ }
+{
+    if a == 0 {
+        return 0;
+    }
+    let base = (a as usize) - 1;
+    plan[base]
 }
 
 // What a table of type w says of a record's base, whose row plus 1 is a: the base's part is no object.
@@ -138,6 +151,7 @@ fn of_base(s: &Words, w: u16, a: u16) -> bool
 fn in_base(starts: &Words, w: u16, a: u16, o: u32) -> Look
     requires { ⌜ (w < ROWS) × (a ≤ ROWS) × (0 < a) ⌝ }
     ensures { λ x. ⌜ x ≡ lookInBase (now (starts .entry)) w a o ⌝ }
+    ensures lower { λ x. ⌜ ((m : ℕ) → a ≤ m → Below m x) ⌝ }
 {
     if o == 0 {
         return told(of_base(starts, w, a));
@@ -145,7 +159,8 @@ fn in_base(starts: &Words, w: u16, a: u16, o: u32) -> Look
     Look::Inside((a as usize) - 1, o)
 }
 
-// A look o cells into the fields of the record in row r: what is behind a base's start begins in the base as in a field.
+// A look o cells into the fields of the record in row r: what is behind a base's start begins in the base as in a
+// field.
 fn fields(
     t: &[u8],
     f: &[u8],
@@ -160,15 +175,16 @@ fn fields(
         × (rowAt (now t) r .kind ≡ 4) ⌝ }
     ensures { λ x. ⌜ (Edges (beginsAt (now (t .entry)) (now (f .entry)) w) (held (now (plan .entry))) w r
         (now (starts .entry)) (now (ends .entry))
-        → Looks (beginsAt (now (t .entry)) (now (f .entry)) w) r x
-        (amongOf (beginsAt (now (t .entry)) (now (f .entry)) w) (held (now (plan .entry)))
-        (fieldsOf (now (t .entry)) (now (f .entry)) r) o)) ⌝ }
+        → settled (beginsAt (now (t .entry)) (now (f .entry)) w) x
+        ≡ amongOf (beginsAt (now (t .entry)) (now (f .entry)) w) (held (now (plan .entry)))
+        (fieldsOf (now (t .entry)) (now (f .entry)) r) o) ⌝ }
+    ensures lower { λ x. ⌜ Below r x ⌝ }
 {
     let row = image::row_at(t, r);
     let a = row.a;
     let first = row.b as usize;
     let past = first + (row.c as usize);
-    let before = sizes::base_size(plan, a);
+    let before = base_cells(plan, a);
     if before < o {
         return among(f, plan, starts, ends, w, first, past, o - before);
     }
@@ -209,7 +225,8 @@ fn elements(plan: &[u32], starts: &Words, ends: &Words, w: u16, e: u16, n: u16, 
     requires { ⌜ (w < ROWS) × (e < ROWS) ⌝ }
     ensures { λ x. ⌜ ((deeper : ℕ → ℕ → Bool) (m : ℕ)
         → Edges deeper (held (now (plan .entry))) w m (now (starts .entry)) (now (ends .entry)) → e < m → 1 ≤ n
-        → Looks deeper m x (amongOf deeper (held (now (plan .entry))) (replicate n e) o)) ⌝ }
+        → settled deeper x ≡ amongOf deeper (held (now (plan .entry))) (replicate n e) o) ⌝ }
+    ensures lower { λ x. ⌜ ((m : ℕ) → e < m → Below m x) ⌝ }
 {
     let size = sizes::cell(plan, e as usize);
     if size == 0 {
@@ -244,9 +261,10 @@ fn parts(
     requires { ⌜ Typed (now t) (now f) (now plan) × (w < ROWS) × (r < rowsOf (now t)) ⌝ }
     ensures { λ x. ⌜ (Edges (beginsAt (now (t .entry)) (now (f .entry)) w) (held (now (plan .entry))) w r
         (now (starts .entry)) (now (ends .entry))
-        → Looks (beginsAt (now (t .entry)) (now (f .entry)) w) r x
-        (amongOf (beginsAt (now (t .entry)) (now (f .entry)) w) (held (now (plan .entry)))
-        (partsOf (now (t .entry)) (now (f .entry)) r) o)) ⌝ }
+        → settled (beginsAt (now (t .entry)) (now (f .entry)) w) x
+        ≡ amongOf (beginsAt (now (t .entry)) (now (f .entry)) w) (held (now (plan .entry)))
+        (partsOf (now (t .entry)) (now (f .entry)) r) o) ⌝ }
+    ensures lower { λ x. ⌜ Below r x ⌝ }
 {
     let row = image::row_at(t, r);
     let kind = row.kind;
@@ -295,9 +313,6 @@ fn reached(
         let Look::Inside(u, x) = look else {
             return is_yes(look);
         };
-        if at <= u {
-            return false;
-        }
         at = u;
         into = x;
     }
@@ -401,7 +416,7 @@ fn part_edges(t: &[u8], f: &[u8], plan: &[u32], starts: &Words, ends: &Words, r:
     }
     if kind == 4 {
         let base = base_edges(starts, ends, a);
-        let before = sizes::base_size(plan, a);
+        let before = base_cells(plan, a);
         return field_edges(f, plan, starts, ends, base, before, b, c);
     }
     EdgeWords { starts: 0, ends: 0 }

@@ -11,7 +11,7 @@ use lib.ListN.{length}
 use Rattle.prelude.specs.Choice.{_also_}
 use Rattle.prelude.specs.Cells.{Filled}
 use Rattle.prelude.proofs.Cells.{filled-at}
-use Rattle.prelude.proofs.Choice.{also-left, also-right, also-pass, also-yes}
+use Rattle.prelude.proofs.Choice.{also-left, also-right, also-pass, also-yes, also-first}
 use Rattle.image.specs.Rows.{rowsOf}
 use Rattle.frames.specs.Variables.{globalsOf}
 use Rattle.frames.specs.Procedures.{firstFrom, firstVariable}
@@ -112,11 +112,6 @@ procedure-low image ready there =
 
 -- ---- question 14
 
-also-last : (b : Bool) → (b also true) ≡ b
-unfolding _also_
-also-last true = refl
-also-last false = refl
-
 module _ (g : Program) (input store output : List ℤ) (r : RunResult) (n : ℕ) where
   pub question-unfinished : unfinished r ≡ false → question14 g input store output r n ≡ false
   unfolding question14
@@ -130,4 +125,4 @@ module _ (g : Program) (input store output : List ℤ) (r : RunResult) (n : ℕ)
       → question14 g input store output r n ≡ soundOf g (r .at) store
   unfolding question14
   question-sound first last =
-      also-pass _ first ∙ ap (λ b. soundOf g (r .at) store also b) last ∙ also-last (soundOf g (r .at) store)
+      also-pass _ first ∙ ap (λ b. soundOf g (r .at) store also b) last ∙ also-first (soundOf g (r .at) store) refl

@@ -19,6 +19,7 @@ use Rattle.semantics.proofs.Demand3.{program-accepted}
 use Rattle.asking.specs.Asking.{roomOf, objectAt}
 use Rattle.asking.specs.State.{naturalOf, chain, callKept, endsAt}
 use Rattle.asking.specs.Passes.{linked, Walked, newestBelow}
+use Rattle.asking.proofs.Objects.{object-older}
 use Rattle.access.specs.Ready.{Planned}
 use Rattle.unwinding.specs.declared.Spot.{Spot}
 use Rattle.unwinding.specs.Links.{callerOf, spotOf}
@@ -91,10 +92,6 @@ module _ (g : Program) where
   unfolding newestBelow
   below-older q qs at h = choose-no _ _ _ (le-ltb _ _ h)
 
-  pub object-older : (w q : ℕ) (qs : List ℕ) (at : ℕ) → at ≤ roomOf g qs → objectAt g w (q ∷ qs) at ≡ objectAt g w qs at
-  unfolding objectAt
-  object-older w q qs at h = choose-no _ _ _ (le-ltb (roomOf g qs) at h)
-
   -- this frame begins below the address
   newest-here : {q : ℕ} {qs : List ℕ} {store : List ℤ} {b e : ℕ} → Walked g (q ∷ qs) store b e → (at : ℕ) → b < at
       → Newest g (q ∷ qs) store e at (record { procedure = q; base = b })
@@ -121,7 +118,7 @@ module _ (g : Program) where
         walked = n .walked;
         below = n .below;
         packed = below-older q (c ∷ qs) at (omega arith) ∙ n .packed;
-        object = λ w a h. object-older w q (c ∷ qs) a (omega arith) ∙ n .object w a h;
+        object = λ w a h. object-older g w q (c ∷ qs) a (omega arith) ∙ n .object w a h;
       }
 
   some-newest : (qs : List ℕ) {store : List ℤ} {b e : ℕ} (at : ℕ) → Walked g qs store b e → roomOf g [] < at

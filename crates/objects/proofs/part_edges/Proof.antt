@@ -3,7 +3,7 @@ use denote.Ref.{now}
 use borrow.Author.Needs.{needs}
 use Rattle.shapes.specs.Forms.{ofBase}
 use Rattle.shapes.specs.Sizes.{fieldsOf}
-use Rattle.objects.proofs.Records.{own-low, own-few, base-few, base-cells-is}
+use Rattle.objects.proofs.Records.{own-low, own-few, base-few, base-room, base-cells-is}
 use Rattle.objects.proofs.Deciding.{element-few}
 use Rattle.objects.proofs.Filling.{at-none, at-array, at-base, at-record}
 use Rattle.objects.proofs.part_edges.Statement.{statement}
@@ -13,7 +13,7 @@ use Rattle.objects.proofs.part_edges.Lts as lts
 use Rattle.image.proofs.row_at.Reads as row-at-reads
 use Rattle.objects.proofs.base_edges.Reads as base-edges-reads
 use Rattle.objects.proofs.field_edges.Reads as field-edges-reads
-use Rattle.sizes.proofs.base_size.Reads as base-size-reads
+use Rattle.objects.proofs.base_cells.Reads as base-cells-reads
 
 row-at-requires : tie.Need-row-at-requires
 row-at-requires c κs = search needs
@@ -49,8 +49,10 @@ base-edges-requires c κs = let s = c .before .before .before .before .before .b
     let row = c .before .before .row-at .ensures in
     base-few (s .pre .0) (s .args .r) (s .pre .1) (rw (← row) (c .if2 .taken)) row
 
-base-size-requires : tie.Need-base-size-requires
-base-size-requires c κs = search needs
+base-cells-requires : tie.Need-base-cells-requires
+base-cells-requires c κs = let s = c .before .before .before .before .before .before .before in
+    let row = c .before .before .before .row-at .ensures in
+    base-room (s .pre .0) (s .args .r) (s .pre .1) (rw (← row) (c .before .if2 .taken)) row
 
 field-edges-requires : tie.Need-field-edges-requires
 field-edges-requires c κs = let s = c .before .before .before .before .before .before .before .before in
@@ -62,7 +64,7 @@ returns-2 c = let s = c .before .before .before .before .before .before .before 
     let a = c .before .before .before .before .before .row-at .result .a in
     let row = c .before .before .before .before .before .row-at .ensures in
     let kind = c .before .before .before .if2 .taken in
-    let size = c .before .base-size .ensures in
+    let size = c .before .base-cells .ensures in
     let base = c .before .before .base-edges .ensures in
     λ w edges.
     at-record (s .pre .0) w (s .args .r) (s .pre .1) row edges kind
@@ -90,7 +92,7 @@ part-edges-spec =
     element-copy-out-last
     returns
     base-edges-requires
-    base-size-requires
+    base-cells-requires
     field-edges-requires
     returns-2
     returns-3)

@@ -1,5 +1,7 @@
-use Rattle.objects.proofs.Looks.{looks-no, looks-same}
-use Rattle.objects.proofs.Deciding.{element-few, part-array, part-record, part-none}
+use mathlib.Core.Path.{_∙_}
+use Rattle.objects.specs.Looking.{Below.no-below}
+use Rattle.objects.proofs.Looks.{looks-no}
+use Rattle.objects.proofs.Deciding.{element-low, element-few, part-array, part-record, part-none}
 use borrow.Author.Needs.{needs}
 use Rattle.objects.proofs.parts.Statement.{statement}
 use Rattle.objects.proofs.parts.Tie as tie
@@ -19,10 +21,13 @@ elements-requires c κs = let s = c .before .before .before .before .before in
 returns : tie.Need-returns
 returns c = let s = c .before .before .before .before .before .before in
     let row = c .before .before .row-at .ensures in
-    λ edges.
-    let (low, least, same) = part-array (s .pre .0) (s .args .r) (s .pre .2) row _ (s .args .o)
-    (c .before .if1 .taken) in
-    looks-same same (c .elements .ensures _ (s .args .r) edges low least)
+    let low = element-low (s .pre .0) (s .args .r) (s .pre .2) row (c .before .if1 .taken) in (
+      λ edges.
+          let (least, same) = part-array (s .pre .0) (s .args .r) (s .pre .2) row _ (s .args .o)
+          (c .before .if1 .taken) in
+          c .elements .ensures .0 _ (s .args .r) edges low least ∙ same,
+      c .elements .ensures .1 (s .args .r) low,
+    )
 
 fields-requires : tie.Need-fields-requires
 fields-requires c κs = let s = c .before .before .before .before .before .before in
@@ -30,17 +35,21 @@ fields-requires c κs = let s = c .before .before .before .before .before .befor
 
 returns-2 : tie.Need-returns-2
 returns-2 c = let s = c .before .before .before .before .before .before .before in
-    let row = c .before .before .before .row-at .ensures in
-    λ edges.
-    looks-same (part-record (s .pre .0) (s .args .r) (s .pre .2) row _ (s .args .o) (c .before .if2 .taken))
-    (c .fields .ensures edges)
+    let row = c .before .before .before .row-at .ensures in (
+      λ edges.
+          c .fields .ensures .0 edges
+          ∙ part-record (s .pre .0) (s .args .r) (s .pre .2) row _ (s .args .o) (c .before .if2 .taken),
+      c .fields .ensures .1,
+    )
 
 returns-3 : tie.Need-returns-3
 returns-3 c = let s = c .before .before .before .before .before .before in
-    let row = c .before .before .row-at .ensures in
-    λ edges.
-    looks-no (part-none (s .pre .0) (s .args .r) (s .pre .2) row _ (s .args .o) (c .before .if1 .left)
-    (c .if2 .left))
+    let row = c .before .before .row-at .ensures in (
+      λ edges.
+          looks-no _ (part-none (s .pre .0) (s .args .r) (s .pre .2) row _ (s .args .o) (c .before .if1 .left)
+          (c .if2 .left)),
+      no-below,
+    )
 
 pub parts-spec : {M : Type 1} → statement M
 parts-spec =

@@ -4,7 +4,7 @@ use Prim.Native.Nat.{_≤_}
 use native.Mathlib.Omega.{arith}
 use Rattle.objects.specs.Begins.{partsOf, among, beginsAt}
 use Rattle.objects.specs.Looking.{held, Edges}
-use Rattle.objects.proofs.Looks.{edges-less, looks-on, looks-end}
+use Rattle.objects.proofs.Looks.{edges-less, looks-on, looks-end, below-on}
 use Rattle.objects.proofs.Records.{in-table}
 use Rattle.objects.proofs.Deciding.{by-inner}
 use Rattle.objects.proofs.reached.Statement.{statement}
@@ -38,28 +38,22 @@ is-yes-requires c κs = search needs
 returns : tie.Need-returns Inv-loop μ-loop
 returns c = let l = c .before .before .before .loop in
     λ edges.
-    looks-end (c .is-yes .ensures) (c .before .match .keys2)
-    (c .before .before .parts .ensures (edges-less (l .inv .0) edges))
+    looks-end _ _ (c .is-yes .ensures) (c .before .match .keys2)
+    (c .before .before .parts .ensures .0 (edges-less (l .inv .0) edges))
     ∙ sym (l .inv .1 edges)
 
-returns-2 : tie.Need-returns-2 Inv-loop μ-loop
-returns-2 c = let l = c .before .before .before .before .before .loop in
-    λ edges.
-    let (same, less, some) = looks-on (c .before .before .look .given .1)
-    (c .before .before .before .before .parts .ensures (edges-less (l .inv .0) edges)) in
-    absurd (omega arith)
-
 loop-less : tie.Need-loop-less Inv-loop μ-loop
-loop-less c = omega arith
+loop-less c = below-on (c .before .look .given .1) (c .before .before .before .parts .ensures .1) .0
 
 loop-again : tie.Need-loop-again Inv-loop μ-loop
-loop-again c = let n = c .before .before .before .before .before in
+loop-again c = let n = c .before .before .before .before in
     let l = n .loop in
-    let s = n .before .before .before .before in (
+    let s = n .before .before .before .before in
+    let (less, some) = below-on (c .before .look .given .1) (c .before .before .before .parts .ensures .1) in (
       omega arith,
       λ edges.
-          let (same, less, some) = looks-on (c .before .before .look .given .1)
-          (c .before .before .before .before .parts .ensures (edges-less (l .inv .0) edges)) in
+          let same = looks-on _ (c .before .look .given .1)
+          (c .before .before .before .parts .ensures .0 (edges-less (l .inv .0) edges)) in
           l .inv .1 edges ∙ sym same ∙ by-inner (s .pre .0) (s .args .w) _ (omega arith) _ (omega arith),
     )
 
@@ -74,6 +68,5 @@ reached-spec =
     enum-known-look
     is-yes-requires
     returns
-    returns-2
     loop-less
     loop-again)
