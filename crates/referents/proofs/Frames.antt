@@ -21,7 +21,7 @@ use Rattle.objects.specs.Begins.{beginsAt}
 use Rattle.objects.proofs.Beginning.{begins-past}
 use Rattle.asking.specs.Asking.{roomOf, objectIn, objectAt}
 use Rattle.asking.specs.Passes.{Walked}
-use Rattle.asking.proofs.Objects.{older-yes}
+use Rattle.asking.proofs.Objects.{object-older}
 use Rattle.unwinding.specs.declared.Spot.{Spot}
 use Rattle.unwinding.specs.Going.{Newest, Oldest, Oldest.all, Oldest.newer}
 use Rattle.unwinding.proofs.Walking.{room-more, walked-base, walked-procedure, walked-older}
@@ -94,7 +94,7 @@ module _ (g : Program) where
         → objectAt g w qs at ≡ objectAt g w older at
     object-oldest all at h = refl
     object-oldest (newer {q = q} {qs = qs} o) at h =
-        older-yes g ok w q qs at (omega (arith, room-oldest o)) ∙ object-oldest o at h
+        object-older g w q qs at (omega (arith, room-oldest o)) ∙ object-oldest o at h
 
     -- ---- in the frame that an address lies in
 
@@ -108,7 +108,7 @@ module _ (g : Program) where
     unfolding objectAt
     object-global [] at h = refl
     object-global (q ∷ qs) at h =
-        older-yes g ok w q qs at (omega (arith, room-oldest (oldest-none qs))) ∙ object-global qs at h
+        object-older g w q qs at (omega (arith, room-oldest (oldest-none qs))) ∙ object-global qs at h
 
     -- above it: in the newest frame that begins below the address
     frame-object : (q : ℕ) (qs : List ℕ) (at : ℕ) → roomOf g qs < at → objectAt g w (q ∷ qs) at
