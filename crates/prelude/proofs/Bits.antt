@@ -1,13 +1,13 @@
 -- Every bit of words that are put together.
 use mathlib.Core.Path.{_≡_, refl, sym, ap, _∙_}
-use mathlib.Core.Bool.{Bool, true, false, not, _||_, Bool·beq}
+use mathlib.Core.Bool.{Bool, true, false, not, _&&_, _||_, Bool·beq}
 use Prim.Native.Nat.{ℕ, zero, suc, _+_, _-_, _*_, _/_, _%_, _^_, _<_}
 use native.Mathlib.Omega.{arith}
 use native.Mathlib.Decide.{decLt}
 use native.Mathlib.Nat.{mod-lt, zero-div, div-eq-of-lt, mul-mod-right, pow-succ'}
 use borrow.Author.Tests.{eq-eqb, ne-eqb}
 use lib.Pow.{pow-lt, pow-add, shl-shr}
-use lib.Bits.{bitOr, bitXor, or-shr, xor-shr, or-mod, xor-mod}
+use lib.Bits.{bitAnd, bitOr, bitXor, and-shr, or-shr, xor-shr, and-mod, or-mod, xor-mod}
 use lib.Dec.{eqb}
 use Rattle.prelude.specs.Bits.{bitOf}
 
@@ -42,6 +42,9 @@ module _ (f : ℕ → ℕ → ℕ) (g : Bool → Bool → Bool)
 
 pub bit-or : (i a b : ℕ) → bitOf (bitOr a b) i ≡ (bitOf a i || bitOf b i)
 bit-or = bit-by bitOr _||_ or-shr or-mod refl refl refl refl
+
+pub bit-and : (i a b : ℕ) → bitOf (bitAnd a b) i ≡ (bitOf a i && bitOf b i)
+bit-and = bit-by bitAnd _&&_ and-shr and-mod refl refl refl refl
 
 pub bit-xor : (i a b : ℕ) → bitOf (bitXor a b) i ≡ not (Bool·beq (bitOf a i) (bitOf b i))
 bit-xor = bit-by bitXor (λ p q. not (Bool·beq p q)) xor-shr xor-mod refl refl refl refl

@@ -1,4 +1,5 @@
 -- The definitions that the cases open, so that they compute, in bundles: a case names the bundles.
+use Rattle.prelude.specs.Bits.{bitOf}
 use Rattle.prelude.specs.Choice.{choose, _also_}
 use Rattle.prelude.specs.Parts.{joined, sum}
 use Rattle.prelude.specs.Rec.{below, turns, rec}
@@ -8,7 +9,7 @@ use Rattle.values.specs.Values.{kindOf, isInteger, isSet, trapNumber, numberOf 
 use Rattle.values.specs.Values.{integerCell, setCell, cellOf, signedOf, constantOf, bind}
 use Rattle.kinds.specs.Kinds.{integersKind, setsKind, booleansKind, dyadicKind, monadicKind}
 use Rattle.integers.specs.Integers.{integerOf, divOf, modOf, dividedBy, arithmeticOf}
-use Rattle.sets.specs.Sets.{memberOf, elementsOf, rangeOf, complementOf}
+use Rattle.sets.specs.Sets.{isElement, memberOf, elementsOf, rangeOf, complementOf}
 use Rattle.operators.specs.Operators.{compareOf, equalZ, integersOf, setsOf, booleansOf, membershipOf, dyadicOf}
 use Rattle.operators.specs.Operators.{monadicOf, decides, appliedTo}
 use Rattle.shapes.specs.Forms.{formOf, form, baseOf, countOf, ofBase, ownTypes}
@@ -70,11 +71,13 @@ sizes = tt
 
 -- values
 unfoldable pub integers : Unit {0}
-unfolding isInteger trapNumber integerOf divOf modOf dividedBy arithmeticOf compareOf equalZ integersOf rangeOf
+unfolding isInteger trapNumber integerOf divOf modOf dividedBy arithmeticOf compareOf equalZ isElement rangeOf
+    integersOf
 integers = tt
 
 unfoldable pub operators : Unit {0}
-unfolding bind memberOf elementsOf complementOf setsOf booleansOf membershipOf dyadicOf monadicOf decides appliedTo
+unfolding bind bitOf memberOf elementsOf complementOf setsOf booleansOf membershipOf dyadicOf monadicOf decides
+    appliedTo
 operators = tt
 
 unfoldable pub values : Unit {0}

@@ -1,68 +1,21 @@
--- "SET has bit i for element i": the elements of what the operators on SETs give.
+-- "SET has bit i for element i": the elements of a range, a complement and a difference. Those of a union, an
+-- intersection and a symmetric difference are laws of bits (prelude's Bits).
 use mathlib.Core.Path.{_≡_, refl, sym, ap, _∙_}
-use mathlib.Core.Bool.{Bool, true, false, not, _&&_, _||_, Bool·beq}
-use Prim.Native.Nat.{ℕ, zero, suc, _+_, _-_, _*_, _/_, _%_, _^_, _<_, _≤_}
+use mathlib.Core.Bool.{Bool, true, false, not, _&&_, Bool·beq}
+use Prim.Native.Nat.{ℕ, suc, _+_, _-_, _*_, _/_, _%_, _^_, _<_, _≤_}
 use native.Mathlib.Omega.{arith}
-use native.Mathlib.Nat.{mod-lt, mod-eq-of-lt, zero-div, div-eq-of-lt, div-eq-of-lt-le, div-eq-of-eq-mul-left}
+use native.Mathlib.Nat.{mod-eq-of-lt, zero-div, div-eq-of-lt, div-eq-of-lt-le, div-eq-of-eq-mul-left}
 use native.Mathlib.Nat.{mul-add-mod-self-left, mul-mod-right, pow-succ', add-mul, suc-mul}
 use native.Mathlib.Numerals.{add-one}
-use borrow.Author.Tests.{ltb-true, ltb-false, lt-ltb}
+use borrow.Author.Tests.{ltb-true, ltb-false}
 use lib.Pow.{pow-pos, pow-mono, pow-add}
-use lib.Bits.{bitAnd, bitOr, bitXor, and-shr, or-shr, xor-shr, and-mod, or-mod, xor-mod, and-mask, xor-add-and}
+use lib.Bits.{bitAnd, bitXor, and-mask, xor-add-and}
 use lib.Dec.{leb, ltb, eqb}
-use lib.IntN.{ℤ, pos, negsuc}
+use Rattle.prelude.specs.Bits.{bitOf}
 use Rattle.prelude.specs.Choice.{choose}
-use Rattle.sets.specs.Sets.{memberOf, elementsOf, complementOf}
+use Rattle.prelude.proofs.Bits.{bit-and, bit-xor}
+use Rattle.sets.specs.Sets.{elementsOf, complementOf}
 use Rattle.values.proofs.Numbers.{inside, under, over}
-
--- ---- an operator that takes two SETs bit by bit
-
--- two bits, and what f and g make of them
-bits-by : (f : ℕ → ℕ → ℕ) (g : Bool → Bool → Bool)
-    → (eqb (f 0 0) 1 ≡ g false false) → (eqb (f 0 1) 1 ≡ g false true)
-    → (eqb (f 1 0) 1 ≡ g true false) → (eqb (f 1 1) 1 ≡ g true true)
-    → (a b : ℕ) → a < 2 → b < 2 → eqb (f a b) 1 ≡ g (eqb a 1) (eqb b 1)
-bits-by f g ff ft tf tt zero zero p q = ff
-bits-by f g ff ft tf tt zero (suc zero) p q = ft
-bits-by f g ff ft tf tt (suc zero) zero p q = tf
-bits-by f g ff ft tf tt (suc zero) (suc zero) p q = tt
-bits-by f g ff ft tf tt (suc (suc a)) b p q = absurd (omega arith)
-bits-by f g ff ft tf tt zero (suc (suc b)) p q = absurd (omega arith)
-bits-by f g ff ft tf tt (suc zero) (suc (suc b)) p q = absurd (omega arith)
-
-module _ (f : ℕ → ℕ → ℕ) (g : Bool → Bool → Bool)
-    (shr : (a b k : ℕ) → f a b / 2 ^ k ≡ f (a / 2 ^ k) (b / 2 ^ k))
-    (low : (a b : ℕ) → f a b % 2 ≡ f (a % 2) (b % 2))
-    (bits : (a b : ℕ) → a < 2 → b < 2 → eqb (f a b) 1 ≡ g (eqb a 1) (eqb b 1))
-    (none : g false false ≡ false) where
-  by-bits : (x : ℤ) (s t : ℕ) → memberOf x (f s t) ≡ g (memberOf x s) (memberOf x t)
-  unfolding memberOf choose
-  by-bits (negsuc i) s t = sym none
-  by-bits (pos i) s t = go (ltb i 32)
-    where
-      bit : eqb (f s t / 2 ^ i % 2) 1 ≡ g (eqb (s / 2 ^ i % 2) 1) (eqb (t / 2 ^ i % 2) 1)
-      bit =
-          ap (λ n. eqb n 1) (ap (λ n. n % 2) (shr s t i) ∙ low (s / 2 ^ i) (t / 2 ^ i))
-          ∙ bits (s / 2 ^ i % 2) (t / 2 ^ i % 2) (mod-lt (s / 2 ^ i) (omega arith)) (mod-lt (t / 2 ^ i) (omega arith))
-
-      go : (b : Bool) → choose b (eqb (f s t / 2 ^ i % 2) 1) false
-          ≡ g (choose b (eqb (s / 2 ^ i % 2) 1) false) (choose b (eqb (t / 2 ^ i % 2) 1) false)
-      go true = bit
-      go false = sym none
-
--- union, intersection, symmetric difference
-pub member-union : (x : ℤ) (s t : ℕ) → memberOf x (bitOr s t) ≡ (memberOf x s || memberOf x t)
-member-union = by-bits bitOr _||_ or-shr (λ a b. or-mod a b 1) (bits-by bitOr _||_ refl refl refl refl) refl
-
-pub member-intersection : (x : ℤ) (s t : ℕ) → memberOf x (bitAnd s t) ≡ (memberOf x s && memberOf x t)
-member-intersection = by-bits bitAnd _&&_ and-shr (λ a b. and-mod a b 1) (bits-by bitAnd _&&_ refl refl refl refl) refl
-
-abbrev differs : Bool → Bool → Bool
-differs p q = not (Bool·beq p q)
-
-pub member-symmetric : (x : ℤ) (s t : ℕ) → memberOf x (bitXor s t) ≡ not (Bool·beq (memberOf x s) (memberOf x t))
-member-symmetric =
-    by-bits bitXor differs xor-shr (λ a b. xor-mod a b 1) (bits-by bitXor differs refl refl refl refl) refl
 
 -- ---- range
 
@@ -115,9 +68,9 @@ module _ (a b i : ℕ) (h : a ≤ b) where
       ap (λ n. n % 2) (div-eq-of-lt (omega arith))
 
 -- the elements of a..b are the numbers from a to b
-pub member-elements : (i a b : ℕ) → i < 32 → memberOf (pos i) (elementsOf a b) ≡ (leb a i && leb i b)
-unfolding memberOf elementsOf choose
-member-elements i a b h = rw (lt-ltb i 32 h) (go (ltb b a) (ltb i a) (ltb b i) refl refl refl)
+pub member-elements : (i a b : ℕ) → bitOf (elementsOf a b) i ≡ (leb a i && leb i b)
+unfolding bitOf elementsOf choose
+member-elements i a b = go (ltb b a) (ltb i a) (ltb b i) refl refl refl
   where
     go : (r s t : Bool) → ltb b a ≡ r → ltb i a ≡ s → ltb b i ≡ t
         → eqb (choose r 0 (2 ^ (b + 1) - 2 ^ a) / 2 ^ i % 2) 1 ≡ (leb a i && leb i b)
@@ -139,22 +92,20 @@ complement-xor : (s : ℕ) → s < 4294967296 → complementOf s ≡ bitXor s 42
 unfolding complementOf
 complement-xor s h = omega (arith, xor-add-and s 4294967295, and-mask s 32, mod-eq-of-lt h)
 
-all-members : (i : ℕ) → i < 32 → memberOf (pos i) 4294967295 ≡ true
+all-members : (i : ℕ) → i < 32 → bitOf 4294967295 i ≡ true
 unfolding elementsOf choose
-all-members i h = member-elements i 0 31 h ∙ inside 0 31 i (omega arith) h
+all-members i h = member-elements i 0 31 ∙ inside 0 31 i (omega arith) h
 
-pub member-complement : (i s : ℕ) → i < 32 → s < 4294967296
-    → memberOf (pos i) (complementOf s) ≡ not (memberOf (pos i) s)
+pub member-complement : (i s : ℕ) → i < 32 → s < 4294967296 → bitOf (complementOf s) i ≡ not (bitOf s i)
 member-complement i s h k =
-    ap (memberOf (pos i)) (complement-xor s k) ∙ member-symmetric (pos i) s 4294967295
-    ∙ ap (differs (memberOf (pos i) s)) (all-members i h) ∙ other (memberOf (pos i) s)
+    ap (λ word. bitOf word i) (complement-xor s k) ∙ bit-xor i s 4294967295
+    ∙ ap (λ b. not (Bool·beq (bitOf s i) b)) (all-members i h) ∙ other (bitOf s i)
   where
-    other : (b : Bool) → differs b true ≡ not b
+    other : (b : Bool) → not (Bool·beq b true) ≡ not b
     other true = refl
     other false = refl
 
 pub member-difference : (i s t : ℕ) → i < 32 → t < 4294967296
-    → memberOf (pos i) (bitAnd s (complementOf t)) ≡ (memberOf (pos i) s && not (memberOf (pos i) t))
+    → bitOf (bitAnd s (complementOf t)) i ≡ (bitOf s i && not (bitOf t i))
 member-difference i s t h k =
-    member-intersection (pos i) s (complementOf t)
-    ∙ ap (λ b. memberOf (pos i) s && b) (member-complement i t h k)
+    bit-and i s (complementOf t) ∙ ap (λ b. bitOf s i && b) (member-complement i t h k)

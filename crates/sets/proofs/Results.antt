@@ -1,25 +1,33 @@
 -- What a range and a complement give: a SET in its range, or a trap.
-use mathlib.Core.Path.{_≡_, refl}
+use mathlib.Core.Path.{_≡_, sym}
 use mathlib.Core.Bool.{Bool, true, false}
-use Prim.Native.Nat.{ℕ, _+_, _-_, _^_, _<_, _≤_}
+use Prim.Native.Nat.{ℕ, _+_, _-_, _^_, _<_}
 use native.Mathlib.Omega.{arith}
-use borrow.Author.Tests.{ltb-true, le-ltb}
+use borrow.Author.Tests.{ltb-true, le-ltb, le-leb}
 use lib.Pow.{pow-mono}
 use lib.Dec.{ltb}
-use lib.IntN.{ℤ, pos, negsuc}
-use Rattle.prelude.specs.Choice.{choose}
+use lib.IntN.{ℤ, pos, negsuc, natAbs}
+use lib.Signed.{ltZ}
+use Rattle.prelude.specs.Choice.{choose, _also_}
+use Rattle.prelude.proofs.Choice.{clash, also-true}
 use Rattle.values.specs.Values.{SET, Gives}
-use Rattle.sets.specs.Sets.{elementsOf, rangeOf, complementOf}
+use Rattle.sets.specs.Sets.{isElement, elementsOf, rangeOf, complementOf}
 use Rattle.values.specs.Values.Gives.{trapped}
 use Rattle.values.specs.declared.Trap.the-variants as Ts
 use Rattle.values.specs.declared.Value.the-variants as Vs
 use Rattle.values.specs.declared.Answer.the-variants as As
 use Rattle.values.proofs.Giving.{gives-set, gives-one}
 
-pub range-low : (a : ℕ) (y : ℤ) → 32 ≤ a → rangeOf (pos a) y ≡ As.Trap Ts.Bound
-unfolding rangeOf choose
-range-low a (pos b) h = rw (le-ltb a 32 h)
-range-low a (negsuc b) h = refl
+-- a number from 0 to 31, by the test
+pub element-not-negative : (x : ℤ) → isElement x ≡ true → ltZ x (pos 0) ≡ false
+unfolding isElement
+element-not-negative (pos i) h = le-ltb i 0 (omega arith)
+element-not-negative (negsuc i) h = clash (sym h)
+
+pub element-below : (x : ℤ) → isElement x ≡ true → natAbs x < 32
+unfolding isElement
+element-below (pos i) h = ltb-true i 32 (rw (le-leb 0 i (omega arith)) at h)
+element-below (negsuc i) h = clash (sym h)
 
 elements-fit : (a b : ℕ) → b < 32 → elementsOf a b < 4294967296
 unfolding elementsOf choose
@@ -32,12 +40,9 @@ elements-fit a b h = go (ltb b a)
 
 pub range-gives : (x y : ℤ) → Gives SET (rangeOf x y)
 unfolding rangeOf
-range-gives (negsuc a) y = trapped
-range-gives (pos a) (negsuc b) = trapped
-range-gives (pos a) (pos b) =
-    gives-one (ltb a 32)
-    (λ h. gives-one (ltb b 32) (λ k. gives-set (elementsOf a b) (elements-fit a b (ltb-true b 32 k))) (λ k. trapped))
-    (λ h. trapped)
+range-gives x y =
+    gives-one (isElement x also isElement y)
+    (λ h. gives-set _ (elements-fit _ _ (element-below y (also-true (isElement x) (isElement y) h .1)))) (λ h. trapped)
 
 pub complement-gives : (s : ℕ) → Gives SET (As.Val (Vs.Set (complementOf s)))
 unfolding complementOf

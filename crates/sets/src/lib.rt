@@ -4,19 +4,23 @@ use values::Trap;
 use values::Value;
 ghost use mathlib.Core.Path.{_≡_};
 ghost use Prim.Native.Nat.{_<_};
-ghost use Rattle.sets.specs.Sets.{memberOf, elementsOf, rangeOf, complementOf};
+ghost use Rattle.sets.specs.Sets.{isElement, memberOf, elementsOf, rangeOf, complementOf};
+
+// Whether x is an element that a SET can have.
+fn is_element(x: i32) -> bool
+    ensures { λ r. ⌜ r ≡ isElement x ⌝ }
+{
+    (0 <= x) & (x < 32)
+}
 
 // Whether x is an element of s.
 pub fn member(x: i32, s: u32) -> bool
     ensures { λ r. ⌜ r ≡ memberOf x s ⌝ }
 {
-    if x < 0 {
+    if !is_element(x) {
         return false;
     }
     let i = x as u32;
-    if 32 <= i {
-        return false;
-    }
     (s >> i) % 2 == 1
 }
 
@@ -37,20 +41,14 @@ fn elements(a: u32, b: u32) -> u32
 pub fn range(x: i32, y: i32) -> Answer
     ensures { λ r. ⌜ r ≡ rangeOf x y ⌝ }
 {
-    if x < 0 {
+    if !is_element(x) {
+        return Answer::Trap(Trap::Bound);
+    }
+    if !is_element(y) {
         return Answer::Trap(Trap::Bound);
     }
     let a = x as u32;
-    if 32 <= a {
-        return Answer::Trap(Trap::Bound);
-    }
-    if y < 0 {
-        return Answer::Trap(Trap::Bound);
-    }
     let b = y as u32;
-    if 32 <= b {
-        return Answer::Trap(Trap::Bound);
-    }
     Answer::Val(Value::Set(elements(a, b)))
 }
 

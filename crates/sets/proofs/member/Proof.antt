@@ -1,37 +1,41 @@
 -- `sets::member` meets its contract: a shift brings the bit down.
-use borrow.Author.Tests.{lt-ltb, le-ltb}
-use Rattle.prelude.specs.Choice.{choose}
-use Rattle.sets.specs.Sets.{memberOf}
-use Rattle.values.proofs.Numbers.{plain32, to-unsigned, neg-is, pos-is}
+use mathlib.Core.Path.{_≡_, sym, _∙_}
+use mathlib.Core.Bool.{true}
+use borrow.Author.Tests.{not-true, not-false}
+use Rattle.prelude.specs.Bits.{bitOf}
+use Rattle.prelude.proofs.Choice.{also-left, also-pass}
+use Rattle.sets.specs.Sets.{isElement, memberOf}
+use Rattle.values.proofs.Numbers.{plain32, to-unsigned}
+use Rattle.sets.proofs.Results.{element-not-negative, element-below}
 use borrow.Author.Needs.{needs}
 use Rattle.sets.proofs.member.Statement.{statement}
 use Rattle.sets.proofs.member.Tie as tie
 
+is-element-requires : tie.Need-is-element-requires
+is-element-requires c κs = search needs
+
 returns : tie.Need-returns
 unfolding memberOf
-returns c = rw (neg-is (c .before .args .x) (rw (plain32 _ (c .before .fits .x)) at (c .if1 .taken)))
+returns c =
+    let s = c .before .before in
+    let e = plain32 _ (s .fits .x) in
+    sym (also-left _ (rw e at (sym (c .before .is-element .ensures) ∙ not-true _ (c .if1 .taken))))
+
+element : (c : tie.Else1) → isElement (c .before .before .args .x) ≡ true
+element c =
+    rw (plain32 _ (c .before .before .fits .x)) at (sym (c .before .is-element .ensures) ∙ not-false _ (c .if1 .left))
 
 cast-i : tie.Need-cast-i
 cast-i c =
-    let e = plain32 _ (c .before .fits .x) in
-    rw e (to-unsigned _ (rw e at (c .if1 .left)) (c .before .fits .x))
-
-returns-2 : tie.Need-returns-2
-unfolding memberOf choose
-returns-2 c =
     let s = c .before .before in
-    let e = plain32 _ (s .fits .x) in
-    rw (pos-is (s .args .x) (rw e at (c .before .if1 .left)), le-ltb _ 32 (rw e at (c .if2 .taken)))
+    rw (plain32 _ (s .fits .x)) (to-unsigned _ (element-not-negative _ (element c)) (s .fits .x))
 
 shr-result : tie.Need-shr-result
-shr-result c = search needs
+shr-result c = rw (plain32 _ (c .before .before .fits .x)) (element-below _ (element c))
 
-returns-3 : tie.Need-returns-3
-unfolding memberOf choose
-returns-3 c =
-    let s = c .before .before in
-    let e = plain32 _ (s .fits .x) in
-    rw (e, pos-is (s .args .x) (rw e at (c .before .if1 .left)), lt-ltb _ 32 (rw e at (c .if2 .left)))
+returns-2 : tie.Need-returns-2
+unfolding memberOf bitOf
+returns-2 c = rw (plain32 _ (c .before .before .fits .x)) (sym (also-pass _ (element c)))
 
 pub member-spec : {M : Type 1} → statement M
-member-spec = tie.close (tie.spec returns cast-i returns-2 shr-result returns-3)
+member-spec = tie.close (tie.spec is-element-requires returns cast-i shr-result returns-2)

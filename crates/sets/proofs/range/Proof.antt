@@ -1,68 +1,69 @@
 -- `sets::range` meets its contract: by the tests of the bounds.
-use mathlib.Core.Path.{sym}
-use borrow.Author.Tests.{lt-ltb, le-ltb}
+use mathlib.Core.Path.{_≡_, sym, _∙_}
+use mathlib.Core.Bool.{true}
+use borrow.Author.Tests.{not-true, not-false}
 use Rattle.prelude.specs.Choice.{choose}
-use Rattle.sets.specs.Sets.{rangeOf}
-use Rattle.values.proofs.Numbers.{plain32, to-unsigned, neg-is, pos-is}
-use Rattle.sets.proofs.Results.{range-low}
+use Rattle.prelude.proofs.Choice.{also-left, also-right, also-yes}
+use Rattle.sets.specs.Sets.{isElement, rangeOf}
+use Rattle.values.proofs.Numbers.{plain32, to-unsigned}
+use Rattle.sets.proofs.Results.{element-not-negative, element-below}
 use borrow.Author.Needs.{needs}
 use Rattle.sets.proofs.range.Statement.{statement}
 use Rattle.sets.proofs.range.Tie as tie
 
+is-element-requires : tie.Need-is-element-requires
+is-element-requires c κs = search needs
+
 returns : tie.Need-returns
-unfolding rangeOf
-returns c = rw (neg-is (c .before .args .x) (rw (plain32 _ (c .before .fits .x)) at (c .if1 .taken)))
+unfolding rangeOf choose
+returns c =
+    let s = c .before .before in
+    let e = plain32 _ (s .fits .x) in
+    rw (also-left (isElement (s .args .y)) (rw e at (sym (c .before .is-element .ensures) ∙ not-true _ (c .if1 .taken))))
+
+is-element-requires-2 : tie.Need-is-element-requires-2
+is-element-requires-2 c κs = search needs
+
+returns-2 : tie.Need-returns-2
+unfolding rangeOf choose
+returns-2 c =
+    let s = c .before .before .before .before in
+    let e = plain32 _ (s .fits .y) in
+    rw (also-right (isElement (s .args .x)) (rw e at (sym (c .before .is-element2 .ensures) ∙ not-true _ (c .if2 .taken))))
+
+module _ (c : tie.Else2) where
+  abbrev start : tie.Start
+  start = c .before .before .before .before
+
+  low : isElement (start .args .x) ≡ true
+  low =
+      let first = c .before .before in
+      rw (plain32 _ (start .fits .x)) at (sym (first .before .is-element .ensures) ∙ not-false _ (first .if1 .left))
+
+  high : isElement (start .args .y) ≡ true
+  high = rw (plain32 _ (start .fits .y)) at (sym (c .before .is-element2 .ensures) ∙ not-false _ (c .if2 .left))
 
 cast-a : tie.Need-cast-a
 cast-a c =
-    let e = plain32 _ (c .before .fits .x) in
-    rw e (to-unsigned _ (rw e at (c .if1 .left)) (c .before .fits .x))
-
-returns-2 : tie.Need-returns-2
-returns-2 c =
-    let s = c .before .before in
-    let e = plain32 _ (s .fits .x) in
-    rw (pos-is (s .args .x) (rw e at (c .before .if1 .left))) (sym (range-low _ _ (rw e at (c .if2 .taken))))
-
-returns-3 : tie.Need-returns-3
-unfolding rangeOf
-returns-3 c =
-    let s = c .before .before .before in
-    let e = plain32 _ (s .fits .x) in
-    let f = plain32 _ (s .fits .y) in
-    rw (pos-is (s .args .x) (rw e at (c .before .before .if1 .left)), neg-is (s .args .y) (rw f at (c .if3 .taken)))
+    let f = start c .fits .x in
+    rw (plain32 _ f) (to-unsigned _ (element-not-negative _ (low c)) f)
 
 cast-b : tie.Need-cast-b
 cast-b c =
-    let s = c .before .before .before in
-    let e = plain32 _ (s .fits .y) in
-    rw e (to-unsigned _ (rw e at (c .if3 .left)) (s .fits .y))
-
-returns-4 : tie.Need-returns-4
-unfolding rangeOf choose
-returns-4 c =
-    let s = c .before .before .before .before in
-    let e = plain32 _ (s .fits .x) in
-    let f = plain32 _ (s .fits .y) in
-    rw (pos-is (s .args .x) (rw e at (c .before .before .before .if1 .left)))
-    (rw (pos-is (s .args .y) (rw f at (c .before .if3 .left)))
-    (rw (lt-ltb _ 32 (rw e at (c .before .before .if2 .left)), le-ltb _ 32 (rw f at (c .if4 .taken)))))
+    let f = start c .fits .y in
+    rw (plain32 _ f) (to-unsigned _ (element-not-negative _ (high c)) f)
 
 elements-requires : tie.Need-elements-requires
-elements-requires c κs = search needs
+elements-requires c κs =
+    rw (plain32 _ (start c .fits .x), plain32 _ (start c .fits .y)) (element-below _ (low c), element-below _ (high c))
 
-returns-5 : tie.Need-returns-5
+returns-3 : tie.Need-returns-3
 unfolding rangeOf choose
-returns-5 c =
-    let s = c .before .before .before .before .before in
-    let e = plain32 _ (s .fits .x) in
-    let f = plain32 _ (s .fits .y) in
-    rw (c .elements .ensures, e, f)
-    (rw (pos-is (s .args .x) (rw e at (c .before .before .before .before .if1 .left)))
-    (rw (pos-is (s .args .y) (rw f at (c .before .before .if3 .left)))
-    (rw (lt-ltb _ 32 (rw e at (c .before .before .before .if2 .left)), lt-ltb _ 32 (rw f at (c .before .if4 .left))))))
+returns-3 c =
+    let o = c .before in
+    rw (c .elements .ensures, plain32 _ (start o .fits .x), plain32 _ (start o .fits .y), also-yes (low o) (high o))
 
 pub range-spec : {M : Type 1} → statement M
 range-spec =
     tie.close
-    (tie.spec returns cast-a returns-2 returns-3 cast-b returns-4 elements-requires returns-5)
+    (tie.spec is-element-requires returns is-element-requires-2 returns-2 cast-a cast-b elements-requires returns-3)
