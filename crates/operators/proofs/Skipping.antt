@@ -1,4 +1,5 @@
--- & and OR: "skip the right one when the left decides" changes nothing, and keeps kinds and ranges.
+-- "Operands go left to right": & and OR "skip the right one when the left decides", which changes nothing and keeps
+-- kinds and ranges; elsewhere a trap of the right one comes before the operator's own.
 use mathlib.Core.Path.{_≡_, refl, sym}
 use mathlib.Core.Bool.{Bool, true, false}
 use mathlib.Core.Logic.{inl, inr}
@@ -14,6 +15,7 @@ use Rattle.kinds.specs.Kinds.{booleansKind, dyadicKind}
 use Rattle.values.specs.Values.Gives.{value, trapped}
 use Rattle.values.specs.declared.Value.{Value}
 use Rattle.values.specs.declared.Value.the-variants as Vs
+use Rattle.values.specs.declared.Trap.{Trap}
 use Rattle.values.specs.declared.Answer.{Answer}
 use Rattle.values.specs.declared.Answer.the-variants as As
 use Rattle.kinds.specs.declared.KindAnswer.the-variants.{Untyped, Kind}
@@ -65,6 +67,11 @@ decided-kind j or-true e =
     elim (choose-cases (eqb j BOOLEAN) e) [ inl h ↦ same-kind (h .1) | inr h ↦ no-kind (h .1) ]
 
 -- ---- both operands' answers
+
+-- "after both operands are found": the right operand's trap, whatever the operator would make of the left one
+pub right-traps : (op : ℕ) (v : Value) (t : Trap) → decides op v ≡ false → appliedTo op v (As.Trap t) ≡ As.Trap t
+unfolding appliedTo bind choose
+right-traps op v t e = rw e
 
 pub applied-typed : (op : ℕ) {v : Value} {right : Answer} {j k : ℕ} → dyadicKind op (kindOf v) j ≡ Kind k
     → InRange v → Gives j right → Gives k (appliedTo op v right)

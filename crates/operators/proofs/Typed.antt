@@ -26,7 +26,7 @@ use Rattle.kinds.specs.declared.KindAnswer.the-variants.{Untyped, Kind}
 use Rattle.values.proofs.Numbers.{inside, under, over, integer-fits}
 use Rattle.values.proofs.Giving.{gives-boolean, gives-set}
 use Rattle.integers.proofs.Results.{integer-gives, arithmetic-gives}
-use Rattle.sets.proofs.Results.{range-gives, complement-gives}
+use Rattle.sets.proofs.Results.{contains-gives, range-gives, complement-gives}
 
 -- ---- a kind and an answer that go together
 
@@ -137,7 +137,7 @@ dyadic-agree op (Vs.Bool p) (Vs.Int y) = untyped
 dyadic-agree op (Vs.Bool p) (Vs.Set t) = untyped
 dyadic-agree op (Vs.Int x) (Vs.Bool q) = untyped
 dyadic-agree op (Vs.Int x) (Vs.Int y) = integers-agree op x y (λ h. integer-in (h .0)) (λ h. integer-in (h .1))
-dyadic-agree op (Vs.Int x) (Vs.Set t) = agree (eqb op 15) (typed (λ h. gives-boolean _)) untyped
+dyadic-agree op (Vs.Int x) (Vs.Set t) = agree (eqb op 15) (typed (λ h. contains-gives x t)) untyped
 dyadic-agree op (Vs.Set s) (Vs.Bool q) = untyped
 dyadic-agree op (Vs.Set s) (Vs.Int y) = untyped
 dyadic-agree op (Vs.Set s) (Vs.Set t) = sets-agree op s t (λ h. set-in (h .0)) (λ h. set-in (h .1))

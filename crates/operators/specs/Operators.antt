@@ -8,7 +8,7 @@ use lib.Bits.{bitAnd, bitOr, bitXor}
 use Rattle.prelude.specs.Choice.{choose}
 use Rattle.values.specs.Values.{bind}
 use Rattle.integers.specs.Integers.{integerOf, arithmeticOf}
-use Rattle.sets.specs.Sets.{memberOf, rangeOf, complementOf}
+use Rattle.sets.specs.Sets.{containsOf, rangeOf, complementOf}
 use Rattle.values.specs.declared.Value.{Value}
 use Rattle.values.specs.declared.Value.the-variants as Vs
 use Rattle.values.specs.declared.Answer.{Answer}
@@ -57,7 +57,7 @@ booleansOf op p q =
 
 -- an INTEGER and a SET: "IN takes INTEGER, SET"
 unfoldable pub membershipOf : ℕ → ℤ → ℕ → Answer
-membershipOf op x t = choose (eqb op 15) (As.Val (Vs.Bool (memberOf x t))) As.Stuck
+membershipOf op x t = choose (eqb op 15) (containsOf x t) As.Stuck
 
 -- "5 dyadic a, b, operator c", both operands found
 unfoldable pub dyadicOf : ℕ → Value → Value → Answer

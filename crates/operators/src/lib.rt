@@ -62,7 +62,7 @@ pub fn membership(op: u16, x: i32, t: u32) -> Answer
     ensures { λ r. ⌜ r ≡ membershipOf op x t ⌝ }
 {
     match op {
-        15 => Answer::Val(Value::Bool(sets::member(x, t))),
+        15 => sets::contains(x, t),
         _ => Answer::Stuck,
     }
 }

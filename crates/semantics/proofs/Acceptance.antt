@@ -71,10 +71,10 @@ pub case-4 :
 unfolding rows integers operators
 case-4 = (refl, refl, refl, refl, refl)
 
--- 5. "-{} is 4294967295; 32 IN it FALSE."
+-- 5. "-{} is 4294967295; 32 IN it: trap 6."
 pub case-5 :
     (monadicOf 1 (Vs.Set 0) ≡ As.Val (Vs.Set 4294967295))
-    × (dyadicOf 15 (int 32) (Vs.Set 4294967295) ≡ As.Val (Vs.Bool false))
+    × (dyadicOf 15 (int 32) (Vs.Set 4294967295) ≡ As.Trap Ts.Bound)
 unfolding rows integers operators
 case-5 = (refl, refl)
 

@@ -9,7 +9,7 @@ use Rattle.values.specs.Values.{kindOf, isInteger, isSet, trapNumber, numberOf 
 use Rattle.values.specs.Values.{integerCell, setCell, cellOf, signedOf, constantOf, bind}
 use Rattle.kinds.specs.Kinds.{integersKind, setsKind, booleansKind, dyadicKind, monadicKind}
 use Rattle.integers.specs.Integers.{integerOf, divOf, modOf, dividedBy, arithmeticOf}
-use Rattle.sets.specs.Sets.{isElement, memberOf, elementsOf, rangeOf, complementOf}
+use Rattle.sets.specs.Sets.{isElement, containsOf, elementsOf, rangeOf, complementOf}
 use Rattle.operators.specs.Operators.{compareOf, equalZ, integersOf, setsOf, booleansOf, membershipOf, dyadicOf}
 use Rattle.operators.specs.Operators.{monadicOf, decides, appliedTo}
 use Rattle.shapes.specs.Forms.{formOf, form, baseOf, countOf, ofBase, ownTypes}
@@ -76,7 +76,7 @@ unfolding isInteger trapNumber integerOf divOf modOf dividedBy arithmeticOf comp
 integers = tt
 
 unfoldable pub operators : Unit {0}
-unfolding bind bitOf memberOf elementsOf complementOf setsOf booleansOf membershipOf dyadicOf monadicOf decides
+unfolding bind bitOf containsOf elementsOf complementOf setsOf booleansOf membershipOf dyadicOf monadicOf decides
     appliedTo
 operators = tt
 

@@ -1,4 +1,4 @@
--- What a range and a complement give: a SET in its range, or a trap.
+-- What IN, a range and a complement give: a BOOLEAN or a SET in its range, or a trap.
 use mathlib.Core.Path.{_≡_, sym}
 use mathlib.Core.Bool.{Bool, true, false}
 use Prim.Native.Nat.{ℕ, _+_, _-_, _^_, _<_}
@@ -10,13 +10,12 @@ use lib.IntN.{ℤ, pos, negsuc, natAbs}
 use lib.Signed.{ltZ}
 use Rattle.prelude.specs.Choice.{choose, _also_}
 use Rattle.prelude.proofs.Choice.{clash, also-true}
-use Rattle.values.specs.Values.{SET, Gives}
-use Rattle.sets.specs.Sets.{isElement, elementsOf, rangeOf, complementOf}
+use Rattle.values.specs.Values.{BOOLEAN, SET, Gives}
+use Rattle.sets.specs.Sets.{isElement, containsOf, elementsOf, rangeOf, complementOf}
 use Rattle.values.specs.Values.Gives.{trapped}
-use Rattle.values.specs.declared.Trap.the-variants as Ts
 use Rattle.values.specs.declared.Value.the-variants as Vs
 use Rattle.values.specs.declared.Answer.the-variants as As
-use Rattle.values.proofs.Giving.{gives-set, gives-one}
+use Rattle.values.proofs.Giving.{gives-boolean, gives-set, gives-one}
 
 -- a number from 0 to 31, by the test
 pub element-not-negative : (x : ℤ) → isElement x ≡ true → ltZ x (pos 0) ≡ false
@@ -28,6 +27,10 @@ pub element-below : (x : ℤ) → isElement x ≡ true → natAbs x < 32
 unfolding isElement
 element-below (pos i) h = ltb-true i 32 (rw (le-leb 0 i (omega arith)) at h)
 element-below (negsuc i) h = clash (sym h)
+
+pub contains-gives : (x : ℤ) (s : ℕ) → Gives BOOLEAN (containsOf x s)
+unfolding containsOf
+contains-gives x s = gives-one (isElement x) (λ h. gives-boolean _) (λ h. trapped)
 
 elements-fit : (a b : ℕ) → b < 32 → elementsOf a b < 4294967296
 unfolding elementsOf choose

@@ -4,7 +4,7 @@ use values::Trap;
 use values::Value;
 ghost use mathlib.Core.Path.{_≡_};
 ghost use Prim.Native.Nat.{_<_};
-ghost use Rattle.sets.specs.Sets.{isElement, memberOf, elementsOf, rangeOf, complementOf};
+ghost use Rattle.sets.specs.Sets.{isElement, containsOf, elementsOf, rangeOf, complementOf};
 
 // Whether x is an element that a SET can have.
 fn is_element(x: i32) -> bool
@@ -13,15 +13,16 @@ fn is_element(x: i32) -> bool
     (0 <= x) & (x < 32)
 }
 
-// Whether x is an element of s.
-pub fn member(x: i32, s: u32) -> bool
-    ensures { λ r. ⌜ r ≡ memberOf x s ⌝ }
+// x IN s, or trap 6 where x is outside 0 to 31.
+pub fn contains(x: i32, s: u32) -> Answer
+    ensures { λ r. ⌜ r ≡ containsOf x s ⌝ }
 {
     if !is_element(x) {
-        return false;
+        return Answer::Trap(Trap::Bound);
     }
     let i = x as u32;
-    (s >> i) % 2 == 1
+    let member = (s >> i) % 2 == 1;
+    Answer::Val(Value::Bool(member))
 }
 
 // The elements a to b.
