@@ -123,7 +123,7 @@ static const char *trap_text(uint32_t trap) {
     case DOOR_TRAP_DIVISOR:
         return "a divisor not positive";
     case DOOR_TRAP_BOUND:
-        return "a set's bound outside 0 to 31";
+        return "a set's element outside 0 to 31";
     case DOOR_TRAP_FRAME:
         return "a call beyond the store";
     case DOOR_TRAP_INPUT:

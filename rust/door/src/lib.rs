@@ -199,7 +199,7 @@ pub enum Trap {
     Overflow,
     /// A divisor that is not positive.
     Divisor,
-    /// A set's bound outside 0 to 31.
+    /// A set's element, in a range or before IN, outside 0 to 31.
     Bound,
     /// A call whose frame goes beyond the store.
     Frame,
@@ -254,7 +254,7 @@ impl fmt::Display for Trap {
             Trap::Target => "a record assigned to one of another dynamic type",
             Trap::Overflow => "an INTEGER beyond 32 bits",
             Trap::Divisor => "a divisor that is not positive",
-            Trap::Bound => "a set's bound outside 0 to 31",
+            Trap::Bound => "a set's element outside 0 to 31",
             Trap::Frame => "a call whose frame goes beyond the store",
             Trap::Input => "a read when the input is used up",
             Trap::Output => "a write when the output is full",
