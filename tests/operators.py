@@ -1,7 +1,7 @@
 #!/usr/bin/env python3
-"""Cases of the operators, cells and constants, with the answers that document 01 gives.
+"""Cases of the operators, cells and constants, with the answers that documents 01 and 02 give.
 
-Written from document 01 alone: it shares nothing with the code or the definitions of the crates that it asks.
+Written from these documents alone: it shares nothing with the code or the definitions of the crates that it asks.
 Writes crates/cases_values/data/operators.bin and crates/cases_values/stdout; with --check it only compares.
 
 A case has 17 bytes, its numbers big-endian:
@@ -82,7 +82,8 @@ def dyadic(op, left, right):
             7: lambda: truth(x == y), 8: lambda: truth(x != y), 13: lambda: truth(x and y), 14: lambda: truth(x or y),
         }.get(op, lambda: stuck)()
     if j == INTEGER and k == SET and op == 15:
-        return truth(x in y)
+        # "IN with an element outside 0 to 31 now gives trap 6, after both operands are found."
+        return truth(x in y) if 0 <= x <= 31 else (TRAP, 6)
     return stuck
 
 

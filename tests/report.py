@@ -1,5 +1,5 @@
 #!/usr/bin/env python3
-"""The listings of examples/ as images with the answers that document 01 gives, and the listings of the benchmark.
+"""The listings of examples/ as images with the answers of documents 01 and 02, and the listings of the benchmark.
 
 report.py          write vectors/report/, vectors/input/, the images in tests/bench/programs/, and examples/latch.img
 report.py --check  compare these with what would be written; exits 1 where one differs
@@ -8,9 +8,10 @@ The images are what `listing assemble` makes of the listings; tools/listing is b
 nothing is compared, and a line says so.
 
 The answers stand in the first comments of each listing. Outputs, traps and HALT numbers were found by hand from the
-Oberon-2 report and document 01; statement rows, steps and cells by an interpreter that is not kept here, which was
-written from document 01 and its readings, shares nothing with the crates, and gives all answers of vectors/special,
-doorrun and runs. A listing of examples/ without inputs has the answer of `doorrun`, in vectors/report/expect.txt:
+Oberon-2 report and documents 01 and 02; statement rows, steps and cells by an interpreter that is not kept here, which
+was written from these documents and their readings, shares nothing with the crates, and gives the answers of all
+accepted images of vectors/special, doorrun, in and runs. A listing of examples/ without inputs has the answer of
+`doorrun`, in vectors/report/expect.txt:
 
     -- expect: the nine numbers
     -- output: the numbers written
@@ -24,7 +25,7 @@ NAME is that of NAME-K.img:
     -- output: the numbers written
     -- cells: what each holds after the run, in one line or more
 
-What the numbers must have by document 01 alone, whatever the program, is asked here: so many outputs as are written,
+What the numbers must have by the documents alone, whatever the program, is asked here: so many outputs as are written,
 no more read than there is, and so on.
 """
 import pathlib

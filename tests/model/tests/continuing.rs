@@ -512,7 +512,7 @@ fn numbers(state: &State) -> Numbers {
 fn programs() -> Vec<(String, Program)> {
     let vectors = Path::new(env!("CARGO_MANIFEST_DIR")).join("../../vectors");
     let mut programs = vec![(String::from("the program above"), check(&bytes()).unwrap())];
-    for folder in ["special", "doorrun", "runs", "report", "input"] {
+    for folder in ["special", "doorrun", "in", "runs", "report", "input"] {
         for entry in std::fs::read_dir(vectors.join(folder)).unwrap() {
             let path = entry.unwrap().path();
             let name = path.display().to_string();

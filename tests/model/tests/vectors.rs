@@ -65,6 +65,11 @@ fn doorrun_images() {
 }
 
 #[test]
+fn in_images() {
+    doorrun_folder("in");
+}
+
+#[test]
 fn types() {
     doorrun_folder("types");
 }
