@@ -20,13 +20,13 @@ pub mod trap {
 
 /// Why there is no value and no object.
 #[derive(Clone, Debug, PartialEq, Eq)]
-pub(crate) enum Stop {
+pub enum Stop {
     Trap { trap: u32, halt: i32 },
     Stuck(String),
 }
 
 /// "Evaluation gives a value of a scalar kind or a trap, or is stuck."
-pub(crate) type Answer<T> = Result<T, Stop>;
+pub type Answer<T> = Result<T, Stop>;
 
 pub(crate) fn trapped<T>(trap: u32) -> Answer<T> {
     Err(Stop::Trap { trap, halt: 0 })
