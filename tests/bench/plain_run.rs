@@ -1,7 +1,7 @@
-//! Document 01's run in plain Rust, with no proof. It is written from the paper alone, in the forms that the paper
-//! names: rows are read from the image at each visit, `find` and `eval` call each other on lower node rows, answers
-//! are enums. Sizes, places and frames are found once, after the check of plain.rs. The benchmark holds the proved
-//! run to its speed, and to its answers.
+//! Document 01's run in plain Rust, IN as document 02 has it, with no proof. It is written from the papers alone, in the
+//! forms that document 01 names: rows are read from the image at each visit, `find` and `eval` call each other on lower
+//! node rows, answers are enums. Sizes, places and frames are found once, after the check of plain.rs. The benchmark
+//! holds the proved run to its speed, and to its answers.
 //!
 //! What the check has shown is not asked again at each step: an arm that no accepted image reaches is `unreachable!`,
 //! and a cell is taken as the kind that its type gives.
@@ -21,7 +21,7 @@ enum Trap {
     Target,
     Overflow,
     Divisor,
-    Bound,
+    Element,
     Frame,
     Input,
     Output,
@@ -359,7 +359,7 @@ fn dyadic(operator: usize, left: Value, right: Value) -> Answer {
         (Value::Int(x), Value::Int(y)) => integers(operator, x, y),
         (Value::Set(s), Value::Set(t)) => sets(operator, s, t),
         (Value::Bool(p), Value::Bool(q)) => booleans(operator, p != 0, q != 0),
-        (Value::Int(x), Value::Set(s)) => boolean((0..32).contains(&x) && s >> x & 1 == 1),
+        (Value::Int(x), Value::Set(s)) => element(x, s),
         _ => unreachable!(),
     }
 }
@@ -389,9 +389,21 @@ fn boolean(x: bool) -> Answer {
     Answer::Val(Value::Bool(x as u32))
 }
 
+/// Whether a SET has a bit for it.
+fn is_element(x: i32) -> bool {
+    (0..32).contains(&x)
+}
+
+fn element(x: i32, s: u32) -> Answer {
+    if !is_element(x) {
+        return Answer::Trap(Trap::Element);
+    }
+    boolean(s >> x & 1 == 1)
+}
+
 fn range(x: i32, y: i32) -> Answer {
-    if !(0..32).contains(&x) || !(0..32).contains(&y) {
-        return Answer::Trap(Trap::Bound);
+    if !is_element(x) || !is_element(y) {
+        return Answer::Trap(Trap::Element);
     }
     Answer::Val(Value::Set(if x <= y { ((2u64 << y) - (1u64 << x)) as u32 } else { 0 }))
 }

@@ -200,11 +200,19 @@ static unsigned new_designator(unsigned type, unsigned p, unsigned depth) {
     return NONE;
 }
 
+/* A constant for IN: mostly an element, 0 to 31. */
+static unsigned new_element(void) {
+    static const uint32_t outside[] = {32, 33, INT32_MAX, 0x80000000, UINT32_MAX};
+    const uint32_t n = below(8) ? below(32) : outside[below(sizeof outside / sizeof outside[0])];
+    return add(&b, NODES, CONSTANT, INTEGER, n >> 16, n & 0xffff);
+}
+
 static unsigned new_dyadic(unsigned type, unsigned p, unsigned depth) {
     const unsigned choice = below(8);
     const bool compares = type == BOOLEAN && choice < 4, in = type == BOOLEAN && choice == 4;
     const bool range = type == SET && choice == 0;
-    const unsigned x = new_expression(compares || range || in ? INTEGER : type, p, depth - 1);
+    const unsigned left = compares || range || in ? INTEGER : type;
+    const unsigned x = in && below(4) ? new_element() : new_expression(left, p, depth - 1);
     const unsigned y = new_expression(compares || range ? INTEGER : in ? SET : type, p, depth - 1);
     return add(&b, NODES, DYADIC, x, y, range ? 16 : in ? 15 : compares ? 7 + below(6) : operator_for(type, true));
 }

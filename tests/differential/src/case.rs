@@ -63,7 +63,7 @@ impl Case {
                     return Err(format!("a generated image is refused by {} at {}", fault.refusal, fault.row));
                 }
                 let needed = self.random.below(60);
-                self.compare_run(needed, counts, watcher)?;
+                self.compare_run(None, needed, counts, watcher)?;
                 self.continue_refused(needed, counts, watcher)
             }
         }
@@ -77,7 +77,7 @@ impl Case {
         let needed = program.globals() + program.frame(0);
         let sight = Sight::new(program);
         for _ in 0..self.random.between(2, 4) {
-            if let Some((lent, whole)) = self.compare_run(needed, counts, watcher)? {
+            if let Some((lent, whole)) = self.compare_run(Some(program), needed, counts, watcher)? {
                 self.continue_run(&sight, &lent, &whole, counts, watcher)?;
             }
         }
@@ -94,22 +94,36 @@ impl Case {
     /// continued: a run whose steps were used up, and some others, in parts.
     fn compare_run(
         &mut self,
+        program: Option<&Program>,
         needed: usize,
         counts: &mut Counts,
         watcher: Watcher,
     ) -> Result<Option<(Surroundings, After)>, String> {
         let mut lent = Surroundings::pick(&mut self.random, needed);
-        let mut after = compare::run(&self.image, &lent)?;
-        counts.run(&after.numbers);
-        watcher(&lent, None, &after.numbers);
+        let mut after = self.run(program, &lent, counts, watcher)?;
         if after.numbers.outcome > 0 && self.random.chance(400) {
             lent.steps = other_steps(&mut self.random, after.numbers.steps);
-            after = compare::run(&self.image, &lent)?;
-            counts.run(&after.numbers);
-            watcher(&lent, None, &after.numbers);
+            after = self.run(program, &lent, counts, watcher)?;
         }
         let wanted = after.numbers.outcome == 0 || self.random.chance(ENDED);
         Ok((after.numbers.refusal == 0 && wanted).then_some((lent, after)))
+    }
+
+    /// One run; the program is there where the image is accepted.
+    fn run(
+        &self,
+        program: Option<&Program>,
+        lent: &Surroundings,
+        counts: &mut Counts,
+        watcher: Watcher,
+    ) -> Result<After, String> {
+        let after = compare::run(&self.image, lent)?;
+        counts.run(&after.numbers);
+        if let Some(program) = program.filter(|_| after.numbers.trap > 0) {
+            counts.trapped(program, &after);
+        }
+        watcher(lent, None, &after.numbers);
+        Ok(after)
     }
 
     /// Cuts a run at a step, and continues it: as it was left, when in the end all must be as without the cut; and with

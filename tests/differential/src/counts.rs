@@ -1,8 +1,10 @@
 //! What the images and runs reached, and how often.
 
+use crate::compare::After;
 use crate::frames::{Given, Sight};
+use crate::traps::{self, Origin};
 use listing::SCALARS;
-use model::program::{Program, CALL};
+use model::program::{Program, CALL, DYADIC, ELEMENT, GUARD, MONADIC};
 use model::{rules, Fault};
 
 #[derive(Clone, Copy, Debug, PartialEq, Eq)]
@@ -11,6 +13,7 @@ pub enum Group {
     Outcome,
     Steps,
     Trap,
+    Trapping,
     Node,
     Dyadic,
     Monadic,
@@ -28,11 +31,12 @@ pub enum Group {
     State,
 }
 
-const GROUPS: [(Group, &str); 19] = [
+const GROUPS: [(Group, &str); 20] = [
     (Group::Refusal, "refusals of runs"),
     (Group::Outcome, "outcomes of runs"),
     (Group::Steps, "unrefused runs by their steps"),
     (Group::Trap, "traps"),
+    (Group::Trapping, "nodes that trapped"),
     (Group::Node, "nodes in accepted images"),
     (Group::Dyadic, "dyadic operators by their left operand"),
     (Group::Monadic, "monadic operators by their operand"),
@@ -53,7 +57,7 @@ const GROUPS: [(Group, &str); 19] = [
 const NODES: [&str; 9] =
     ["constant", "variable", "field", "element", "guard", "dyadic", "monadic", "type test", "argument"];
 const STATEMENTS: [&str; 8] = ["assign", "call", "jump if FALSE", "jump", "RETURN", "read", "write", "HALT"];
-const DYADIC: [(&str, &[usize]); 16] = [
+const DYADIC_OPERATORS: [(&str, &[usize]); 16] = [
     ("+", &[1, 2]),
     ("-", &[1, 2]),
     ("*", &[1, 2]),
@@ -71,7 +75,22 @@ const DYADIC: [(&str, &[usize]); 16] = [
     ("IN", &[1]),
     ("..", &[1]),
 ];
-const MONADIC: [(&str, &[usize]); 2] = [("-", &[1, 2]), ("~", &[0])];
+const MONADIC_OPERATORS: [(&str, &[usize]); 2] = [("-", &[1, 2]), ("~", &[0])];
+/// Nodes that can trap, by kind and operator.
+const TRAPPING: [(&str, u8, u16); 10] = [
+    ("element", ELEMENT, 0),
+    ("guard", GUARD, 0),
+    ("monadic -", MONADIC, 1),
+    ("+", DYADIC, 1),
+    ("-", DYADIC, 2),
+    ("*", DYADIC, 3),
+    ("DIV", DYADIC, 4),
+    ("MOD", DYADIC, 5),
+    ("IN", DYADIC, traps::IN),
+    ("..", DYADIC, 16),
+];
+/// Counted besides the node itself.
+const BEFORE_IN: &str = "in the right operand of an IN whose element is outside";
 /// What a VAR parameter can name, each counted where it applies.
 const NAMES: [&str; 6] = [
     "a global or a part of one",
@@ -91,9 +110,10 @@ fn names(group: Group) -> Vec<Option<String>> {
         Group::Outcome => all(&["steps used up", "finished", "trapped"]),
         Group::Steps => all(&["0", "1 to 9", "10 to 99", "100 to 999", "1,000 and more"]),
         Group::Trap => (0..=10).map(|number| (number > 0).then(|| number.to_string())).collect(),
+        Group::Trapping => all(&[&TRAPPING.map(|(name, ..)| name)[..], &[BEFORE_IN]].concat()),
         Group::Node => all(&NODES),
-        Group::Dyadic => operators(&DYADIC),
-        Group::Monadic => operators(&MONADIC),
+        Group::Dyadic => operators(&DYADIC_OPERATORS),
+        Group::Monadic => operators(&MONADIC_OPERATORS),
         Group::Statement | Group::Executed => all(&STATEMENTS),
         Group::Parameter => {
             let of = |kind: &str| FORMS.map(|form| Some(format!("{kind} {form}")));
@@ -159,6 +179,17 @@ impl Counts {
         }
         if numbers.trap > 0 {
             self.add(Group::Trap, numbers.trap as usize);
+        }
+    }
+
+    /// What trapped in a run of an accepted image.
+    pub fn trapped(&mut self, program: &Program, after: &After) {
+        let Some(Origin { node, before_in }) = traps::origin(program, after) else { return };
+        let row = program.nodes[node];
+        let number = TRAPPING.iter().position(|(_, kind, c)| (row.kind, row.c) == (*kind, *c));
+        self.add(Group::Trapping, number.expect("a node of the list"));
+        if before_in {
+            self.add(Group::Trapping, TRAPPING.len());
         }
     }
 

@@ -19,6 +19,7 @@ mod image;
 mod mutate;
 mod random;
 mod surroundings;
+mod traps;
 
 use case::{Case, Watcher};
 use counts::Counts;

@@ -321,7 +321,7 @@ impl Machine<'_> {
     }
 
     /// Evaluates an expression. "an expression's operand may be a designator, found first".
-    fn value(&self, n: usize) -> Answer<Value> {
+    pub fn value(&self, n: usize) -> Answer<Value> {
         let node = row_of(&self.program.nodes, n)?;
         match node.kind {
             CONSTANT => constant(&node),

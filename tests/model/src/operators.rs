@@ -11,7 +11,7 @@ pub mod trap {
     pub const RECORD_TARGET: u32 = 3;
     pub const OVERFLOW: u32 = 4;
     pub const DIVISOR: u32 = 5;
-    pub const RANGE_BOUND: u32 = 6;
+    pub const SET_ELEMENT: u32 = 6;
     pub const FRAME: u32 = 7;
     pub const INPUT_USED_UP: u32 = 8;
     pub const OUTPUT_FULL: u32 = 9;
@@ -20,13 +20,13 @@ pub mod trap {
 
 /// Why there is no value and no object.
 #[derive(Clone, Debug, PartialEq, Eq)]
-pub(crate) enum Stop {
+pub enum Stop {
     Trap { trap: u32, halt: i32 },
     Stuck(String),
 }
 
 /// "Evaluation gives a value of a scalar kind or a trap, or is stuck."
-pub(crate) type Answer<T> = Result<T, Stop>;
+pub type Answer<T> = Result<T, Stop>;
 
 pub(crate) fn trapped<T>(trap: u32) -> Answer<T> {
     Err(Stop::Trap { trap, halt: 0 })
@@ -101,8 +101,8 @@ pub(crate) fn dyadic(operator: u16, x: Value, y: Value) -> Answer<Value> {
         (12, Integer(x), Integer(y)) => Ok(Boolean(x >= y)),
         (13, Boolean(x), Boolean(y)) => Ok(Boolean(x && y)),
         (14, Boolean(x), Boolean(y)) => Ok(Boolean(x || y)),
-        // "IN outside 0 to 31 is FALSE."
-        (15, Integer(x), Set(y)) => Ok(Boolean((0..=31).contains(&x) && y >> x & 1 == 1)),
+        // "IN with an element outside 0 to 31 now gives trap 6, after both operands are found."
+        (15, Integer(x), Set(y)) => Ok(Boolean(y >> set_element(x)? & 1 == 1)),
         (16, Integer(x), Integer(y)) => range(x, y),
         _ => stuck(|| format!("no rule for operator {operator} on {x:?} and {y:?}")),
     }
@@ -125,8 +125,15 @@ fn in_range(x: i64) -> Answer<Value> {
 
 /// "Range a..b with a > b, both bounds in 0 to 31, is empty." "6 range bound outside 0 to 31".
 fn range(a: i32, b: i32) -> Answer<Value> {
-    if !(0..=31).contains(&a) || !(0..=31).contains(&b) {
-        return trapped(trap::RANGE_BOUND);
-    }
+    let (a, b) = (set_element(a)?, set_element(b)?);
     Ok(Value::Set((a..=b).fold(0, |set, i| set | 1 << i)))
+}
+
+/// "SET has bit i for element i, 0 to 31": a range's bound or IN's element, or trap 6.
+fn set_element(x: i32) -> Answer<i32> {
+    if (0..=31).contains(&x) {
+        Ok(x)
+    } else {
+        trapped(trap::SET_ELEMENT)
+    }
 }

@@ -1,4 +1,5 @@
-//! The starred cases of document 01, its mistakes to shut out, and the edges of its operators.
+//! The starred cases of document 01, case 5 as document 02 has it, the mistakes to shut out, and the edges of the
+//! operators.
 
 mod common;
 
@@ -15,6 +16,10 @@ const SET: u16 = 2;
 
 const DIV: u16 = 4;
 const MOD: u16 = 5;
+const AND: u16 = 13;
+const OR: u16 = 14;
+const IN: u16 = 15;
+const RANGE: u16 = 16;
 
 fn constant(t: u16, number: i64) -> Row {
     row(0, t, (number as u32 >> 16) as u16, number as u16)
@@ -70,7 +75,7 @@ fn integers(x: i64, operator: u16, y: i64) -> Comes {
 }
 
 fn range(a: i64, b: i64) -> Comes {
-    expression(SET, &[integer(a), integer(b), dyadic(0, 16, 1)])
+    expression(SET, &[integer(a), integer(b), dyadic(0, RANGE, 1)])
 }
 
 #[test]
@@ -92,8 +97,8 @@ fn expressions() {
         ("5: -{}", expression(SET, &[constant(SET, 0), row(6, 0, 0, 1)]), To(4294967295)),
         (
             "5: 32 IN -{}",
-            expression(BOOLEAN, &[integer(32), constant(SET, 0), row(6, 1, 0, 1), dyadic(0, 15, 2)]),
-            To(0),
+            expression(BOOLEAN, &[integer(32), constant(SET, 0), row(6, 1, 0, 1), dyadic(0, IN, 2)]),
+            Trap(6),
         ),
         (
             "6: FALSE & (7 DIV 0 = 1)",
@@ -106,7 +111,7 @@ fn expressions() {
                     dyadic(1, DIV, 2),
                     integer(1),
                     dyadic(3, 7, 4),
-                    dyadic(0, 13, 5),
+                    dyadic(0, AND, 5),
                 ],
             ),
             To(0),
@@ -163,10 +168,35 @@ fn edges_of_set_operators() {
     // {0, 1} and {1, 31}: union, difference, intersection, symmetric difference
     let (x, y) = (3, 2147483650);
     assert_eq!([1, 2, 3, 6].map(|operator| sets(x, operator, y)), [To(2147483651), To(1), To(2), To(2147483649)]);
-    let is_in = |element| boolean((INTEGER, element), 15, (SET, y));
+    let is_in = |element| boolean((INTEGER, element), IN, (SET, y));
     assert_eq!([0, 1, 30, 31].map(is_in), [To(0), To(1), To(0), To(1)]);
-    let in_all = |element| boolean((INTEGER, element), 15, (SET, 4294967295));
-    assert_eq!([0, 31, -1, 32, 33, -2147483648].map(in_all), [To(1), To(1), To(0), To(0), To(0), To(0)]);
+}
+
+/// Document 02: "IN with an element outside 0 to 31 now gives trap 6", whatever the set.
+#[test]
+fn in_outside_0_to_31() {
+    for (set, inside) in [(0, 0), (4294967295, 1)] {
+        let is_in = |element| boolean((INTEGER, element), IN, (SET, set));
+        for element in 0..=31 {
+            assert_eq!(is_in(element), To(inside), "{element} IN {set}");
+        }
+        for element in [32, 33, 40, 63, 64, 65536, 2147483647, -1, -31, -32, -2147483648] {
+            assert_eq!(is_in(element), Trap(6), "{element} IN {set}");
+        }
+    }
+}
+
+/// FALSE & (40 IN {}) and TRUE OR (40 IN {}) do not come to IN.
+#[test]
+fn in_that_is_skipped() {
+    let after = |left, operator| {
+        expression(
+            BOOLEAN,
+            &[constant(BOOLEAN, left), integer(40), constant(SET, 0), dyadic(1, IN, 2), dyadic(0, operator, 3)],
+        )
+    };
+    assert_eq!([after(0, AND), after(1, OR)], [To(0), To(1)]);
+    assert_eq!([after(1, AND), after(0, OR)], [Trap(6), Trap(6)]);
 }
 
 #[test]
@@ -190,9 +220,30 @@ fn relations_and_boolean_operators() {
 fn both_operands_come_before_the_operator() {
     // 99..(1 DIV 0), (1 DIV 0)..99
     let division = |a, b, n: Row| expression(SET, &[integer(a), integer(b), dyadic(0, DIV, 1), integer(99), n]);
-    assert_eq!(division(1, 0, dyadic(3, 16, 2)), Trap(5));
-    assert_eq!(division(1, 0, dyadic(2, 16, 3)), Trap(5));
-    assert_eq!(division(1, 1, dyadic(3, 16, 2)), Trap(6));
+    assert_eq!(division(1, 0, dyadic(3, RANGE, 2)), Trap(5));
+    assert_eq!(division(1, 0, dyadic(2, RANGE, 3)), Trap(5));
+    assert_eq!(division(1, 1, dyadic(3, RANGE, 2)), Trap(6));
+    // 40 IN (0..(1 DIV 0)), (1 DIV 0) IN (0..32): the trap of the right operand, of the left one
+    let nodes = |x, y| [integer(x), integer(0), integer(1), integer(y), dyadic(2, DIV, 3), dyadic(1, RANGE, 4)];
+    let right = |x, y| expression(BOOLEAN, &[&nodes(x, y)[..], &[dyadic(0, IN, 5)]].concat());
+    assert_eq!([right(40, 0), right(-1, 0), right(40, 1), right(31, 1)], [Trap(5), Trap(5), Trap(6), To(0)]);
+    let nodes = |y| [integer(1), integer(y), dyadic(0, DIV, 1), integer(0), integer(32), dyadic(3, RANGE, 4)];
+    let left = |y| expression(BOOLEAN, &[&nodes(y)[..], &[dyadic(2, IN, 5)]].concat());
+    assert_eq!([left(0), left(1)], [Trap(5), Trap(6)]);
+}
+
+/// 40 IN s[9] is trap 1, and 40 IN s[3] trap 6, where s has 4 elements.
+#[test]
+fn an_index_in_the_right_operand_comes_before_in() {
+    let is_in = |element, index| {
+        let mut tables = draft(vec![row(ASSIGN, 0, 5, 0), RETURN]);
+        tables.types.push(row(3, SET, 4, 0));
+        tables.variables.extend([row(0, BOOLEAN, 0, 0), row(0, 3, 0, 0)]);
+        tables.nodes = vec![variable(0), integer(element), variable(1), integer(index), row(3, 2, 3, 0)];
+        tables.nodes.push(dyadic(1, IN, 4));
+        comes(&tables)
+    };
+    assert_eq!([is_in(40, 9), is_in(40, 3), is_in(4, 9), is_in(4, 3)], [Trap(1), Trap(6), Trap(1), To(0)]);
 }
 
 /// "Row 3 record of an INTEGER, row 4 extends it by a SET".

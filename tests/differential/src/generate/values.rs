@@ -11,8 +11,8 @@ const EDGES: [i32; 14] =
 impl Maker<'_> {
     /// An expression of the kind, with about as many operators as fuel says.
     pub fn value(&mut self, kind: usize, fuel: usize) -> usize {
-        if self.daring && kind == INTEGER && self.random.chance(120) {
-            return self.trapping();
+        if self.daring && kind != SET && self.random.chance(120) {
+            return if kind == INTEGER { self.trapping() } else { self.element(fuel) };
         }
         if fuel == 0 || self.random.chance(200) {
             return self.leaf(kind, fuel);
@@ -85,8 +85,12 @@ impl Maker<'_> {
         self.dyadic(left, operator, right)
     }
 
-    /// 7 DIV 0, 7 MOD -1, or a sum that overflows.
+    /// 7 DIV 0, 7 MOD -1, or a sum or a negation that overflows.
     fn trapping(&mut self) -> usize {
+        if self.random.chance(100) {
+            let least = self.constant(INTEGER, i32::MIN as u32);
+            return self.monadic(1, least);
+        }
         let (x, operator, y) = *self.random.pick(&[(7, 4, 0), (7, 5, -1), (i32::MAX, 1, 1), (i32::MIN, 2, 1)]);
         let left = self.constant(INTEGER, x as u32);
         let right = self.constant(INTEGER, y as u32);
@@ -136,8 +140,9 @@ impl Maker<'_> {
             return self.trapping();
         }
         if self.risky() {
-            let near = [bound as i32, bound as i32 - 1, -1, bound as i32 + 1, i32::MAX, i32::MIN, 0];
-            let edge = *self.random.pick(&near);
+            let bound = bound as i32;
+            let near = [(3, bound), (1, bound - 1), (2, -1), (1, bound + 1), (1, i32::MAX), (1, i32::MIN), (1, 0)];
+            let edge = self.random.weighted(&near);
             return match self.random.chance(600) {
                 true => self.constant(INTEGER, edge as u32),
                 false => self.value(INTEGER, fuel / 2),
@@ -162,13 +167,15 @@ impl Maker<'_> {
                 let node = self.value(SET, fuel - 1);
                 self.monadic(1, node)
             }
-            16 => {
-                let from = self.bounded(32, fuel / 2);
-                let to = self.bounded(32, fuel / 2);
-                self.dyadic(from, 16, to)
-            }
+            16 => self.range(fuel),
             operator => self.both(SET, operator, fuel),
         }
+    }
+
+    fn range(&mut self, fuel: usize) -> usize {
+        let from = self.bounded(32, fuel / 2);
+        let to = self.bounded(32, fuel / 2);
+        self.dyadic(from, 16, to)
     }
 
     pub fn boolean(&mut self, fuel: usize) -> usize {
@@ -200,12 +207,13 @@ impl Maker<'_> {
         self.both(kind, operator, fuel)
     }
 
+    /// IN; in a daring statement often of a range, so that its traps meet IN's.
     fn element(&mut self, fuel: usize) -> usize {
-        let member = match self.random.chance(700) {
-            true => self.bounded(32, fuel / 2),
-            false => self.value(INTEGER, fuel / 2),
+        let member = self.bounded(32, fuel / 2);
+        let set = match self.daring && self.random.chance(400) {
+            true => self.range(fuel / 2),
+            false => self.value(SET, fuel / 2),
         };
-        let set = self.value(SET, fuel / 2);
         self.dyadic(member, 15, set)
     }
 
