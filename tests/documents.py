@@ -156,12 +156,12 @@ BROKEN = [
     'a' * 121,
     '`docs/none.md`',
     '`crates/NAME/specs/MODULE.none`',
-    'Of `crates/sets/src/lib.rt`:\n\n    fn member(x: i64, s: u32) -> bool\n',
-    'Of `crates/sets/src/lib.rt`:\n\n    // The elements a to b.\n    ..\n    // Whether x is an element of s.\n',
+    'Of `crates/sets/src/lib.rt`:\n\n    fn contains(x: i64, s: u32) -> Answer\n',
+    'Of `crates/sets/src/lib.rt`:\n\n    // The elements a to b.\n    ..\n    // Whether x is an element that a SET can have.\n',
     '`sets::remember`',
     '`sets/None`',
-    '`sets/Sets`: `memberOf` and `remember`',
-    '`sets/Members`: `member-union`, `member`',
+    '`sets/Sets`: `containsOf` and `remember`',
+    '`sets/Members`: `member-elements`, `member`',
     '`sets/must-fail/none`',
     'D17 and D999',
 ]
@@ -180,11 +180,11 @@ BROKEN_ROWS = [
 # A module of proofs that opens two definitions of a lower crate, and one of its own.
 OPENING = '''
 use Rattle.image.specs.Rows.{rowAt as row, rowsOf}
-use Rattle.sets.specs.Sets.{memberOf}
+use Rattle.sets.specs.Sets.{containsOf}
 
   law : (t : List ℕ) → rowsOf t ≡ 0
       → row t 0 ≡ row t 1
-  unfolding row memberOf
+  unfolding row containsOf
       rowsOf
   law t h = refl
 '''
