@@ -136,6 +136,9 @@ module _ {f plan : List ℕ} {j o : ℕ} (ahead : Ahead f plan j o) where
   pub ahead-row : j < rowsOf f
   ahead-row = omega (arith, ahead .fields .lows .within, fields-some (ahead .fields))
 
+  pub ahead-small : j < 131070
+  ahead-small = omega (arith, ahead .small, fields-some (ahead .fields))
+
   module _ {u : ℕ} (this : u ≡ rowAt f j .a) where
     pub ahead-planned : u < length plan
     ahead-planned = omega (arith, ahead .planned, field-low (ahead .fields) this)
@@ -148,6 +151,7 @@ module _ {f plan : List ℕ} {j o : ℕ} (ahead : Ahead f plan j o) where
       end = ahead .end;
       below = ahead .below;
       fields = fields-next (ahead .fields) this is place;
+      small = ahead .small;
       planned = ahead .planned;
       few = ahead .few;
     }

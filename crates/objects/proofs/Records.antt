@@ -131,11 +131,12 @@ module _ {t f plan : List ℕ} (typed : Typed t f plan) where
             ));
       }
 
-      pub own-ahead : Ahead f plan (row .b) into
-      own-ahead = record {
+      pub own-ahead : row .b + row .c ≤ 131070 → Ahead f plan (row .b) into
+      own-ahead small = record {
         end = row .b + row .c;
         below = at;
         fields = own-fields;
+        small = small;
         planned = omega (arith, typed .room);
         few = omega (arith, typed .few);
       }

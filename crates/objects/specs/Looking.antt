@@ -57,11 +57,13 @@ pub record Fields (f plan : List ℕ) (k e m o : ℕ) : Type 0 where
   pub lows : LowTypes f k e m
   pub more : o < sum (map (held plan) (ownTypes f k (e - k)))
 
--- from row k on there are such fields, whose types the plan and the tables have
+-- from row k on there are such fields, whose types the plan and the tables have; the first row's number and how many
+-- they are have 16 bits
 pub record Ahead (f plan : List ℕ) (k o : ℕ) : Type 0 where
   pub end : ℕ
   pub below : ℕ
   pub fields : Fields f plan k end below o
+  pub small : end ≤ 131070
   pub planned : below ≤ length plan
   pub few : below ≤ 64
 

@@ -8,7 +8,7 @@ use Rattle.shapes.specs.Forms.{ownTypes}
 use Rattle.objects.specs.Begins.{among}
 use Rattle.objects.specs.Looking.{held, Edges, Fields, Ahead, Below.yes-below, Below.inside-below}
 use Rattle.objects.proofs.Looks.{looks-yes, looks-inside, looks-told, below-told, field-low, fields-next}
-use Rattle.objects.proofs.Looks.{ahead-row, ahead-planned, ahead-few, ahead-next}
+use Rattle.objects.proofs.Looks.{ahead-row, ahead-small, ahead-planned, ahead-few, ahead-next}
 use Rattle.objects.proofs.Looks.{turn-in, turn-yes, turn-end, turn-next}
 use Rattle.objects.proofs.among.Statement.{statement}
 use Rattle.objects.proofs.among.Tie as tie
@@ -65,9 +65,7 @@ returns-2 c = let n = c .before .before .before .before .before in
     )
 
 add-among-first : tie.Need-add-among-first Inv-loop μ-loop
-unfolding rowsOf
-add-among-first c =
-    let row = ahead-row (c .before .before .before .before .before .before .loop .inv .1) in search needs
+add-among-first c = omega (arith, ahead-small (c .before .before .before .before .before .before .loop .inv .1))
 
 among-first-requires : tie.Need-among-first-requires Inv-loop μ-loop
 among-first-requires c κs = let n = c .before .before .before .before .before in (
@@ -92,8 +90,7 @@ returns-3 c = let n = c .before .before .before .before .before .before .before 
     )
 
 add-j : tie.Need-add-j Inv-loop μ-loop
-unfolding rowsOf
-add-j c = let row = ahead-row (c .before .before .before .loop .inv .1) in search needs
+add-j c = omega (arith, ahead-small (c .before .before .before .loop .inv .1))
 
 sub-rest : tie.Need-sub-rest Inv-loop μ-loop
 sub-rest c = omega arith

@@ -8,7 +8,7 @@ use Rattle.image.specs.Rows.{rowsOf}
 use Rattle.shapes.specs.Forms.{ownTypes}
 use Rattle.objects.specs.Begins.{among}
 use Rattle.objects.specs.Looking.{held, Edges, Fields, Ahead}
-use Rattle.objects.proofs.Looks.{fields-next, ahead-row, ahead-planned, ahead-few, ahead-next}
+use Rattle.objects.proofs.Looks.{fields-next, ahead-row, ahead-small, ahead-planned, ahead-few, ahead-next}
 use Rattle.objects.proofs.Looks.{first-yes, first-no, first-next}
 use Rattle.objects.proofs.among_first.Statement.{statement}
 use Rattle.objects.proofs.among_first.Tie as tie
@@ -54,8 +54,7 @@ returns-2 c = let n = c .before .before in λ deeper e m ends edges fields.
     (c .if2 .taken))
 
 add-j : tie.Need-add-j Inv-loop μ-loop
-unfolding rowsOf
-add-j c = let row = ahead-row (c .before .before .before .before .before .loop .inv .0) in search needs
+add-j c = omega (arith, ahead-small (c .before .before .before .before .before .loop .inv .0))
 
 loop-less : tie.Need-loop-less Inv-loop μ-loop
 loop-less c = omega (arith, ahead-row (c .before .before .before .before .before .loop .inv .0))

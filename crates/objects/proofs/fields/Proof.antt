@@ -27,9 +27,10 @@ sub-among c = search needs
 
 among-requires : tie.Need-among-requires
 among-requires c κs = let n = c .before .before .before in
-    let s = n .before .before .before .before in (
+    let s = n .before .before .before .before in
+    let known = c .before .before .struct-known .given in (
       own-ahead (s .pre .0) (s .args .r) (s .pre .2) (s .pre .3) (n .row-at .ensures) (c .before .base-cells .ensures)
-          (omega arith) (s .pre .5),
+          (omega arith) (s .pre .5) (omega (arith, known)),
       s .pre .1,
       omega arith,
     )
@@ -97,9 +98,10 @@ returns-3 c = let n = c .before .before .before .before .before .before in
 
 among-first-requires : tie.Need-among-first-requires
 among-first-requires c κs = let n = c .before .before .before .before .before .before in
-    let s = n .before .before .before .before in (
+    let s = n .before .before .before .before in
+    let known = c .before .before .before .before .before .struct-known .given in (
       own-ahead (s .pre .0) (s .args .r) (s .pre .2) (s .pre .3) (n .row-at .ensures)
-          (c .before .before .before .before .base-cells .ensures) (omega arith) (s .pre .5),
+          (c .before .before .before .before .base-cells .ensures) (omega arith) (s .pre .5) (omega (arith, known)),
       s .pre .1,
     )
 
