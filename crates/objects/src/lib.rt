@@ -409,11 +409,11 @@ pub fn holds(
         return marked(starts, w, r);
     }
     let size = sizes::cell(plan, r as usize);
-    if o < size {
-        return reached(t, f, plan, starts, ends, w, r, o);
-    }
     if o == size {
         return marked(ends, w, r);
+    }
+    if o < size {
+        return reached(t, f, plan, starts, ends, w, r, o);
     }
     false
 }

@@ -16,24 +16,23 @@ returns c = let s = c .before .before .before .before .before in
 cell-requires : tie.Need-cell-requires
 cell-requires c κs = search needs
 
-reached-requires : tie.Need-reached-requires
-reached-requires c κs = search needs
-
-returns-2 : tie.Need-returns-2
-returns-2 c = let s = c .before .before .before .before .before .before .before in
-    c .reached .ensures (edges-less (let low = s .pre .3 in omega arith) (s .pre .1 .each (s .args .w)))
-    ∙ sym (by-inner (s .pre .0) (s .args .w) (s .args .r) (s .pre .3) (s .args .o)
-    (c .before .before .before .if1 .left))
-
 marked-requires-2 : tie.Need-marked-requires-2
 marked-requires-2 c κs = search needs
 
+returns-2 : tie.Need-returns-2
+returns-2 c = let s = c .before .before .before .before .before .before .before in
+    let size = c .before .before .cell in
+    let last : s .args .o ≡ size .result = omega (arith, c .before .if2 .taken) in
+    c .marked2 .ensures ∙ rw (last, size .ensures) (s .pre .1 .each (s .args .w) .end (s .args .r) (s .pre .3))
+
+reached-requires : tie.Need-reached-requires
+reached-requires c κs = search needs
+
 returns-3 : tie.Need-returns-3
 returns-3 c = let s = c .before .before .before .before .before .before .before .before in
-    let size = c .before .before .before .cell in
-    let last : s .args .o ≡ size .result = omega (arith, c .before .if3 .taken, c .before .before .if2 .left) in
-    c .marked2 .ensures
-    ∙ rw (last, size .ensures) (s .pre .1 .each (s .args .w) .end (s .args .r) (s .pre .3))
+    c .reached .ensures (edges-less (let low = s .pre .3 in omega arith) (s .pre .1 .each (s .args .w)))
+    ∙ sym (by-inner (s .pre .0) (s .args .w) (s .args .r) (s .pre .3) (s .args .o)
+    (c .before .before .before .before .if1 .left))
 
 returns-4 : tie.Need-returns-4
 returns-4 c = let s = c .before .before .before .before .before .before .before in
@@ -47,8 +46,8 @@ holds-spec =
     marked-requires
     returns
     cell-requires
-    reached-requires
-    returns-2
     marked-requires-2
+    returns-2
+    reached-requires
     returns-3
     returns-4)
