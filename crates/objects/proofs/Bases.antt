@@ -5,7 +5,7 @@ use mathlib.Core.List.{List, []}
 use mathlib.Core.Logic.{_⊎_, inl, inr}
 use Prim.Native.Nat.{ℕ, suc, _-_, _<_}
 use native.Mathlib.Omega.{arith}
-use borrow.Author.Tests.{eqb-true, eqb-false, eq-eqb, ne-eqb}
+use borrow.Author.Tests.{eqb-true}
 use lib.Dec.{eqb}
 use lib.ListN.{getD}
 use Rattle.prelude.specs.Bits.{bitOf}
@@ -18,11 +18,8 @@ use Rattle.shapes.specs.Sizes.{fieldsOf}
 use Rattle.shapes.proofs.Rows.{of-base}
 use Rattle.shapes.proofs.Accepted.{Based, Based.no-base, Based.on-base}
 use Rattle.objects.specs.Begins.{among, beginsAt}
-use Rattle.objects.specs.declared.Look.{Look}
-use Rattle.objects.specs.declared.Look.the-variants as Ls
-use Rattle.objects.specs.Looking.{held, Typed, Edges, toldBy, settled, saidOfBase, lookInBase}
+use Rattle.objects.specs.Looking.{held, Typed, Edges, saidOfBase}
 use Rattle.objects.proofs.Beginning.{itself-none}
-use Rattle.objects.proofs.Looks.{looks-told, looks-inside}
 use Rattle.objects.proofs.Records.{kept, on, base-lower, record-in}
 use Rattle.objects.proofs.Deciding.{part-record, by-parts, by-inner}
 
@@ -36,21 +33,6 @@ module _ (s : List ℕ) (w a : ℕ) where
   pub said-some : 0 < a → saidOfBase s w a ≡ choose (eqb (a - 1) w) false (bitOf (getD s (a - 1) 0) w)
   unfolding saidOfBase
   said-some some = of-base false (λ u. choose (eqb u w) false (bitOf (getD s u 0) w)) a some
-
-  pub said-itself : 0 < a → a - 1 ≡ w → false ≡ saidOfBase s w a
-  said-itself some e = sym (said-some some ∙ choose-yes _ _ _ (eq-eqb _ w e))
-
-  pub said-other : 0 < a → (a - 1 ≡ w → ⊥) → {x : Bool} → x ≡ bitOf (getD s (a - 1) 0) w → x ≡ saidOfBase s w a
-  said-other some other e = e ∙ sym (said-some some ∙ choose-no _ _ _ (ne-eqb _ w other))
-
-module _ (starts : List ℕ) (w a o : ℕ) where
-  pub look-first : o ≡ 0 → {b : Bool} {x : Look} → b ≡ saidOfBase starts w a → x ≡ toldBy b → x ≡ lookInBase starts w a o
-  unfolding lookInBase
-  look-first e said told = told ∙ ap toldBy said ∙ sym (choose-yes _ _ _ (eq-eqb o 0 e))
-
-  pub look-later : (o ≡ 0 → ⊥) → Ls.Inside (a - 1) o ≡ lookInBase starts w a o
-  unfolding lookInBase
-  look-later e = sym (choose-no _ _ _ (ne-eqb o 0 e))
 
 -- ---- it is what begins there
 
@@ -80,43 +62,37 @@ module _ {t f plan : List ℕ} (typed : Typed t f plan) (w : ℕ) where
 
   -- ---- in the record in row r
 
-  module _ (r : ℕ) (low : r < rowsOf t) (kind : rowAt t r .kind ≡ 4) {row : Row} (this : row ≡ rowAt t r)
-      {starts ends : List ℕ} (edges : Edges (beginsAt t f w) (held plan) w r starts ends) (o : ℕ) where
+  module _ (r : ℕ) (low : r < rowsOf t) (kind : rowAt t r .kind ≡ 4) {row : Row} (this : row ≡ rowAt t r) (o : ℕ) where
     abbrev inner : Bool
     inner = among (beginsAt t f w) (held plan) (ofBase [] (fieldsOf t f) (row .a)) o
 
     based : Based t r (row .a)
     based = on typed r low kind this
 
-    pub said-start : o ≡ 0 → saidOfBase starts w (row .a) ≡ inner
-    said-start first = said-is low based starts o (λ u l e. edges .start u l ∙ rw first)
+    -- behind the base's start
+    module _ (some : 0 < row .a) (more : 0 < o) where
+      inner-later : inner ≡ beginsAt t f w (row .a - 1) o
+      inner-later =
+          let (less, on-record) = base-lower typed r low kind this some in
+          ap (λ l. among (beginsAt t f w) (held plan) l o) (of-base [] (fieldsOf t f) (row .a) some)
+          ∙ sym (fields-by (row .a - 1) (omega arith) on-record o (inr (omega arith)))
 
-    pub said-end : o ≡ ofBase 0 (held plan) (row .a) → saidOfBase ends w (row .a) ≡ inner
-    unfolding ofBase
-    said-end last = said-is low based ends o (λ u l e. edges .end u l ∙ rw (last, e))
+      pub base-inside : {before : ℕ} → before ≡ ofBase 0 (held plan) (row .a) → o < before
+          → among (beginsAt t f w) (held plan) (fieldsOf t f r) o ≡ beginsAt t f w (row .a - 1) o
+      base-inside is h = sym (record-in typed r low kind this (beginsAt t f w) is o h) ∙ inner-later
 
-    inner-later : 0 < row .a → (o ≡ 0 → ⊥) → inner ≡ beginsAt t f w (row .a - 1) o
-    inner-later some more =
-        let (less, on-record) = base-lower typed r low kind this some in
-        ap (λ l. among (beginsAt t f w) (held plan) l o) (of-base [] (fieldsOf t f) (row .a) some)
-        ∙ sym (fields-by (row .a - 1) (omega arith) on-record o (inr more))
+    module _ {starts ends : List ℕ} (edges : Edges (beginsAt t f w) (held plan) w r starts ends) where
+      pub said-start : o ≡ 0 → saidOfBase starts w (row .a) ≡ inner
+      said-start first = said-is low based starts o (λ u l e. edges .start u l ∙ rw first)
 
-    -- before the base's end
-    module _ {before : ℕ} (is : before ≡ ofBase 0 (held plan) (row .a)) (h : o < before) (some : 0 < row .a) where
-      abbrev whole : Bool
-      whole = among (beginsAt t f w) (held plan) (fieldsOf t f r) o
+      pub said-end : o ≡ ofBase 0 (held plan) (row .a) → saidOfBase ends w (row .a) ≡ inner
+      unfolding ofBase
+      said-end last = said-is low based ends o (λ u l e. edges .end u l ∙ rw (last, e))
 
-      inner-whole : inner ≡ whole
-      inner-whole = record-in typed r low kind this (beginsAt t f w) is o h
-
-      pub looks-base : {x : Look} → x ≡ lookInBase starts w (row .a) o → settled (beginsAt t f w) x ≡ whole
-      unfolding lookInBase
-      looks-base {x} e = go (eqb o 0) refl
-        where
-          go : (b : Bool) → eqb o 0 ≡ b → settled (beginsAt t f w) x ≡ whole
-          go true q =
-              looks-told _ {b = saidOfBase starts w (row .a)} (e ∙ choose-yes _ _ _ q)
-              (said-start (eqb-true o 0 q) ∙ inner-whole)
-          go false q =
-              let inside : x ≡ Ls.Inside (row .a - 1) o = e ∙ choose-no _ _ _ q in
-              rw inside (looks-inside _ _ _ (sym inner-whole ∙ inner-later some (eqb-false o 0 q)))
+      -- by the base's own word: where it has cells, none of its type begins at its end
+      pub base-end : 0 < row .a → 0 < o → o ≡ ofBase 0 (held plan) (row .a)
+          → bitOf (getD ends (row .a - 1) 0) w ≡ inner
+      base-end some more last =
+          edges .end (row .a - 1) (base-lower typed r low kind this some .0)
+          ∙ ap (λ k. beginsAt t f w (row .a - 1) k) (sym (last ∙ of-base 0 (held plan) (row .a) some))
+          ∙ sym (inner-later some more)

@@ -5,6 +5,7 @@ use mathlib.Core.List.{List, [], map}
 use mathlib.Core.Logic.{_⊎_, inl, inr, ⊎-elim}
 use Prim.Native.Nat.{ℕ, zero, suc, _+_, _*_, _≤_, _<_}
 use native.Mathlib.Omega.{arith}
+use native.Mathlib.Decide.{decLt}
 use borrow.Author.Tests.{eqb-true, eq-eqb, ne-eqb}
 use lib.Dec.{eqb}
 use lib.ListN.{replicate}
@@ -16,14 +17,14 @@ use Rattle.prelude.proofs.Parts.{nth-nil, nth-split}
 use Rattle.image.specs.Rows.{rowAt, rowsOf}
 use Rattle.shapes.specs.Forms.{form, ofBase, ownTypes}
 use Rattle.shapes.specs.Sizes.{sizeBy, sizeOf, fieldsOf}
-use Rattle.shapes.proofs.Rows.{form-array, form-record}
+use Rattle.shapes.proofs.Rows.{form-scalar, form-array, form-record, form-none}
 use Rattle.shapes.proofs.Accepted.{Based, Based.no-base, Based.on-base, TypesKept, IsArray, IsRecord}
 use Rattle.shapes.proofs.Accepted.{record-is, array-is, size-is, field-low}
 use Rattle.shapes.proofs.Layouts.{decide}
 use Rattle.relations.proofs.Fielding.{fields-of, no-fields, size-fields}
 use Rattle.objects.specs.Begins.{partsOf, Begins, Begins.itself, Begins.in-part, among, beginsAt}
-use Rattle.objects.proofs.Following.{either, many-size, nth-many, among-none, among-past, among-agree, among-some}
-use Rattle.objects.proofs.Following.{some-among}
+use Rattle.objects.proofs.Following.{either, many-size, nth-many, among-none, among-past, among-agree}
+use Rattle.objects.proofs.Following.{among-some, some-among}
 
 -- a field's type stands in its row
 nth-own : (f : List ℕ) (n k : ℕ) {i u : ℕ} → Nth (ownTypes f k n) i u
@@ -95,9 +96,19 @@ module _ (t f : List ℕ) (kept : TypesKept t f) where
 
   -- ---- the parts have no more cells than the whole
 
-  pub array-size : (r : ℕ) → r < rowsOf t → rowAt t r .kind ≡ 3 → sizeOf t f r ≡ rowAt t r .b * sizeOf t f (rowAt t r .a)
+  pub array-size : (r : ℕ) → r < rowsOf t → rowAt t r .kind ≡ 3
+      → sizeOf t f r ≡ rowAt t r .b * sizeOf t f (rowAt t r .a)
   unfolding form sizeBy
   array-size r low kind = size-is t f r (kept .row r low .shape) ∙ rw (form-array (rowAt t r) kind)
+
+  -- what is neither array nor record has one cell at most
+  pub scalar-size : (r : ℕ) → r < rowsOf t → (rowAt t r .kind ≡ 3 → ⊥) → (rowAt t r .kind ≡ 4 → ⊥) → sizeOf t f r ≤ 1
+  unfolding form sizeBy
+  scalar-size r low no-array no-record = rw (size-is t f r (kept .row r low .shape)) (go (decLt (rowAt t r .kind) 3))
+    where
+      go : Dec (rowAt t r .kind < 3) → sizeBy f (sizeOf t f) (form t r) ≤ 1
+      go (yes k) = rw (form-scalar (rowAt t r) k) (omega arith)
+      go (no k) = rw (form-none (rowAt t r) (omega arith)) (omega arith)
 
   parts-size : (r : ℕ) → r < rowsOf t → sum (map (sizeOf t f) (partsOf t f r)) ≤ sizeOf t f r
   parts-size r low = go (decide (rowAt t r .kind) 3) (decide (rowAt t r .kind) 4)

@@ -2,7 +2,9 @@
 use mathlib.Core.Path.{_≡_, refl, sym, _∙_, ap}
 use mathlib.Core.Bool.{Bool, true, false}
 use mathlib.Core.List.{List}
-use Prim.Native.Nat.{ℕ, _+_, _≤_, _<_}
+use mathlib.Core.Logic.{_⊎_, inl, inr}
+use Prim.Native.Nat.{ℕ, _+_, _*_, _≤_, _<_}
+use native.Mathlib.Nat.{mul-zero, lt-of-mul-lt-mul-left}
 use native.Mathlib.Omega.{arith}
 use borrow.Author.Tests.{ne-eqb}
 use lib.Dec.{eqb}
@@ -13,12 +15,13 @@ use Rattle.prelude.proofs.Choice.{choose-no, also-right}
 use Rattle.image.specs.declared.Row.{Row}
 use Rattle.image.specs.Rows.{rowAt, rowsOf}
 use Rattle.shapes.specs.Sizes.{fieldsOf}
+use Rattle.shapes.proofs.Layouts.{decide}
 use Rattle.relations.proofs.Fielding.{no-fields}
 use Rattle.objects.specs.Begins.{partsOf, among, beginsAt}
 use Rattle.objects.specs.Looking.{held, Typed, Beyond}
 use Rattle.objects.specs.Tables.{ROWS}
-use Rattle.objects.proofs.Beginning.{array-row, array-parts, other-parts, begins-eq}
-use Rattle.objects.proofs.Records.{kept, by-plan}
+use Rattle.objects.proofs.Beginning.{array-row, array-parts, other-parts, array-size, scalar-size, begins-eq}
+use Rattle.objects.proofs.Records.{kept, held-size, by-plan}
 
 module _ {t f plan : List ℕ} (typed : Typed t f plan) where
   -- ---- parts by the kind
@@ -30,6 +33,31 @@ module _ {t f plan : List ℕ} (typed : Typed t f plan) where
 
   pub element-few : (r : ℕ) → r < rowsOf t → {row : Row} → row ≡ rowAt t r → row .kind ≡ 3 → row .a < ROWS
   element-few r low this kind = let few = typed .few in omega (arith, element-low r low this kind)
+
+  module _ (r : ℕ) (low : r < rowsOf t) {row : Row} (this : row ≡ rowAt t r) where
+    pub array-held : row .kind ≡ 3 → row .b * held plan (row .a) ≡ held plan r
+    array-held kind =
+        let k : rowAt t r .kind ≡ 3 = rw (← this) kind in
+        let less = element-low r low this kind in
+        rw (held-size typed (row .a) (omega arith), held-size typed r low, array-size t f (kept typed) r low k, this)
+
+    -- between its edges
+    module _ {o : ℕ} (some : 0 < o) (inside : o < held plan r) where
+      pub element-some : row .kind ≡ 3 → 0 < held plan (row .a)
+      element-some kind =
+          lt-of-mul-lt-mul-left (row .b) (omega (arith, mul-zero (row .b), array-held kind))
+
+      pub is-record : (row .kind ≡ 3 → ⊥) → rowAt t r .kind ≡ 4
+      is-record other = go (decide (rowAt t r .kind) 4)
+        where
+          go : (rowAt t r .kind ≡ 4) ⊎ (rowAt t r .kind ≡ 4 → ⊥) → rowAt t r .kind ≡ 4
+          go (inl kind) = kind
+          go (inr none) =
+              absurd (omega (
+                arith,
+                held-size typed r low,
+                scalar-size t f (kept typed) r low (rw (← this) other) none,
+              ))
 
   module _ (r : ℕ) (low : r < rowsOf t) {row : Row} (this : row ≡ rowAt t r) (deeper : ℕ → ℕ → Bool) (o : ℕ) where
     pub part-array : row .kind ≡ 3 → (1 ≤ row .b)

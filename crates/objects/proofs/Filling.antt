@@ -3,14 +3,14 @@ use mathlib.Core.Path.{_≡_, refl, sym, _∙_, ap}
 use mathlib.Core.Bool.{false}
 use mathlib.Core.List.{List, [], _++_, map}
 use mathlib.Core.Logic.{_⊎_, inl, inr}
-use Prim.Native.Nat.{ℕ, _*_, _^_, _<_}
+use Prim.Native.Nat.{ℕ, _^_, _<_}
 use native.Mathlib.Omega.{arith}
 use borrow.Author.Tests.{eq-eqb, ne-eqb}
 use lib.Bits.{bitOr}
 use lib.Dec.{eqb}
 use lib.ListN.{getD}
 use Rattle.prelude.specs.Bits.{bitOf}
-use Rattle.prelude.specs.Choice.{choose, _also_}
+use Rattle.prelude.specs.Choice.{choose}
 use Rattle.prelude.specs.Parts.{sum}
 use Rattle.prelude.proofs.Bits.{bit-none, bit-single}
 use Rattle.prelude.proofs.Choice.{choose-yes, choose-no, also-first}
@@ -21,9 +21,9 @@ use Rattle.shapes.specs.Sizes.{fieldsOf}
 use Rattle.shapes.proofs.Layouts.{decide}
 use Rattle.objects.specs.Begins.{partsOf, among, beginsAt}
 use Rattle.objects.specs.Looking.{held, Typed, Edges, AtEdges, saidOfBase}
-use Rattle.objects.proofs.Beginning.{array-size}
-use Rattle.objects.proofs.Records.{kept, held-size, fields-held, whole, record-past}
-use Rattle.objects.proofs.Deciding.{element-low, part-array, part-record, part-none, begins-by, by-inner}
+use Rattle.objects.proofs.Records.{fields-held, whole, record-past}
+use Rattle.objects.proofs.Deciding.{element-low, array-held, part-array, part-record, part-none}
+use Rattle.objects.proofs.Deciding.{begins-by, by-inner}
 use Rattle.objects.proofs.Bases.{said-start, said-end}
 use Rattle.objects.proofs.Joining.{or-bit, at-same, at-many}
 
@@ -34,11 +34,6 @@ module _ {t f plan : List ℕ} (typed : Typed t f plan) (w r : ℕ) (low : r < r
   -- ---- its parts, by the kind
 
   module _ {row : Row} (this : row ≡ rowAt t r) where
-    array-held : row .kind ≡ 3 → row .a < r → row .b * held plan (row .a) ≡ held plan r
-    array-held kind less =
-        let k : rowAt t r .kind ≡ 3 = rw (← this) kind in
-        rw (held-size typed (row .a) (omega arith), held-size typed r low, array-size t f (kept typed) r low k, this)
-
     pub at-none : (row .kind ≡ 3 → ⊥) → (row .kind ≡ 4 → ⊥) → Parts 0 0
     at-none a b =
         let none : (o : ℕ) → among (beginsAt t f w) (held plan) (partsOf t f r) o ≡ false =
@@ -54,7 +49,7 @@ module _ {t f plan : List ℕ} (typed : Typed t f plan) (w r : ℕ) (low : r < r
       at-array kind =
           let less = element-low typed r low this kind in
           let (least, same) = part-array typed r low this (beginsAt t f w) 0 kind in
-          rw (array-held kind less) at
+          rw (array-held typed r low this kind) at
           (at-same (λ o. part-array typed r low this (beginsAt t f w) o kind .1) (at-many edges less (row .b) least))
 
       -- a record's base
@@ -64,8 +59,8 @@ module _ {t f plan : List ℕ} (typed : Typed t f plan) (w r : ℕ) (low : r < r
       at-base kind {before} is p q =
           let k : rowAt t r .kind ≡ 4 = rw (← this) kind in
           record {
-            start = p ∙ said-start typed w r low k this edges 0 refl;
-            end = q ∙ said-end typed w r low k this edges before is;
+            start = p ∙ said-start typed w r low k this 0 edges refl;
+            end = q ∙ said-end typed w r low k this before edges is;
             past = λ o h. record-past typed r low k this (beginsAt t f w) is o edges h;
           }
 

@@ -28,6 +28,13 @@ unfolding choose
 first-alone true e = refl
 first-alone false e = e
 
+-- ---- cells
+
+pub sum-append : (size : ℕ → ℕ) (l m : List ℕ) → sum (map size (l ++ m)) ≡ sum (map size l) + sum (map size m)
+unfolding sum
+sum-append size [] m = omega arith
+sum-append size (u ∷ l) m = omega (arith, sum-append size l m)
+
 -- ---- n types that are the same
 
 pub many-size : (size : ℕ → ℕ) (e n : ℕ) → sum (map size (replicate n e)) ≡ n * size e

@@ -25,7 +25,7 @@ use Rattle.shapes.proofs.Layouts.{decide}
 use Rattle.objects.specs.Begins.{among}
 use Rattle.objects.specs.Looking.{Edges, AtEdges, LowTypes}
 use Rattle.objects.specs.Tables.{ROWS}
-use Rattle.objects.proofs.Following.{first-alone, among-append}
+use Rattle.objects.proofs.Following.{first-alone, sum-append, among-append}
 use Rattle.objects.proofs.Looks.{between-start, between-end, none-first, elements-past, row-low}
 
 -- ---- bits
@@ -147,20 +147,20 @@ module _ {deeper : ℕ → ℕ → Bool} {size : ℕ → ℕ} {w : ℕ} where
     module _ {e : ℕ} (low : e < m) (n : ℕ) (least : 1 ≤ n) where
       at-start : Dec (0 < size e) → bitOf (getD starts e 0) w ≡ among deeper size (replicate n e) 0
       at-start (yes some) = rw (zero-mul (size e)) at (between-start edges low n 0 some least refl refl)
-      at-start (no none) = none-first edges low n refl (omega arith) refl least refl
+      at-start (no none) = none-first edges low n (omega arith) refl least refl
 
       at-end : Dec (0 < size e) → bitOf (getD ends e 0) w ≡ among deeper size (replicate n e) (n * size e)
       at-end (yes some) = between-end edges low n n some (omega arith) refl refl
       at-end (no none) =
           let empty : size e ≡ 0 = omega arith in
           edges .end e low ∙ ap (λ o. deeper e o) empty ∙ sym (edges .start e low)
-          ∙ none-first edges low n refl empty (ap (λ k. n * k) empty ∙ mul-zero n) least refl
+          ∙ none-first edges low n empty (ap (λ k. n * k) empty ∙ mul-zero n) least refl
 
       pub at-many : AtEdges (among deeper size (replicate n e)) (n * size e) w (getD starts e 0) (getD ends e 0)
       at-many = record {
         start = at-start (decLt 0 (size e));
         end = at-end (decLt 0 (size e));
-        past = λ o h. elements-past edges low n 0 o h;
+        past = λ o h. elements-past edges low n o h;
       }
 
 -- ---- fields, a row at a time
@@ -179,8 +179,7 @@ module _ (deeper : ℕ → ℕ → Bool) (size : ℕ → ℕ) (w : ℕ) where
 
   sum-more : (l : List ℕ) (u : ℕ) → sum (map size (l ++ (u ∷ []))) ≡ sum (map size l) + size u
   unfolding sum
-  sum-more [] u = omega arith
-  sum-more (v ∷ l) u = omega (arith, sum-more l u)
+  sum-more l u = omega (arith, sum-append size l (u ∷ []))
 
   append-at : (l : List ℕ) (u o : ℕ) → among deeper size (l ++ (u ∷ [])) o
       ≡ choose (among deeper size l o) true (choose (leb (sum (map size l)) o) (deeper u (o - sum (map size l))) false)

@@ -4,21 +4,23 @@ use mathlib.Core.Bool.{Bool, true, false}
 use mathlib.Core.List.{List, [], _∷_}
 use mathlib.Core.Logic.{⊎-elim}
 use Prim.Native.Nat.{ℕ, zero, suc, _+_, _-_, _*_, _≤_, _<_}
-use native.Mathlib.Nat.{mul-zero, suc-mul, mul-le-mul-right}
+use native.Mathlib.Nat.{zero-mul, suc-mul, lt-of-mul-lt-mul-right}
 use native.Mathlib.Omega.{arith}
+use native.Mathlib.Decide.{decLt}
 use denote.Enum.Declared.{tagOf}
 use types.Run.{OneOf}
-use lib.ListN.{getD, replicate}
+use lib.ListN.{length, getD, replicate}
 use Rattle.prelude.specs.Bits.{bitOf}
 use Rattle.prelude.proofs.Parts.{nth-replicate}
-use Rattle.image.specs.Rows.{rowAt}
+use Rattle.image.specs.Rows.{rowAt, rowsOf}
 use Rattle.shapes.specs.Forms.{ownTypes}
-use Rattle.shapes.proofs.Rows.{own-step, own-end}
+use Rattle.shapes.proofs.Rows.{own-step, sum-step, sum-end}
 use Rattle.objects.specs.Begins.{among}
 use Rattle.objects.specs.declared.Look.{Look}
 use Rattle.objects.specs.declared.Look.the-variants as Ls
-use Rattle.objects.specs.Looking.{Edges, LowTypes, toldBy, settled}
+use Rattle.objects.specs.Looking.{held, Edges, LowTypes, Fields, Ahead, toldBy, settled}
 use Rattle.objects.specs.Looking.{Below, Below.yes-below, Below.no-below, Below.inside-below}
+use Rattle.objects.specs.Tables.{ROWS}
 use Rattle.objects.proofs.Look.{the-type as lookType}
 use Rattle.objects.proofs.Following.{among-here, among-stop, among-next, among-past, some-among}
 use Rattle.objects.proofs.Following.{many-size, many-before, nth-many, many-none, many-empty, many-inside}
@@ -30,7 +32,7 @@ module _ (deeper : ℕ → ℕ → Bool) where
   unfolding settled
   looks-yes e = sym e
 
-  pub looks-no : {b : Bool} → b ≡ false → settled deeper Ls.No ≡ b
+  looks-no : {b : Bool} → b ≡ false → settled deeper Ls.No ≡ b
   unfolding settled
   looks-no e = sym e
 
@@ -71,20 +73,20 @@ settled-no (Ls.Inside u o) h = refl
 
 -- ---- where they lead
 
-module _ {m : ℕ} where
-  pub below-told : (b : Bool) {x : Look} → x ≡ toldBy b → Below m x
+module _ {size : ℕ → ℕ} {m : ℕ} where
+  pub below-told : (b : Bool) {x : Look} → x ≡ toldBy b → Below size m x
   unfolding toldBy
   below-told b is = rw is (go b)
     where
-      go : (b : Bool) → Below m (toldBy b)
+      go : (b : Bool) → Below size m (toldBy b)
       go true = yes-below
       go false = no-below
 
-  pub below-on : {x : Look} {u o : ℕ} → x ≡ Ls.Inside u o → Below m x → (u < m) × (0 < o)
+  pub below-on : {x : Look} {u o : ℕ} → x ≡ Ls.Inside u o → Below size m x → (u < m) × (0 < o) × (o < size u)
   below-on {u = u} {o = o} e h = go (rw e at h)
     where
-      go : Below m (Ls.Inside u o) → (u < m) × (0 < o)
-      go (inside-below low some) = (low, some)
+      go : Below size m (Ls.Inside u o) → (u < m) × (0 < o) × (o < size u)
+      go (inside-below low some less) = (low, some, less)
 
 -- ---- edges
 
@@ -98,7 +100,7 @@ edges-less low h = record {
 
 -- ---- fields, a row at a time
 
-pub lows-later : {f : List ℕ} {k j e m : ℕ} → k ≤ j → LowTypes f k e m → LowTypes f j e m
+lows-later : {f : List ℕ} {k j e m : ℕ} → k ≤ j → LowTypes f k e m → LowTypes f j e m
 lows-later low h = record { within = h .within; each = λ i least more. h .each i (omega arith) more }
 
 pub lows-more : {f : List ℕ} {k e m n : ℕ} → m ≤ n → LowTypes f k e m → LowTypes f k e n
@@ -110,41 +112,82 @@ lows-more low h = record {
 pub row-low : {f : List ℕ} {k j e m u : ℕ} → LowTypes f k e m → k ≤ j → j < e → u ≡ rowAt f j .a → u < m
 row-low {j = j} lows least more this = rw this (lows .each j least more)
 
-module _ {deeper : ℕ → ℕ → Bool} {size : ℕ → ℕ} {w m : ℕ} {starts ends : List ℕ} {f : List ℕ} {k e : ℕ}
-    (edges : Edges deeper size w m starts ends) (lows : LowTypes f k e m) {j : ℕ} (least : k ≤ j) (more : j < e)
-    {u : ℕ} (this : u ≡ rowAt f j .a) where
-  turn-low : u < m
-  turn-low = row-low lows least more this
+-- those that have more than o cells
+module _ {f plan : List ℕ} {j e m o : ℕ} (fields : Fields f plan j e m o) where
+  fields-some : j < e
+  fields-some = go (decLt j e)
+    where
+      go : Dec (j < e) → j < e
+      go (yes h) = h
+      go (no h) = absurd (omega (arith, fields .more, sum-end f j e (held plan) (omega arith)))
 
+  module _ {u : ℕ} (this : u ≡ rowAt f j .a) where
+    pub field-low : u < m
+    field-low = row-low (fields .lows) (omega arith) fields-some this
+
+    -- behind the first
+    pub fields-next : {room rest : ℕ} → room ≡ held plan u → room + rest ≡ o → Fields f plan (j + 1) e m rest
+    fields-next is place = record {
+      lows = lows-later (omega arith) (fields .lows);
+      more = omega (arith, fields .more, is, ap (held plan) this, sum-step f j e (held plan) fields-some);
+    }
+
+module _ {f plan : List ℕ} {j o : ℕ} (ahead : Ahead f plan j o) where
+  pub ahead-row : j < rowsOf f
+  ahead-row = omega (arith, ahead .fields .lows .within, fields-some (ahead .fields))
+
+  pub ahead-small : j < 131070
+  ahead-small = omega (arith, ahead .small, fields-some (ahead .fields))
+
+  module _ {u : ℕ} (this : u ≡ rowAt f j .a) where
+    pub ahead-planned : u < length plan
+    ahead-planned = omega (arith, ahead .planned, field-low (ahead .fields) this)
+
+    pub ahead-few : u < ROWS
+    ahead-few = omega (arith, ahead .few, field-low (ahead .fields) this)
+
+    pub ahead-next : {room rest : ℕ} → room ≡ held plan u → room + rest ≡ o → Ahead f plan (j + 1) rest
+    ahead-next is place = record {
+      end = ahead .end;
+      below = ahead .below;
+      fields = fields-next (ahead .fields) this is place;
+      small = ahead .small;
+      planned = ahead .planned;
+      few = ahead .few;
+    }
+
+module _ {deeper : ℕ → ℕ → Bool} {w m : ℕ} {starts ends : List ℕ} {f plan : List ℕ} {j e o : ℕ}
+    (edges : Edges deeper (held plan) w m starts ends) (fields : Fields f plan j e m o) {u : ℕ}
+    (this : u ≡ rowAt f j .a) where
   abbrev here-on : ℕ → Bool
-  here-on o = among deeper size (ownTypes f j (e - j)) o
+  here-on o = among deeper (held plan) (ownTypes f j (e - j)) o
 
   abbrev later : ℕ → Bool
-  later o = among deeper size (ownTypes f (j + 1) (e - (j + 1))) o
+  later o = among deeper (held plan) (ownTypes f (j + 1) (e - (j + 1))) o
 
-  at-row : (rest : ℕ) → here-on rest ≡ among deeper size (u ∷ ownTypes f (j + 1) (e - (j + 1))) rest
-  at-row rest =
-      ap (λ l. among deeper size l rest)
-      (own-step f j e more ∙ ap (λ v. v ∷ ownTypes f (j + 1) (e - (j + 1))) (sym this))
+  at-row : (o : ℕ) → here-on o ≡ among deeper (held plan) (u ∷ ownTypes f (j + 1) (e - (j + 1))) o
+  at-row o =
+      ap (λ l. among deeper (held plan) l o)
+      (own-step f j e (fields-some fields) ∙ ap (λ v. v ∷ ownTypes f (j + 1) (e - (j + 1))) (sym this))
 
   turn-here : {rest : ℕ} → deeper u rest ≡ true → here-on rest ≡ true
-  turn-here {rest} h = at-row rest ∙ among-here deeper size _ _ _ h
+  turn-here {rest} h = at-row rest ∙ among-here deeper (held plan) _ _ _ h
 
-  module _ {room rest : ℕ} (is : room ≡ size u) where
+  module _ {room rest : ℕ} (is : room ≡ held plan u) where
     pub turn-in : rest < room → here-on rest ≡ deeper u rest
-    turn-in h = at-row rest ∙ among-stop deeper size _ _ _ (rw is at h)
+    turn-in h = at-row rest ∙ among-stop deeper (held plan) _ _ _ (rw is at h)
 
     turn-past : deeper u rest ≡ false → room ≤ rest → here-on rest ≡ later (rest - room)
-    turn-past q h = at-row rest ∙ among-next deeper size _ _ _ q (rw is at h) ∙ rw is
+    turn-past q h = at-row rest ∙ among-next deeper (held plan) _ _ _ q (rw is at h) ∙ rw is
 
     -- behind the field
     pub turn-next : room < rest → here-on rest ≡ later (rest - room)
-    turn-next h = turn-past (edges .past u rest turn-low (rw is at h)) (omega arith)
+    turn-next h = turn-past (edges .past u rest (field-low fields this) (rw is at h)) (omega arith)
 
     -- at its end
     module _ (last : rest ≡ room) {x : Bool} (mark : x ≡ bitOf (getD ends u 0) w) where
       end-deeper : deeper u rest ≡ x
-      end-deeper = ap (λ o. deeper u o) (last ∙ is) ∙ sym (mark ∙ edges .end u turn-low)
+      end-deeper = ap (λ o. deeper u o) (last ∙ is) ∙ sym (mark ∙ edges .end u (field-low fields this))
 
       pub turn-yes : x ≡ true → here-on rest ≡ true
       turn-yes q = turn-here (end-deeper ∙ q)
@@ -157,12 +200,12 @@ module _ {deeper : ℕ → ℕ → Bool} {size : ℕ → ℕ} {w m : ℕ} {start
   -- at its start
   module _ {x : Bool} (mark : x ≡ bitOf (getD starts u 0) w) where
     first-deeper : deeper u 0 ≡ x
-    first-deeper = sym (mark ∙ edges .start u turn-low)
+    first-deeper = sym (mark ∙ edges .start u (field-low fields this))
 
     pub first-yes : x ≡ true → here-on 0 ≡ true
     first-yes q = turn-here (first-deeper ∙ q)
 
-    module _ {room : ℕ} (is : room ≡ size u) (q : x ≡ false) where
+    module _ {room : ℕ} (is : room ≡ held plan u) (q : x ≡ false) where
       pub first-no : 0 < room → here-on 0 ≡ false
       first-no h = turn-in is h ∙ first-deeper ∙ q
 
@@ -171,68 +214,15 @@ module _ {deeper : ℕ → ℕ → Bool} {size : ℕ → ℕ} {w m : ℕ} {start
           let none : 0 - room ≡ 0 = omega arith in
           turn-past is (first-deeper ∙ q) h ∙ ap (λ o. later o) none
 
-pub scan-end : (deeper : ℕ → ℕ → Bool) (size : ℕ → ℕ) (f : List ℕ) (j e o : ℕ) → e ≤ j
-    → among deeper size (ownTypes f j (e - j)) o ≡ false
-unfolding among
-scan-end deeper size f j e o h = rw (own-end f j e h)
-
 -- ---- elements
 
 module _ {deeper : ℕ → ℕ → Bool} {size : ℕ → ℕ} {w m : ℕ} {starts ends : List ℕ}
-    (edges : Edges deeper size w m starts ends) {e : ℕ} (low : e < m) (n i : ℕ) where
+    (edges : Edges deeper size w m starts ends) {e : ℕ} (low : e < m) (n : ℕ) where
   abbrev many : ℕ → Bool
   many o = among deeper size (replicate n e) o
 
   past : (x : ℕ) → size e < x → deeper e x ≡ false
   past x h = edges .past e x low h
-
-  between-first : i < n → deeper e 0 ≡ true → many (i * size e) ≡ true
-  between-first h d =
-      let q : i * size e + 0 ≡ i * size e = omega arith in
-      rw (many-before size e i n (omega arith), q) at (some-among deeper size 0 (nth-replicate n i e h) d)
-
-  between-last : 0 < i → i ≤ n → deeper e (size e) ≡ true → many (i * size e) ≡ true
-  between-last some h d = go i some h
-    where
-      go : (i : ℕ) → 0 < i → i ≤ n → many (i * size e) ≡ true
-      go zero some h = absurd (omega arith)
-      go (suc k) some h =
-          let q : k * size e + size e ≡ suc k * size e = omega (arith, suc-mul k (size e)) in
-          rw (many-before size e k n (omega arith), q) at
-          (some-among deeper size (size e) (nth-replicate n k e (omega arith)) d)
-
-  between-none : 0 < size e → (i < n → deeper e 0 ≡ false) → (0 < i → deeper e (size e) ≡ false)
-      → many (i * size e) ≡ false
-  between-none some a b = many-none deeper size e past n i some a b
-
-  -- what the code answers
-  pub between-start : 0 < size e → 1 ≤ n → i ≡ 0 → {x : Bool} → x ≡ bitOf (getD starts e 0) w → x ≡ many (i * size e)
-  between-start some least first {x} h = go x refl
-    where
-      go : (b : Bool) → x ≡ b → x ≡ many (i * size e)
-      go true q = q ∙ sym (between-first (omega arith) (sym (edges .start e low) ∙ sym h ∙ q))
-      go false q = q ∙ sym (between-none some (λ l. sym (edges .start e low) ∙ sym h ∙ q) (λ l. absurd (omega arith)))
-
-  pub between-end : 0 < size e → 0 < i → i ≡ n → {x : Bool} → x ≡ bitOf (getD ends e 0) w → x ≡ many (i * size e)
-  between-end some more last {x} h = go x refl
-    where
-      go : (b : Bool) → x ≡ b → x ≡ many (i * size e)
-      go true q = q ∙ sym (between-last more (omega arith) (sym (edges .end e low) ∙ sym h ∙ q))
-      go false q = q ∙ sym (between-none some (λ l. absurd (omega arith)) (λ l. sym (edges .end e low) ∙ sym h ∙ q))
-
-  module _ {y : Bool} (start : y ≡ bitOf (getD starts e 0) w) where
-    pub between-yes : y ≡ true → i < n → true ≡ many (i * size e)
-    between-yes first h = sym (between-first h (sym (edges .start e low) ∙ sym start ∙ first))
-
-    pub between-both : y ≡ false → 0 < size e → 0 < i → i ≤ n → {x : Bool} → x ≡ bitOf (getD ends e 0) w
-        → x ≡ many (i * size e)
-    between-both first some more within {x} h = go x refl
-      where
-        go : (b : Bool) → x ≡ b → x ≡ many (i * size e)
-        go true q = q ∙ sym (between-last more within (sym (edges .end e low) ∙ sym h ∙ q))
-        go false q =
-            q ∙ sym (between-none some (λ l. sym (edges .start e low) ∙ sym start ∙ first)
-            (λ l. sym (edges .end e low) ∙ sym h ∙ q))
 
   pub elements-past : (o : ℕ) → n * size e < o → many o ≡ false
   elements-past o h =
@@ -240,45 +230,86 @@ module _ {deeper : ℕ → ℕ → Bool} {size : ℕ → ℕ} {w m : ℕ} {start
       (λ k u x y l. let same = nth-many n e y in rw same (past x (rw same at l)))
       (rw (many-size size e n) h)
 
-module _ {deeper : ℕ → ℕ → Bool} {size : ℕ → ℕ} {w m : ℕ} {starts ends : List ℕ}
-    (edges : Edges deeper size w m starts ends) {e : ℕ} (low : e < m) (n : ℕ) {room o : ℕ} (is : room ≡ size e) where
-  -- elements without cells
-  pub none-past : room ≡ 0 → 0 < o → among deeper size (replicate n e) o ≡ false
-  none-past none some =
-      let no-cells : size e ≡ 0 = omega arith in
-      let q : n * size e ≡ 0 = rw no-cells (mul-zero n) in
-      elements-past edges low n 0 o (omega arith)
-
-  pub none-first : room ≡ 0 → o ≡ 0 → 1 ≤ n → {x : Bool} → x ≡ bitOf (getD starts e 0) w
-      → x ≡ among deeper size (replicate n e) o
-  none-first none first least {x} h = go x refl n least
+  -- without cells
+  pub none-first : size e ≡ 0 → {o : ℕ} → o ≡ 0 → 1 ≤ n → {x : Bool} → x ≡ bitOf (getD starts e 0) w → x ≡ many o
+  none-first none {o} first least {x} h = go x refl n least
     where
       go : (b : Bool) → x ≡ b → (n : ℕ) → 1 ≤ n → x ≡ among deeper size (replicate n e) o
       go b q zero least = absurd (omega arith)
       go true q (suc k) least =
           q ∙ sym (among-here deeper size e (replicate k e) o (rw first (sym (edges .start e low) ∙ sym h ∙ q)))
       go false q (suc k) least =
-          q ∙ sym (rw first (many-empty deeper size e (λ y l. edges .past e y low l) (suc k) (omega arith)
-          (sym (edges .start e low) ∙ sym h ∙ q)))
+          q ∙ sym (rw first (many-empty deeper size e past (suc k) none (sym (edges .start e low) ∙ sym h ∙ q)))
 
-  -- i whole elements and some cells
-  module _ (i inside : ℕ) (some : 0 < room) (parted : i * room + inside ≡ o) where
+  -- behind i of them
+  module _ (i : ℕ) where
+    between-first : i < n → deeper e 0 ≡ true → many (i * size e) ≡ true
+    between-first h d =
+        let q : i * size e + 0 ≡ i * size e = omega arith in
+        rw (many-before size e i n (omega arith), q) at (some-among deeper size 0 (nth-replicate n i e h) d)
+
+    between-last : 0 < i → i ≤ n → deeper e (size e) ≡ true → many (i * size e) ≡ true
+    between-last some h d = go i some h
+      where
+        go : (i : ℕ) → 0 < i → i ≤ n → many (i * size e) ≡ true
+        go zero some h = absurd (omega arith)
+        go (suc k) some h =
+            let q : k * size e + size e ≡ suc k * size e = omega (arith, suc-mul k (size e)) in
+            rw (many-before size e k n (omega arith), q) at
+            (some-among deeper size (size e) (nth-replicate n k e (omega arith)) d)
+
+    between-none : 0 < size e → (i < n → deeper e 0 ≡ false) → (0 < i → deeper e (size e) ≡ false)
+        → many (i * size e) ≡ false
+    between-none some a b = many-none deeper size e past n i some a b
+
+    pub between-start : 0 < size e → 1 ≤ n → i ≡ 0 → {x : Bool} → x ≡ bitOf (getD starts e 0) w
+        → x ≡ many (i * size e)
+    between-start some least first {x} h = go x refl
+      where
+        go : (b : Bool) → x ≡ b → x ≡ many (i * size e)
+        go true q = q ∙ sym (between-first (omega arith) (sym (edges .start e low) ∙ sym h ∙ q))
+        go false q = q ∙ sym (between-none some (λ l. sym (edges .start e low) ∙ sym h ∙ q) (λ l. absurd (omega arith)))
+
+    pub between-end : 0 < size e → 0 < i → i ≡ n → {x : Bool} → x ≡ bitOf (getD ends e 0) w → x ≡ many (i * size e)
+    between-end some more last {x} h = go x refl
+      where
+        go : (b : Bool) → x ≡ b → x ≡ many (i * size e)
+        go true q = q ∙ sym (between-last more (omega arith) (sym (edges .end e low) ∙ sym h ∙ q))
+        go false q = q ∙ sym (between-none some (λ l. absurd (omega arith)) (λ l. sym (edges .end e low) ∙ sym h ∙ q))
+
+  -- i whole ones and some cells, before the end of all
+  module _ {room o : ℕ} (is : room ≡ size e) (i inside : ℕ) (parted : i * room + inside ≡ o)
+      (within : o < n * size e) where
     as-parted : i * size e + inside ≡ o
     as-parted = rw (← is) parted
 
-    pub parted-edge : inside ≡ 0 → {x : Bool} → x ≡ among deeper size (replicate n e) (i * size e)
-        → x ≡ among deeper size (replicate n e) o
-    parted-edge none h =
-        let q : i * size e ≡ o = omega (arith, as-parted) in
-        h ∙ ap (λ k. among deeper size (replicate n e) k) q
+    whole-low : i < n
+    whole-low = lt-of-mul-lt-mul-right (size e) (omega (arith, as-parted))
 
-    pub parted-inside : (inside ≡ 0 → ⊥) → inside < room → i < n
-        → among deeper size (replicate n e) o ≡ deeper e inside
-    parted-inside more less within =
-        ap (λ k. among deeper size (replicate n e) k) (sym as-parted)
-        ∙ many-inside deeper size e (λ y l. edges .past e y low l) n i inside (omega arith) (omega arith) within
+    pub parted-inside : 0 < inside → inside < room → many o ≡ deeper e inside
+    parted-inside more less =
+        ap (λ k. many k) (sym as-parted) ∙ many-inside deeper size e past n i inside more (omega arith) whole-low
 
-    pub parted-past : (inside ≡ 0 → ⊥) → n ≤ i → among deeper size (replicate n e) o ≡ false
-    parted-past more high =
-        let whole = mul-le-mul-right (size e) high in
-        elements-past edges low n i o (omega (arith, as-parted))
+    -- where one ends the next starts
+    module _ (edge : inside ≡ 0) {y : Bool} (start : y ≡ bitOf (getD starts e 0) w) where
+      all-whole : i * size e ≡ o
+      all-whole = omega (arith, as-parted)
+
+      first-one : deeper e 0 ≡ y
+      first-one = sym (start ∙ edges .start e low)
+
+      pub parted-yes : y ≡ true → many o ≡ true
+      parted-yes q = ap (λ k. many k) (sym all-whole) ∙ between-first i whole-low (first-one ∙ q)
+
+      pub parted-both : y ≡ false → 0 < room → 0 < o → {x : Bool} → x ≡ bitOf (getD ends e 0) w → x ≡ many o
+      parted-both q some more {x} h = go x refl ∙ ap (λ k. many k) all-whole
+        where
+          least : 0 < i
+          least = lt-of-mul-lt-mul-right (size e) (omega (arith, zero-mul (size e), all-whole))
+
+          last-one : deeper e (size e) ≡ x
+          last-one = sym (h ∙ edges .end e low)
+
+          go : (b : Bool) → x ≡ b → x ≡ many (i * size e)
+          go true p = p ∙ sym (between-last i least (omega (arith, whole-low)) (last-one ∙ p))
+          go false p = p ∙ sym (between-none i (omega arith) (λ l. first-one ∙ q) (λ l. last-one ∙ p))

@@ -20,9 +20,9 @@ use Rattle.shapes.proofs.Accepted.{Based, Based.no-base, Based.on-base, TypesKe
 use Rattle.types.proofs.Accepted.{types-kept}
 use Rattle.relations.proofs.Fielding.{fields-of, size-fields}
 use Rattle.objects.specs.Begins.{partsOf, among}
-use Rattle.objects.specs.Looking.{held, Typed, Edges, LowTypes}
+use Rattle.objects.specs.Looking.{held, Typed, Edges, LowTypes, Fields, Ahead}
 use Rattle.objects.specs.Tables.{ROWS}
-use Rattle.objects.proofs.Following.{first-alone, among-append, among-past, among-agree}
+use Rattle.objects.proofs.Following.{first-alone, sum-append, among-append, among-past, among-agree}
 use Rattle.objects.proofs.Looks.{lows-more}
 use Rattle.objects.proofs.Beginning.{record-row, fields-low, based-low, parts-low}
 
@@ -31,7 +31,7 @@ map-agree g h [] same = refl
 map-agree g h (u ∷ l) same = rw (same 0 u here, map-agree g h l (λ n v k. same (suc n) v (there k)))
 
 -- a base with cells is there
-pub base-some : (g : ℕ → ℕ) {before o : ℕ} (a : ℕ) → before ≡ ofBase 0 g a → o < before → 0 < a
+pub base-some : (g : ℕ → ℕ) {before : ℕ} (a : ℕ) → before ≡ ofBase 0 g a → 0 < before → 0 < a
 unfolding ofBase
 base-some g zero is h = absurd (omega (arith, is))
 base-some g (suc a) is h = omega arith
@@ -80,13 +80,10 @@ module _ {t f plan : List ℕ} (typed : Typed t f plan) where
           each = λ j least most. field-low f at j (is .own .each j least most);
         })
 
-    pub own-room : LowTypes f (row .b) (row .b + row .c) (length plan)
-    own-room = lows-more (let few = typed .room in omega arith) own-low
-
     pub own-few : LowTypes f (row .b) (row .b + row .c) ROWS
     own-few = lows-more (let few = typed .few in omega arith) own-low
 
-    pub base-low : row .a ≤ at
+    base-low : row .a ≤ at
     base-low = go (row .a) on
       where
         go : (a : ℕ) → Based t at a → a ≤ at
@@ -116,6 +113,34 @@ module _ {t f plan : List ℕ} (typed : Typed t f plan) where
         → sum (map (held plan) (ofBase [] (fieldsOf t f) (row .a))) ≡ before
     base-cells-is is = base-cells ∙ sym is
 
+    -- own fields into which a place lies
+    module _ {before into o : ℕ} (is : before ≡ ofBase 0 (held plan) (row .a)) (place : before + into ≡ o)
+        (less : o < held plan at) where
+      pub own-fields : Fields f plan (row .b) (row .b + row .c) at into
+      own-fields = record {
+        lows = own-low;
+        more =
+            rw (add-sub-cancel-left (row .b) (row .c))
+            (omega (
+              arith,
+              is,
+              base-cells,
+              fields-held at low kind,
+              ap (λ l. sum (map (held plan) l)) whole,
+              sum-append (held plan) (ofBase [] (fieldsOf t f) (row .a)) (ownTypes f (row .b) (row .c)),
+            ));
+      }
+
+      pub own-ahead : row .b + row .c ≤ 131070 → Ahead f plan (row .b) into
+      own-ahead small = record {
+        end = row .b + row .c;
+        below = at;
+        fields = own-fields;
+        small = small;
+        planned = omega (arith, typed .room);
+        few = omega (arith, typed .few);
+      }
+
     inner-low : {n u : ℕ} → Nth (ofBase [] (fieldsOf t f) (row .a)) n u → u < at
     inner-low h = based-low t f kept on (λ b m v l x. fields-low t f kept b (omega arith) x) h
 
@@ -126,7 +151,8 @@ module _ {t f plan : List ℕ} (typed : Typed t f plan) where
       abbrev own : ℕ → Bool
       own = among deeper (held plan) (ownTypes f (row .b) (row .b + row .c - row .b))
 
-      split : among deeper (held plan) (fieldsOf t f at) o ≡ choose inner true (choose (leb before o) (own (o - before)) false)
+      split : among deeper (held plan) (fieldsOf t f at) o
+          ≡ choose inner true (choose (leb before o) (own (o - before)) false)
       split =
           let size = base-cells in
           ap (λ l. among deeper (held plan) l o) whole

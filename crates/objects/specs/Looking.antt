@@ -2,14 +2,15 @@
 use Prim.Native.Nat.{ℕ, _-_, _≤_, _<_}
 use mathlib.Core.Path.{_≡_}
 use mathlib.Core.Bool.{Bool, true, false}
-use mathlib.Core.List.{List}
+use mathlib.Core.List.{List, map}
 use lib.Dec.{eqb}
 use lib.ListN.{length, getD}
 use Rattle.prelude.specs.Bits.{bitOf}
 use Rattle.prelude.specs.Choice.{choose}
+use Rattle.prelude.specs.Parts.{sum}
 use Rattle.image.specs.declared.Verdict.the-variants.{Kept}
 use Rattle.image.specs.Rows.{rowAt, rowsOf}
-use Rattle.shapes.specs.Forms.{ofBase}
+use Rattle.shapes.specs.Forms.{ofBase, ownTypes}
 use Rattle.shapes.specs.Sizes.{sizeOf}
 use Rattle.types.specs.Question.{question4}
 use Rattle.objects.specs.declared.Look.{Look}
@@ -51,6 +52,21 @@ pub record LowTypes (f : List ℕ) (k e m : ℕ) : Type 0 where
   pub within : e ≤ rowsOf f
   pub each : (j : ℕ) → k ≤ j → j < e → rowAt f j .a < m
 
+-- the same, and these fields have more than o cells
+pub record Fields (f plan : List ℕ) (k e m o : ℕ) : Type 0 where
+  pub lows : LowTypes f k e m
+  pub more : o < sum (map (held plan) (ownTypes f k (e - k)))
+
+-- from row k on there are such fields, whose types the plan and the tables have; the first row's number and how many
+-- they are have 16 bits
+pub record Ahead (f plan : List ℕ) (k o : ℕ) : Type 0 where
+  pub end : ℕ
+  pub below : ℕ
+  pub fields : Fields f plan k end below o
+  pub small : end ≤ 131070
+  pub planned : below ≤ length plan
+  pub few : below ≤ 64
+
 -- ---- what they answer
 
 -- a look that leads nowhere
@@ -62,18 +78,14 @@ toldBy false = Ls.No
 unfoldable pub saidOfBase : List ℕ → ℕ → ℕ → Bool
 saidOfBase s w a = ofBase false (λ u. choose (eqb u w) false (bitOf (getD s u 0) w)) a
 
--- a look into the base, before its end
-unfoldable pub lookInBase : List ℕ → ℕ → ℕ → ℕ → Look
-lookInBase starts w a o = choose (eqb o 0) (toldBy (saidOfBase starts w a)) (Ls.Inside (a - 1) o)
-
 -- the answer that a look comes to, where `deeper` says what begins in the part that it leads to
 unfoldable pub settled : (ℕ → ℕ → Bool) → Look → Bool
 settled deeper Ls.Yes = true
 settled deeper Ls.No = false
 settled deeper (Ls.Inside u o) = deeper u o
 
--- a look leads to no type but one below row m, and into it
-pub data Below (m : ℕ) : Look → Type 0 where
-  yes-below : Below m Ls.Yes
-  no-below : Below m Ls.No
-  inside-below : {u o : ℕ} → u < m → 0 < o → Below m (Ls.Inside u o)
+-- a look leads to no type but one below row m, and between its edges
+pub data Below (size : ℕ → ℕ) (m : ℕ) : Look → Type 0 where
+  yes-below : Below size m Ls.Yes
+  no-below : Below size m Ls.No
+  inside-below : {u o : ℕ} → u < m → 0 < o → o < size u → Below size m (Ls.Inside u o)

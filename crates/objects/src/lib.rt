@@ -17,8 +17,8 @@ ghost use Rattle.image.specs.Rows.{rowAt, rowsOf};
 ghost use Rattle.shapes.specs.Forms.{ofBase, ownTypes};
 ghost use Rattle.shapes.specs.Sizes.{fieldsOf};
 ghost use Rattle.objects.specs.Begins.{partsOf, among as amongOf, beginsAt};
-ghost use Rattle.objects.specs.Looking.{held, Typed, Edges, AtEdges, Beyond, LowTypes, toldBy, settled, Below};
-ghost use Rattle.objects.specs.Looking.{saidOfBase, lookInBase};
+ghost use Rattle.objects.specs.Looking.{held, Typed, Edges, AtEdges, Beyond, LowTypes, Fields, Ahead, toldBy};
+ghost use Rattle.objects.specs.Looking.{settled, saidOfBase, Below};
 ghost use Rattle.objects.specs.Tables.{ROWS, AllEdges};
 
 // How many types there are at most: a table has a word for each, and a word a bit for each.
@@ -59,16 +59,16 @@ fn told(b: bool) -> Look
     Look::No
 }
 
-// Whether one begins where the fields in rows k to e start.
-fn among_first(f: &[u8], plan: &[u32], starts: &Words, w: u16, k: usize, e: usize) -> bool
-    requires { ⌜ LowTypes (now f) k e (length (now plan)) × LowTypes (now f) k e ROWS × (w < ROWS) ⌝ }
-    ensures { λ x. ⌜ ((deeper : ℕ → ℕ → Bool) (m : ℕ) (ends : List ℕ)
+// Whether one begins where the fields from row k on start, which have cells.
+fn among_first(f: &[u8], plan: &[u32], starts: &Words, w: u16, k: usize) -> bool
+    requires { ⌜ Ahead (now f) (now plan) k 0 × (w < ROWS) ⌝ }
+    ensures { λ x. ⌜ ((deeper : ℕ → ℕ → Bool) (e m : ℕ) (ends : List ℕ)
         → Edges deeper (held (now (plan .entry))) w m (now (starts .entry)) ends
-        → LowTypes (now (f .entry)) k e m
+        → Fields (now (f .entry)) (now (plan .entry)) k e m 0
         → x ≡ amongOf deeper (held (now (plan .entry))) (ownTypes (now (f .entry)) k (e - k)) 0) ⌝ }
 {
     let mut j = k;
-    while j < e {
+    loop {
         let u = image::a_at(f, j);
         if marked(starts, w, u) {
             return true;
@@ -79,30 +79,21 @@ fn among_first(f: &[u8], plan: &[u32], starts: &Words, w: u16, k: usize, e: usiz
         }
         j = j + 1;
     }
-    false
 }
 
-// A look o cells into the fields in rows k to e, behind their start.
-fn among(
-    f: &[u8],
-    plan: &[u32],
-    starts: &Words,
-    ends: &Words,
-    w: u16,
-    k: usize,
-    e: usize,
-    o: u32,
-) -> Look
-    requires { ⌜ LowTypes (now f) k e (length (now plan)) × LowTypes (now f) k e ROWS × (w < ROWS) × (0 < o) ⌝ }
-    ensures { λ x. ⌜ ((deeper : ℕ → ℕ → Bool) (m : ℕ)
+// A look o cells into the fields from row k on, between their edges.
+fn among(f: &[u8], plan: &[u32], starts: &Words, ends: &Words, w: u16, k: usize, o: u32) -> Look
+    requires { ⌜ Ahead (now f) (now plan) k o × (w < ROWS) × (0 < o) ⌝ }
+    ensures { λ x. ⌜ ((deeper : ℕ → ℕ → Bool) (e m : ℕ)
         → Edges deeper (held (now (plan .entry))) w m (now (starts .entry)) (now (ends .entry))
-        → LowTypes (now (f .entry)) k e m
+        → Fields (now (f .entry)) (now (plan .entry)) k e m o
         → settled deeper x ≡ amongOf deeper (held (now (plan .entry))) (ownTypes (now (f .entry)) k (e - k)) o) ⌝ }
-    ensures lower { λ x. ⌜ ((m : ℕ) → LowTypes (now (f .entry)) k e m → Below m x) ⌝ }
+    ensures lower { λ x. ⌜ ((e m : ℕ) → Fields (now (f .entry)) (now (plan .entry)) k e m o
+        → Below (held (now (plan .entry))) m x) ⌝ }
 {
     let mut j = k;
     let mut rest = o;
-    while j < e {
+    loop {
         let u = image::a_at(f, j);
         let size = plan[u as usize];
         if rest <= size {
@@ -112,12 +103,11 @@ fn among(
             if marked(ends, w, u) {
                 return Look::Yes;
             }
-            return told(among_first(f, plan, starts, w, j + 1, e));
+            return told(among_first(f, plan, starts, w, j + 1));
         }
         j = j + 1;
         rest = rest - size;
     }
-    Look::No
 }
 
 // The size of a record's base, whose row plus 1 is a: the plan has that row.
@@ -132,35 +122,8 @@ fn base_cells(plan: &[u32], a: u16) -> u32
     plan[base]
 }
 
-// What a table of type w says of a record's base, whose row plus 1 is a: the base's part is no object.
-fn of_base(s: &Words, w: u16, a: u16) -> bool
-    requires { ⌜ (w < ROWS) × (a ≤ ROWS) ⌝ }
-    ensures { λ x. ⌜ x ≡ saidOfBase (now (s .entry)) w a ⌝ }
-{
-    if a == 0 {
-        return false;
-    }
-    let base = a - 1;
-    if base == w {
-        return false;
-    }
-    marked(s, w, base)
-}
-
-// A look o cells into the base, before its end.
-fn in_base(starts: &Words, w: u16, a: u16, o: u32) -> Look
-    requires { ⌜ (w < ROWS) × (a ≤ ROWS) × (0 < a) ⌝ }
-    ensures { λ x. ⌜ x ≡ lookInBase (now (starts .entry)) w a o ⌝ }
-    ensures lower { λ x. ⌜ ((m : ℕ) → a ≤ m → Below m x) ⌝ }
-{
-    if o == 0 {
-        return told(of_base(starts, w, a));
-    }
-    Look::Inside((a as usize) - 1, o)
-}
-
-// A look o cells into the fields of the record in row r: what is behind a base's start begins in the base as in a
-// field.
+// A look o cells into the fields of the record in row r, between its edges: what is behind a base's start begins in the
+// base as in a field.
 fn fields(
     t: &[u8],
     f: &[u8],
@@ -172,82 +135,52 @@ fn fields(
     o: u32,
 ) -> Look
     requires { ⌜ Typed (now t) (now f) (now plan) × (w < ROWS) × (r < rowsOf (now t))
-        × (rowAt (now t) r .kind ≡ 4) ⌝ }
+        × (rowAt (now t) r .kind ≡ 4) × (0 < o) × (o < held (now plan) r) ⌝ }
     ensures { λ x. ⌜ (Edges (beginsAt (now (t .entry)) (now (f .entry)) w) (held (now (plan .entry))) w r
         (now (starts .entry)) (now (ends .entry))
         → settled (beginsAt (now (t .entry)) (now (f .entry)) w) x
         ≡ amongOf (beginsAt (now (t .entry)) (now (f .entry)) w) (held (now (plan .entry)))
         (fieldsOf (now (t .entry)) (now (f .entry)) r) o) ⌝ }
-    ensures lower { λ x. ⌜ Below r x ⌝ }
+    ensures lower { λ x. ⌜ Below (held (now (plan .entry))) r x ⌝ }
 {
     let row = image::row_at(t, r);
     let a = row.a;
     let first = row.b as usize;
-    let past = first + (row.c as usize);
     let before = base_cells(plan, a);
     if before < o {
-        return among(f, plan, starts, ends, w, first, past, o - before);
+        return among(f, plan, starts, ends, w, first, o - before);
     }
+    let base = a - 1;
     if o < before {
-        return in_base(starts, w, a, o);
+        return Look::Inside(base as usize, o);
     }
-    if of_base(ends, w, a) {
+    if marked(ends, w, base) {
         return Look::Yes;
     }
-    told(among_first(f, plan, starts, w, first, past))
+    told(among_first(f, plan, starts, w, first))
 }
 
-// Whether one begins where element i of n of type row e starts, or the one before it ends.
-fn between(starts: &Words, ends: &Words, w: u16, e: u16, n: u16, i: u32) -> bool
-    requires { ⌜ (w < ROWS) × (e < ROWS) ⌝ }
-    ensures { λ x. ⌜ ((deeper : ℕ → ℕ → Bool) (sizes : ℕ → ℕ) (m : ℕ)
-        → Edges deeper sizes w m (now (starts .entry)) (now (ends .entry)) → e < m → 0 < sizes e → 1 ≤ n
-        → x ≡ amongOf deeper sizes (replicate n e) (i * sizes e)) ⌝ }
-{
-    let count = n as u32;
-    if count < i {
-        return false;
-    }
-    if i == 0 {
-        return marked(starts, w, e);
-    }
-    if i == count {
-        return marked(ends, w, e);
-    }
-    if marked(starts, w, e) {
-        return true;
-    }
-    marked(ends, w, e)
-}
-
-// A look o cells into n elements of type row e.
-fn elements(plan: &[u32], starts: &Words, ends: &Words, w: u16, e: u16, n: u16, o: u32) -> Look
-    requires { ⌜ (w < ROWS) × (e < ROWS) ⌝ }
-    ensures { λ x. ⌜ ((deeper : ℕ → ℕ → Bool) (m : ℕ)
-        → Edges deeper (held (now (plan .entry))) w m (now (starts .entry)) (now (ends .entry)) → e < m → 1 ≤ n
+// A look o cells into elements of type row e, which have more: where one ends the next starts.
+fn elements(plan: &[u32], starts: &Words, ends: &Words, w: u16, e: u16, o: u32) -> Look
+    requires { ⌜ (w < ROWS) × (e < ROWS) × (0 < held (now plan) e) × (0 < o) ⌝ }
+    ensures { λ x. ⌜ ((deeper : ℕ → ℕ → Bool) (m n : ℕ)
+        → Edges deeper (held (now (plan .entry))) w m (now (starts .entry)) (now (ends .entry)) → e < m
+        → o < n * held (now (plan .entry)) e
         → settled deeper x ≡ amongOf deeper (held (now (plan .entry))) (replicate n e) o) ⌝ }
-    ensures lower { λ x. ⌜ ((m : ℕ) → e < m → Below m x) ⌝ }
+    ensures lower { λ x. ⌜ ((m : ℕ) → e < m → Below (held (now (plan .entry))) m x) ⌝ }
 {
     let size = sizes::cell(plan, e as usize);
-    if size == 0 {
-        if 0 < o {
-            return Look::No;
-        }
-        return told(marked(starts, w, e));
-    }
-    let i = o / size;
     let inside = o % size;
-    if inside == 0 {
-        return told(between(starts, ends, w, e, n, i));
-    }
-    let count = n as u32;
-    if i < count {
+    if 0 < inside {
         return Look::Inside(e as usize, inside);
     }
-    Look::No
+    if marked(starts, w, e) {
+        return Look::Yes;
+    }
+    told(marked(ends, w, e))
 }
 
-// A look o cells into the parts of type row r.
+// A look o cells into the parts of type row r, between its edges: it is an array or a record.
 fn parts(
     t: &[u8],
     f: &[u8],
@@ -258,25 +191,22 @@ fn parts(
     r: usize,
     o: u32,
 ) -> Look
-    requires { ⌜ Typed (now t) (now f) (now plan) × (w < ROWS) × (r < rowsOf (now t)) ⌝ }
+    requires { ⌜ Typed (now t) (now f) (now plan) × (w < ROWS) × (r < rowsOf (now t)) × (0 < o)
+        × (o < held (now plan) r) ⌝ }
     ensures { λ x. ⌜ (Edges (beginsAt (now (t .entry)) (now (f .entry)) w) (held (now (plan .entry))) w r
         (now (starts .entry)) (now (ends .entry))
         → settled (beginsAt (now (t .entry)) (now (f .entry)) w) x
         ≡ amongOf (beginsAt (now (t .entry)) (now (f .entry)) w) (held (now (plan .entry)))
         (partsOf (now (t .entry)) (now (f .entry)) r) o) ⌝ }
-    ensures lower { λ x. ⌜ Below r x ⌝ }
+    ensures lower { λ x. ⌜ Below (held (now (plan .entry))) r x ⌝ }
 {
     let row = image::row_at(t, r);
     let kind = row.kind;
     let a = row.a;
-    let b = row.b;
     if kind == 3 {
-        return elements(plan, starts, ends, w, a, b, o);
+        return elements(plan, starts, ends, w, a, o);
     }
-    if kind == 4 {
-        return fields(t, f, plan, starts, ends, w, r, o);
-    }
-    Look::No
+    fields(t, f, plan, starts, ends, w, r, o)
 }
 
 // Whether a look says yes by itself.
@@ -289,7 +219,7 @@ fn is_yes(x: Look) -> bool
     }
 }
 
-// Whether one begins o cells into the parts of type row r, at any depth.
+// Whether one begins o cells into the parts of type row r, between its edges, at any depth.
 fn reached(
     t: &[u8],
     f: &[u8],
@@ -300,7 +230,8 @@ fn reached(
     r: u16,
     o: u32,
 ) -> bool
-    requires { ⌜ Typed (now t) (now f) (now plan) × (w < ROWS) × (r < rowsOf (now t)) ⌝ }
+    requires { ⌜ Typed (now t) (now f) (now plan) × (w < ROWS) × (r < rowsOf (now t)) × (0 < o)
+        × (o < held (now plan) r) ⌝ }
     ensures { λ x. ⌜ (Edges (beginsAt (now (t .entry)) (now (f .entry)) w) (held (now (plan .entry))) w r
         (now (starts .entry)) (now (ends .entry))
         → x ≡ amongOf (beginsAt (now (t .entry)) (now (f .entry)) w) (held (now (plan .entry)))
@@ -481,5 +412,8 @@ pub fn holds(
     if o == size {
         return marked(ends, w, r);
     }
-    reached(t, f, plan, starts, ends, w, r, o)
+    if o < size {
+        return reached(t, f, plan, starts, ends, w, r, o);
+    }
+    false
 }

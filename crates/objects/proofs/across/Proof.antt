@@ -3,8 +3,6 @@ use borrow.Author.Tests.{eq-eqb, ne-eqb}
 use Rattle.prelude.proofs.Choice.{choose-yes, choose-no}
 use Rattle.objects.proofs.across.Statement.{statement}
 use Rattle.objects.proofs.across.Tie as tie
-use Rattle.objects.proofs.across.Reads as reads
-use Rattle.objects.proofs.across.Lts as lts
 
 returns : tie.Need-returns
 returns c = sym (choose-yes _ _ _ (eq-eqb _ 0 (c .if1 .taken)))

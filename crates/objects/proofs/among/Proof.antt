@@ -1,38 +1,33 @@
-use denote.Ref.{now}
 use mathlib.Core.Path.{_≡_, refl, sym, _∙_}
 use mathlib.Core.Bool.{Bool}
-use Prim.Native.Nat.{ℕ, _+_, _-_, _≤_, _<_}
+use Prim.Native.Nat.{ℕ, _-_, _<_}
 use native.Mathlib.Omega.{arith}
 use borrow.Author.Needs.{needs}
+use Rattle.image.specs.Rows.{rowsOf}
 use Rattle.shapes.specs.Forms.{ownTypes}
 use Rattle.objects.specs.Begins.{among}
-use Rattle.objects.specs.Looking.{held, Edges, LowTypes}
-use Rattle.objects.specs.Looking.{Below.yes-below, Below.no-below, Below.inside-below}
-use Rattle.objects.proofs.Looks.{looks-yes, looks-no, looks-inside, looks-told, below-told}
-use Rattle.objects.proofs.Looks.{lows-later, row-low, turn-in, turn-yes, turn-end, turn-next, scan-end}
+use Rattle.objects.specs.Looking.{held, Edges, Fields, Ahead, Below.yes-below, Below.inside-below}
+use Rattle.objects.proofs.Looks.{looks-yes, looks-inside, looks-told, below-told, field-low, fields-next}
+use Rattle.objects.proofs.Looks.{ahead-row, ahead-small, ahead-planned, ahead-few, ahead-next}
+use Rattle.objects.proofs.Looks.{turn-in, turn-yes, turn-end, turn-next}
 use Rattle.objects.proofs.among.Statement.{statement}
 use Rattle.objects.proofs.among.Tie as tie
-use Rattle.objects.proofs.among.Reads as reads
-use Rattle.objects.proofs.among.Lts as lts
-use Rattle.image.proofs.a_at.Reads as a-at-reads
-use Rattle.objects.proofs.among_first.Reads as among-first-reads
-use Rattle.objects.proofs.marked.Reads as marked-reads
-use Rattle.objects.proofs.told.Reads as told-reads
 
 abbrev Inv-loop : tie.InvT-loop
-Inv-loop f plan starts ends w k e o j₀ rest₀ j rest = (k ≤ j) × (0 < rest)
-    × ((deeper : ℕ → ℕ → Bool) (m : ℕ) → Edges deeper (held plan) w m starts ends → LowTypes f k e m
+Inv-loop f plan starts ends w k o j₀ rest₀ j rest = (0 < rest) × Ahead f plan j rest
+    × ((e m : ℕ) → Fields f plan k e m o → Fields f plan j e m rest)
+    × ((deeper : ℕ → ℕ → Bool) (e m : ℕ) → Edges deeper (held plan) w m starts ends → Fields f plan k e m o
     → among deeper (held plan) (ownTypes f k (e - k)) o ≡ among deeper (held plan) (ownTypes f j (e - j)) rest)
 
 abbrev μ-loop : tie.MeasureT-loop
-μ-loop f plan starts ends w k e o j₀ rest₀ j rest = e - j
+μ-loop f plan starts ends w k o j₀ rest₀ j rest = rowsOf f - j
 
 loop-holds : tie.Need-loop-holds Inv-loop μ-loop
-loop-holds c = (omega arith, c .before .before .pre .3, λ deeper m edges lows. refl)
+loop-holds c = let s = c .before .before in
+    (s .pre .2, s .pre .0, λ e m fields. fields, λ deeper e m edges fields. refl)
 
 a-at-requires : tie.Need-a-at-requires Inv-loop μ-loop
-a-at-requires c κs = let rows = c .before .before .before .before .pre .0 .within in
-    omega (arith, rows, c .loop-test .taken)
+a-at-requires c κs = ahead-row (c .loop .inv .1)
 
 cast-size : tie.Need-cast-size Inv-loop μ-loop
 cast-size c = search needs
@@ -41,91 +36,76 @@ mul-size : tie.Need-mul-size Inv-loop μ-loop
 mul-size c = search needs
 
 shared-slice-read-size : tie.Need-shared-slice-read-size Inv-loop μ-loop
-shared-slice-read-size c = let l = c .before .before .before .loop in
-    let s = c .before .before .before .before .before .before in
-    rw (c .before .a-at .ensures)
-    (s .pre .0 .each (l .j) (l .inv .0) (c .before .before .loop-test .taken))
+shared-slice-read-size c = ahead-planned (c .before .before .loop .inv .1) (c .before .a-at .ensures)
 
-cast-t19 : tie.Need-cast-t19 Inv-loop μ-loop
-cast-t19 c = search needs
+cast-t18 : tie.Need-cast-t18 Inv-loop μ-loop
+cast-t18 c = search needs
 
 returns : tie.Need-returns Inv-loop μ-loop
-returns c = let l = c .before .before .before .before .before .loop in
-    let more = c .before .before .before .before .loop-test .taken in
+returns c = let l = c .before .before .before .before .loop in
     let this = c .before .before .before .a-at .ensures in (
-      λ deeper m edges lows.
-          looks-inside deeper _ _
-          (l .inv .2 deeper m edges lows ∙ turn-in edges lows (l .inv .0) more this refl (c .if2 .taken)),
-      λ m lows. inside-below (row-low lows (l .inv .0) more this) (l .inv .1),
+      λ deeper e m edges fields.
+          looks-inside deeper _ _ (l .inv .3 deeper e m edges fields
+          ∙ turn-in edges (l .inv .2 e m fields) this refl (c .if2 .taken)),
+      λ e m fields. inside-below (field-low (l .inv .2 e m fields) this) (l .inv .0) (c .if2 .taken),
     )
 
 marked-requires : tie.Need-marked-requires Inv-loop μ-loop
-marked-requires c κs = let s = c .before .before .before .before .before .before .before .before in
-    let l = c .before .before .before .before .before .loop in
-    (s .pre .2, omega (arith, s .pre .1 .each (l .j) (l .inv .0) (c .before .before .before .before .loop-test .taken)))
+marked-requires c κs = let n = c .before .before .before in
+    (n .before .before .before .before .pre .1, ahead-few (n .before .loop .inv .1) (n .a-at .ensures))
 
 returns-2 : tie.Need-returns-2 Inv-loop μ-loop
-returns-2 c = let l = c .before .before .before .before .before .before .before .loop in
-    let more = c .before .before .before .before .before .before .loop-test .taken in
-    let this = c .before .before .before .before .before .a-at .ensures in (
-      λ deeper m edges lows.
-          looks-yes deeper (l .inv .2 deeper m edges lows ∙ turn-yes edges lows (l .inv .0) more this refl
-          (omega (arith, c .before .before .before .if1 .taken, c .before .before .if2 .left))
-          (c .before .marked .ensures) (c .if3 .taken)),
-      λ m lows. yes-below,
+returns-2 c = let n = c .before .before .before .before .before in
+    let l = n .before .loop in (
+      λ deeper e m edges fields.
+          looks-yes deeper (l .inv .3 deeper e m edges fields
+          ∙ turn-yes edges (l .inv .2 e m fields) (n .a-at .ensures) refl (omega arith) (c .before .marked .ensures)
+          (c .if3 .taken)),
+      λ e m fields. yes-below,
     )
 
 add-among-first : tie.Need-add-among-first Inv-loop μ-loop
-add-among-first c = omega arith
+add-among-first c = omega (arith, ahead-small (c .before .before .before .before .before .before .loop .inv .1))
 
 among-first-requires : tie.Need-among-first-requires Inv-loop μ-loop
-among-first-requires c κs = let l = c .before .before .before .before .before .before .before .loop in
-    let s = c .before .before .before .before .before .before .before .before .before .before in
-    let least : s .args .k ≤ l .j + 1 = let low = l .inv .0 in omega arith in
-    (lows-later least (s .pre .0), lows-later least (s .pre .1), s .pre .2)
+among-first-requires c κs = let n = c .before .before .before .before .before in (
+  ahead-next (n .before .loop .inv .1) (n .a-at .ensures) refl (omega arith),
+  n .before .before .before .before .pre .1,
+)
 
 told-requires : tie.Need-told-requires Inv-loop μ-loop
 told-requires c κs = search needs
 
 returns-3 : tie.Need-returns-3 Inv-loop μ-loop
-returns-3 c = let n = c .before .before .before .before in
-    let l = n .before .before .before .before .before .loop in
-    let more = n .before .before .before .before .loop-test .taken in
-    let this = n .before .before .before .a-at .ensures in (
-      λ deeper m edges lows.
-          let first = c .before .among-first .ensures deeper m _ edges
-          (lows-later (let least = l .inv .0 in omega arith) lows) in
-          looks-told deeper (c .told .ensures) (first ∙ sym (l .inv .2 deeper m edges lows
-          ∙ turn-end edges lows (l .inv .0) more this refl (omega (arith, n .before .if1 .taken, n .if2 .left))
-          (c .before .before .before .marked .ensures) (c .before .before .if3 .left))),
-      λ m lows. below-told _ (c .told .ensures),
+returns-3 c = let n = c .before .before .before .before .before .before .before in
+    let l = n .before .loop in
+    let this = n .a-at .ensures in (
+      λ deeper e m edges fields.
+          let here = l .inv .2 e m fields in
+          let first = c .before .among-first .ensures deeper e m _ edges (fields-next here this refl (omega arith)) in
+          looks-told deeper (c .told .ensures) (first ∙ sym (l .inv .3 deeper e m edges fields
+          ∙ turn-end edges here this refl (omega arith) (c .before .before .before .marked .ensures)
+          (c .before .before .if3 .left))),
+      λ e m fields. below-told _ (c .told .ensures),
     )
 
 add-j : tie.Need-add-j Inv-loop μ-loop
-add-j c = omega arith
+add-j c = omega (arith, ahead-small (c .before .before .before .loop .inv .1))
 
 sub-rest : tie.Need-sub-rest Inv-loop μ-loop
 sub-rest c = omega arith
 
 loop-less : tie.Need-loop-less Inv-loop μ-loop
-loop-less c = omega arith
+loop-less c = omega (arith, ahead-row (c .before .before .before .loop .inv .1))
 
 loop-again : tie.Need-loop-again Inv-loop μ-loop
-loop-again c = let l = c .before .before .before .before .loop in (
-  omega arith,
-  omega arith,
-  λ deeper m edges lows. l .inv .2 deeper m edges lows
-      ∙ turn-next edges lows (l .inv .0) (c .before .before .before .loop-test .taken)
-      (c .before .before .a-at .ensures) refl (omega arith),
-)
-
-returns-4 : tie.Need-returns-4 Inv-loop μ-loop
-returns-4 c = let a = c .before .before .before .before .args in
-    let l = c .before .loop in (
-      λ deeper m edges lows.
-          looks-no deeper (l .inv .2 deeper m edges lows
-          ∙ scan-end deeper (held (now (a .plan))) (now (a .f)) (l .j) (a .e) (l .rest) (c .loop-test .left)),
-      λ m lows. no-below,
+loop-again c = let l = c .before .before .before .loop in
+    let this = c .before .before .a-at .ensures in (
+      omega arith,
+      ahead-next (l .inv .1) this refl (omega arith),
+      λ e m fields. fields-next (l .inv .2 e m fields) this refl (omega arith),
+      λ deeper e m edges fields.
+          l .inv .3 deeper e m edges fields ∙ turn-next edges (l .inv .2 e m fields) this refl (omega arith),
     )
 
 pub among-spec : {M : Type 1} → statement M
@@ -139,7 +119,7 @@ among-spec =
     cast-size
     mul-size
     shared-slice-read-size
-    cast-t19
+    cast-t18
     returns
     marked-requires
     returns-2
@@ -150,5 +130,4 @@ among-spec =
     add-j
     sub-rest
     loop-less
-    loop-again
-    returns-4)
+    loop-again)

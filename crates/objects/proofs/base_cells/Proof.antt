@@ -4,8 +4,6 @@ use Rattle.shapes.proofs.Rows.{of-no-base, of-base}
 use borrow.Author.Needs.{needs}
 use Rattle.objects.proofs.base_cells.Statement.{statement}
 use Rattle.objects.proofs.base_cells.Tie as tie
-use Rattle.objects.proofs.base_cells.Reads as reads
-use Rattle.objects.proofs.base_cells.Lts as lts
 
 returns : tie.Need-returns
 returns c = sym (of-no-base _ _ _ (c .if1 .taken))

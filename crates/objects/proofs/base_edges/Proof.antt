@@ -7,9 +7,6 @@ use Rattle.objects.proofs.Bases.{said-none, said-some}
 use borrow.Author.Needs.{needs}
 use Rattle.objects.proofs.base_edges.Statement.{statement}
 use Rattle.objects.proofs.base_edges.Tie as tie
-use Rattle.objects.proofs.base_edges.Reads as reads
-use Rattle.objects.proofs.base_edges.Lts as lts
-use Rattle.objects.proofs.without.Reads as without-reads
 
 returns : tie.Need-returns
 returns c = let a = c .before .args in

@@ -5,11 +5,6 @@ use Rattle.objects.proofs.Joining.{one-shifted}
 use Rattle.objects.proofs.Filling.{at-row}
 use Rattle.objects.proofs.edges.Statement.{statement}
 use Rattle.objects.proofs.edges.Tie as tie
-use Rattle.objects.proofs.edges.Reads as reads
-use Rattle.objects.proofs.edges.Lts as lts
-use Rattle.objects.proofs.across.Reads as across-reads
-use Rattle.objects.proofs.part_edges.Reads as part-edges-reads
-use Rattle.sizes.proofs.cell.Reads as cell-reads
 
 part-edges-requires : tie.Need-part-edges-requires
 part-edges-requires c κs = search needs

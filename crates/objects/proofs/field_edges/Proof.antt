@@ -13,11 +13,6 @@ use Rattle.objects.specs.Looking.{held, Edges, AtEdges, LowTypes}
 use Rattle.objects.proofs.Joining.{Joined, joined-none, field-more, field-end}
 use Rattle.objects.proofs.field_edges.Statement.{statement}
 use Rattle.objects.proofs.field_edges.Tie as tie
-use Rattle.objects.proofs.field_edges.Reads as reads
-use Rattle.objects.proofs.field_edges.Lts as lts
-use Rattle.image.proofs.a_at.Reads as a-at-reads
-use Rattle.objects.proofs.across.Reads as across-reads
-use Rattle.sizes.proofs.cell.Reads as cell-reads
 
 abbrev Inv-loop : tie.InvT-loop
 Inv-loop f plan starts ends before k n j₀ end first₀ last₀ size₀ j first last size = (k ≤ j)

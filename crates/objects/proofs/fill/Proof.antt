@@ -8,10 +8,6 @@ use Rattle.objects.proofs.Deciding.{beyond-none, beyond-next, beyond-mo
 use Rattle.objects.proofs.Joining.{edges-none, edges-more}
 use Rattle.objects.proofs.fill.Statement.{statement}
 use Rattle.objects.proofs.fill.Tie as tie
-use Rattle.objects.proofs.fill.Reads as reads
-use Rattle.objects.proofs.fill.Lts as lts
-use Rattle.image.proofs.rows_of.Reads as rows-of-reads
-use Rattle.objects.proofs.edges.Reads as edges-reads
 
 abbrev Inv-loop : tie.InvT-loop
 Inv-loop t f plan starts₀ ends₀ rows r₀ starts ends r = (r ≤ rows) × Beyond r starts₀ starts × Beyond r ends₀ ends

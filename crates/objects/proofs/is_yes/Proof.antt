@@ -4,8 +4,6 @@ use Rattle.objects.proofs.Looks.{settled-no}
 use borrow.Author.Needs.{needs}
 use Rattle.objects.proofs.is_yes.Statement.{statement}
 use Rattle.objects.proofs.is_yes.Tie as tie
-use Rattle.objects.proofs.is_yes.Reads as reads
-use Rattle.objects.proofs.is_yes.Lts as lts
 
 enum-told : tie.Need-enum-told
 enum-told c = search needs

@@ -2,8 +2,6 @@ use Rattle.prelude.specs.Bits.{bitOf}
 use borrow.Author.Needs.{needs}
 use Rattle.objects.proofs.marked.Statement.{statement}
 use Rattle.objects.proofs.marked.Tie as tie
-use Rattle.objects.proofs.marked.Reads as reads
-use Rattle.objects.proofs.marked.Lts as lts
 
 mul-result : tie.Need-mul-result
 mul-result c = search needs

@@ -8,12 +8,6 @@ use Rattle.objects.proofs.Deciding.{element-few}
 use Rattle.objects.proofs.Filling.{at-none, at-array, at-base, at-record}
 use Rattle.objects.proofs.part_edges.Statement.{statement}
 use Rattle.objects.proofs.part_edges.Tie as tie
-use Rattle.objects.proofs.part_edges.Reads as reads
-use Rattle.objects.proofs.part_edges.Lts as lts
-use Rattle.image.proofs.row_at.Reads as row-at-reads
-use Rattle.objects.proofs.base_edges.Reads as base-edges-reads
-use Rattle.objects.proofs.field_edges.Reads as field-edges-reads
-use Rattle.objects.proofs.base_cells.Reads as base-cells-reads
 
 row-at-requires : tie.Need-row-at-requires
 row-at-requires c κs = search needs

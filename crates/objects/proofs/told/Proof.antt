@@ -1,8 +1,6 @@
 use Rattle.objects.specs.Looking.{toldBy}
 use Rattle.objects.proofs.told.Statement.{statement}
 use Rattle.objects.proofs.told.Tie as tie
-use Rattle.objects.proofs.told.Reads as reads
-use Rattle.objects.proofs.told.Lts as lts
 
 returns : tie.Need-returns
 unfolding toldBy

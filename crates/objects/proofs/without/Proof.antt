@@ -5,8 +5,6 @@ use Rattle.objects.proofs.Joining.{one-shifted, without-bit}
 use borrow.Author.Needs.{needs}
 use Rattle.objects.proofs.without.Statement.{statement}
 use Rattle.objects.proofs.without.Tie as tie
-use Rattle.objects.proofs.without.Reads as reads
-use Rattle.objects.proofs.without.Lts as lts
 
 shl-own : tie.Need-shl-own
 shl-own c = search needs
