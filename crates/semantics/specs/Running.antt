@@ -126,18 +126,22 @@ outputBy q e output = choose (eqb q 0) (e .state .output) output
 
 -- ---- the results of a run
 
+-- "A run takes image, input, store, output and 0 to 4294967295 steps.": where the tagged machine ends, from fresh
 unfoldable pub ranOf : List ℕ → List ℤ → List ℤ → List ℤ → ℕ → Ended Cell
 ranOf image input store output steps =
     runFrom tagged (programOf image) input steps 0 (fresh tagged (programOf image) store output)
 
+-- "It returns refusal, row of refusal, outcome .., trap, HALT number, statement row, steps, read, written"
 unfoldable pub resultOf : List ℕ → List ℤ → List ℤ → List ℤ → ℕ → RunResult
 resultOf image input store output steps =
     resultBy (refusal image store) (rowOf (checkOf image)) (ranOf image input store output steps)
 
+-- "the lent store holds the numbers": those that it leaves there
 unfoldable pub storeAfter : List ℕ → List ℤ → List ℤ → List ℤ → ℕ → List ℤ
 storeAfter image input store output steps =
     storeBy (refusal image store) (ranOf image input store output steps) store
 
+-- "output places from written on keep their numbers": all of them, as it leaves them
 unfoldable pub outputAfter : List ℕ → List ℤ → List ℤ → List ℤ → ℕ → List ℤ
 outputAfter image input store output steps =
     outputBy (refusal image store) (ranOf image input store output steps) output
