@@ -238,7 +238,8 @@ fn vectors(folders: &[String]) -> Result<bool, Failed> {
             if whole[0] != whole[who] {
                 faults.push(format!("store or outputs differ from those of {}", ENGINES[0].0));
             }
-            for fault in &faults {
+            // A library of before a request may give other answers: it is counted, and that is no failure.
+            for fault in faults.iter().filter(|_| BESIDE != Some(who)) {
                 told += 1;
                 if told <= TOLD {
                     println!("{}: {engine}: {fault}", case.name);
@@ -251,7 +252,7 @@ fn vectors(folders: &[String]) -> Result<bool, Failed> {
     let counts: Vec<String> =
         ENGINES.iter().zip(&same).map(|((engine, _), count)| format!("{engine} {count} the same")).collect();
     println!("{images} runs: {}", counts.join(", "));
-    Ok(same.iter().all(|&count| count == images))
+    Ok(told == 0)
 }
 
 fn numbers<T: std::str::FromStr>(text: &str) -> Result<Vec<T>, Failed>
