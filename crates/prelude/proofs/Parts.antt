@@ -28,9 +28,6 @@ module _ {X : Type 0} where
   nth-is here = refl
   nth-is (there h) = nth-is h
 
-  pub nth-one : {l : List X} {n : ℕ} {x y : X} → Nth l n x → Nth l n y → x ≡ y
-  nth-one h k = let p = nth-is h in let q = nth-is k in cc
-
   pub nth-map : {Y : Type 0} (f : X → Y) {l : List X} {n : ℕ} {x : X} → Nth l n x → Nth (map f l) n (f x)
   nth-map f here = here
   nth-map f (there h) = there (nth-map f h)
@@ -58,9 +55,6 @@ module _ {X : Type 0} where
     seen = sym (drop-drop b a l) ∙ ap (drop b) (p .seen) ∙ drop-append-le b xs (p .rest) (q .within) ∙ ap (λ (m : List X). m ++ p .rest) (q .seen) ∙ append-assoc ys (q .rest) (p .rest);
     within = let w = q .within in omega (arith, part-length p);
   }
-
-  pub part-front : {l : List X} (xs ys : List X) {a : ℕ} → Part l a (xs ++ ys) → Part l a xs
-  part-front xs ys p = record { rest = ys ++ p .rest; seen = p .seen ∙ append-assoc xs ys (p .rest); within = p .within }
 
   pub part-more : {l xs : List X} {a : ℕ} (m : List X) → Part l a xs → Part (l ++ m) a xs
   part-more {l} {xs} {a} m p = record {

@@ -75,8 +75,9 @@ case-4 = (refl, refl, refl, refl, refl)
 pub case-5 :
     (monadicOf 1 (Vs.Set 0) ≡ As.Val (Vs.Set 4294967295))
     × (dyadicOf 15 (int 32) (Vs.Set 4294967295) ≡ As.Trap Ts.Bound)
+    × (trapNumber Ts.Bound ≡ 6)
 unfolding rows integers operators
-case-5 = (refl, refl)
+case-5 = (refl, refl, refl)
 
 -- ---- whole images
 

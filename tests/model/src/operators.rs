@@ -123,13 +123,13 @@ fn in_range(x: i64) -> Answer<Value> {
     i32::try_from(x).map_or_else(|_| trapped(trap::OVERFLOW), |x| Ok(Value::Integer(x)))
 }
 
-/// "Range a..b with a > b, both bounds in 0 to 31, is empty." "6 range bound outside 0 to 31".
+/// "Range a..b with a > b, both bounds in 0 to 31, is empty."
 fn range(a: i32, b: i32) -> Answer<Value> {
     let (a, b) = (set_element(a)?, set_element(b)?);
     Ok(Value::Set((a..=b).fold(0, |set, i| set | 1 << i)))
 }
 
-/// "SET has bit i for element i, 0 to 31": a range's bound or IN's element, or trap 6.
+/// "SET has bit i for element i, 0 to 31"; trap "6 range bound or element of IN outside 0 to 31".
 fn set_element(x: i32) -> Answer<i32> {
     if (0..=31).contains(&x) {
         Ok(x)
