@@ -16,7 +16,7 @@ extern "C" {
 #endif
 
 /* The interface that this header speaks of: 1 is the base's, and each change of a signature or a struct adds one. */
-#define DOOR_INTERFACE 2
+#define DOOR_INTERFACE 3
 
 /* The longest image that is accepted, in bytes; the largest store that is taken, in cells. */
 #define DOOR_IMAGE_MAX 29713
@@ -100,6 +100,7 @@ struct door_result {
     uint32_t top;     /* the cell where it ends, the first that is not its own; 0 in a refusal */
     uint64_t read;    /* inputs read */
     uint64_t written; /* outputs written */
+    uint32_t mark;    /* how many cells the run needed; 0 in a refusal */
 };
 
 /* Checks an image, and runs it from the fresh state, with at most `steps` steps.

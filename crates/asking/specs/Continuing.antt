@@ -21,7 +21,7 @@ use Rattle.asking.specs.Resuming.{resumed}
 
 -- what passes: none of "a refusal, its row, outcome, trap or HALT number is not 0, the state is not sound (each cell
 -- taken as the kind that its place in a frame gives), a count exceeds its lent list, or steps done plus steps lent
--- exceed 4294967295"
+-- exceed 4294967295", and "question 14 refuses a mark below top or above the store's length"
 pub record Continuable (g : Program) (input store output : List ℤ) (r : RunResult) (n : ℕ) : Type 0 where
   pub refusal : r .refusal ≡ 0
   pub fault : r .fault ≡ 0
@@ -32,6 +32,8 @@ pub record Continuable (g : Program) (input store output : List ℤ) (r : RunRes
   pub read : r .at .read ≤ length input
   pub written : r .at .written ≤ length output
   pub steps : r .steps + n ≤ 4294967295
+  pub mark-top : r .at .top ≤ r .mark
+  pub mark-store : r .mark ≤ length store
 
 -- "a refusal, its row, outcome, trap or HALT number" are all 0
 unfoldable pub unfinished : RunResult → Bool
@@ -47,9 +49,14 @@ unfoldable pub withinLent : List ℤ → List ℤ → RunResult → ℕ → Bool
 withinLent input output r n =
     leb (r .at .read) (length input) also leb (r .at .written) (length output) also leb (r .steps + n) 4294967295
 
+-- no "mark below top or above the store's length"
+unfoldable pub markWithin : List ℤ → RunResult → Bool
+markWithin store r = leb (r .at .top) (r .mark) also leb (r .mark) (length store)
+
 -- the question's answer
 unfoldable pub question14 : Program → List ℤ → List ℤ → List ℤ → RunResult → ℕ → Bool
-question14 g input store output r n = unfinished r also soundOf g (r .at) store also withinLent input output r n
+question14 g input store output r n =
+    unfinished r also soundOf g (r .at) store also withinLent input output r n also markWithin store r
 
 -- the number of a refusal, or 0
 unfoldable pub continueRefusal : List ℕ → List ℤ → List ℤ → List ℤ → RunResult → ℕ → ℕ
@@ -59,10 +66,10 @@ continueRefusal image input store output r n =
 
 -- ---- the results
 
--- n steps more from the state of a result, whose own steps count
+-- n steps more from the state of a result, whose own steps count, and "takes its mark from the earlier result"
 unfoldable pub continuedOf : List ℕ → List ℤ → List ℤ → List ℤ → RunResult → ℕ → Ended Cell
 continuedOf image input store output r n =
-    runFrom tagged (programOf image) input n (r .steps) (resumed (programOf image) (r .at) store output)
+    runFrom tagged (programOf image) input n (r .steps) (r .mark) (resumed (programOf image) (r .at) store output)
 
 -- a refusal by 12 to 14 has row 0, as the check refuses none
 unfoldable pub continueResult : List ℕ → List ℤ → List ℤ → List ℤ → RunResult → ℕ → RunResult

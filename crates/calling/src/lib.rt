@@ -17,7 +17,7 @@ ghost use Rattle.places.specs.Places.{roomFrom, frameSize};
 ghost use Rattle.semantics.specs.Memory.{ADDRESS, TYPE, bare, overwrite};
 ghost use Rattle.semantics.specs.Finding.{findOf, evalOf};
 ghost use Rattle.semantics.specs.Stepping.{State, Next, onPlace, onValue, onPart, passed, entered, called};
-ghost use Rattle.semantics.specs.Running.{programOf};
+ghost use Rattle.semantics.specs.Running.{programOf, askedBy};
 ghost use Rattle.access.specs.Ready.{Ready};
 ghost use Rattle.calling.specs.Showing.{stateOf, Stands, Shows};
 ghost use Rattle.calling.specs.Passing.{lostPlace, lostValue, endedBy, framed, passedOne, Roomy, Passes};
@@ -275,6 +275,23 @@ fn enter(image: &&[u8], plan: &Plan, store: &mut [i64], s: Registers, q: u16) ->
         read,
         written,
     })
+}
+
+// The top that the step from s asks for, in a store of so many cells: a call's that passes the store check, else 0.
+pub fn asked(image: &&[u8], plan: &Plan, cells: usize, s: Registers) -> u32
+    requires { ⌜ Ready (now (now image)) (now plan) × (s .row ≤ 65536) × (s .top ≤ 65536) ⌝ }
+    ensures { λ x. ⌜ x ≡ askedBy (programOf (now (now (image .entry)))) s cells ⌝ }
+{
+    let statement = access::statement_at(image, plan, s.row);
+    if statement.kind != 1 {
+        return 0;
+    }
+    let size = access::frame_size(image, plan, statement.a);
+    let end = s.top + size;
+    if cells < end as usize {
+        return 0;
+    }
+    end
 }
 
 // Statement kind 1: the store check first, then the arguments, then the frame.

@@ -14,8 +14,8 @@ use Rattle.calling.specs.declared.Step.{Step}
 use Rattle.calling.specs.declared.Step.the-variants as Steps
 
 -- the numbers of a run that was not refused
-unfoldable pub endedWith : ℕ → ℕ → ℤ → ℕ → Registers → RunResult
-endedWith outcome trap halt steps at = record {
+unfoldable pub endedWith : ℕ → ℕ → ℤ → ℕ → Registers → ℕ → RunResult
+endedWith outcome trap halt steps at mark = record {
   refusal = 0;
   fault = 0;
   outcome = outcome;
@@ -23,14 +23,15 @@ endedWith outcome trap halt steps at = record {
   halt = halt;
   steps = steps;
   at = at;
+  mark = mark;
 }
 
--- a step that is the last, from numbers s, as the k-th
-unfoldable pub stopBy : Step → Registers → ℕ → RunResult
-stopBy (Steps.Goes q) s k = endedWith 3 0 (pos 0) k s
-stopBy Steps.Finished s k = endedWith 1 0 (pos 0) k s
-stopBy (Steps.Trapped t z) s k = endedWith 2 (trapNumber t) z k s
-stopBy Steps.Stuck s k = endedWith 3 0 (pos 0) k s
+-- a step that is the last, from numbers s, as the k-th, with the mark behind it
+unfoldable pub stopBy : Step → Registers → ℕ → ℕ → RunResult
+stopBy (Steps.Goes q) s k mark = endedWith 3 0 (pos 0) k s mark
+stopBy Steps.Finished s k mark = endedWith 1 0 (pos 0) k s mark
+stopBy (Steps.Trapped t z) s k mark = endedWith 2 (trapNumber t) z k s mark
+stopBy Steps.Stuck s k mark = endedWith 3 0 (pos 0) k s mark
 
 -- "12. Has the store at most 65,536 cells? 13. Has it at least G + F0?" The number of the first that is answered no, or 0
 unfoldable pub storeQuestion : Program → ℕ → ℕ

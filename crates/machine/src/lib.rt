@@ -12,15 +12,15 @@ ghost use Rattle.prelude.specs.Choice.{choose};
 ghost use Rattle.checker.specs.Check.{refusalOf, rowOf};
 ghost use Rattle.semantics.specs.Memory.{bare};
 ghost use Rattle.semantics.specs.Running.{programOf, globalRoom, firstTop, runFrom, refusedWith, resultOf, storeAfter};
-ghost use Rattle.semantics.specs.Running.{outputAfter};
+ghost use Rattle.semantics.specs.Running.{outputAfter, larger};
 ghost use Rattle.access.specs.Ready.{Ready};
 ghost use Rattle.calling.specs.Showing.{stateOf, Stands};
 ghost use Rattle.asking.specs.Continuing.{continueResult, continuedStore, continuedOutput};
 ghost use Rattle.machine.specs.Stopping.{endedWith, stopBy, Stops, storeQuestion};
 
 // The numbers of a run that was not refused.
-fn ended(outcome: u32, trap: u32, halt: i32, steps: u32, at: Registers) -> RunResult
-    ensures { λ x. ⌜ x ≡ endedWith outcome trap halt steps at ⌝ }
+fn ended(outcome: u32, trap: u32, halt: i32, steps: u32, at: Registers, mark: u32) -> RunResult
+    ensures { λ x. ⌜ x ≡ endedWith outcome trap halt steps at mark ⌝ }
 {
     RunResult {
         refusal: 0,
@@ -30,21 +30,32 @@ fn ended(outcome: u32, trap: u32, halt: i32, steps: u32, at: Registers) -> RunRe
         halt,
         steps,
         at,
+        mark,
     }
 }
 
-// A step that was the last, from s, as the k-th.
-fn stop_by(x: Step, s: Registers, k: u32) -> RunResult
-    ensures { λ r. ⌜ r ≡ stopBy x s k ⌝ }
+// A step that was the last, from s, as the k-th, with the mark behind it.
+fn stop_by(x: Step, s: Registers, k: u32, mark: u32) -> RunResult
+    ensures { λ r. ⌜ r ≡ stopBy x s k mark ⌝ }
 {
     match x {
-        Step::Finished => ended(1, 0, 0, k, s),
-        Step::Trapped(t, z) => ended(2, values::trap_number(t) as u32, z, k, s),
-        _ => ended(3, 0, 0, k, s),
+        Step::Finished => ended(1, 0, 0, k, s, mark),
+        Step::Trapped(t, z) => ended(2, values::trap_number(t) as u32, z, k, s, mark),
+        _ => ended(3, 0, 0, k, s, mark),
     }
 }
 
-// At most n steps more from any state, where `done` were done before.
+fn larger_of(a: u32, b: u32) -> u32
+    ensures { λ x. ⌜ x ≡ larger a b ⌝ }
+{
+    if a < b {
+        return b;
+    }
+    a
+}
+
+// At most n steps more from any state, where `done` were done before, and the mark is so large. A step that goes on
+// leaves the top that it asked for, or a lower one than before it; what the last step asks for is asked once.
 pub fn advance(
     image: &&[u8],
     plan: &Plan,
@@ -53,25 +64,30 @@ pub fn advance(
     output: &mut [i32],
     from: Registers,
     done: u32,
+    first: u32,
     n: u32,
 ) -> RunResult
-    requires { ⌜ Ready (now (now image)) (now plan) × Stands from (now store) × (done + n ≤ 4294967295) ⌝ }
-    ensures { λ x. ⌜ Stops (runFrom bare (programOf (now (now (image .entry)))) (now (input .entry)) n done
+    requires { ⌜ Ready (now (now image)) (now plan) × Stands from (now store) × (from .top ≤ first)
+        × (done + n ≤ 4294967295) ⌝ }
+    ensures { λ x. ⌜ Stops (runFrom bare (programOf (now (now (image .entry)))) (now (input .entry)) n done first
         (stateOf from (now (store .entry)) (now (output .entry)))) x (now (store .exit)) (now (output .exit)) ⌝ }
 {
     let end = done + n;
     let mut s = from;
     let mut k = done;
+    let mut mark = first;
     while k < end {
         let next = stepping::step(image, plan, input, store, output, s);
         let count = k + 1;
         let Step::Goes(q) = next else {
-            return stop_by(next, s, count);
+            let asked = calling::asked(image, plan, store.len(), s);
+            return stop_by(next, s, count, larger_of(mark, asked));
         };
+        mark = larger_of(mark, q.top);
         s = q;
         k = count;
     }
-    ended(0, 0, 0, k, s)
+    ended(0, 0, 0, k, s, mark)
 }
 
 // ---- the run
@@ -93,6 +109,7 @@ fn refused(question: u32, row: u32) -> RunResult
             read: 0,
             written: 0,
         },
+        mark: 0,
     }
 }
 
@@ -165,7 +182,7 @@ pub fn run(
         read: 0,
         written: 0,
     };
-    advance(&image, &plan, input, store, output, first, 0, steps)
+    advance(&image, &plan, input, store, output, first, 0, top, steps)
 }
 
 // ---- the continuation
@@ -222,6 +239,7 @@ pub fn resume(
         output,
         from.at,
         from.steps,
+        from.mark,
         steps,
     )
 }

@@ -13,7 +13,7 @@ ghost use Rattle.places.specs.Places.{widthOf, roomFrom, frameSize};
 ghost use Rattle.semantics.specs.Running.{programOf};
 ghost use Rattle.asking.specs.State.{chain, soundOf};
 ghost use Rattle.asking.specs.Passes.{Walked, variablesPass, framesPass, valueTest, valuesPass};
-ghost use Rattle.asking.specs.Continuing.{unfinished, withinLent, question14};
+ghost use Rattle.asking.specs.Continuing.{unfinished, withinLent, markWithin, question14};
 ghost use Rattle.access.specs.Ready.{Ready};
 ghost use Rattle.unwinding.specs.Next.{Skips};
 ghost use Rattle.resuming.specs.Reading.{ReadableImage, framesSound};
@@ -242,6 +242,16 @@ fn is_within(input: &[i32], output: &[i32], r: RunResult, steps: u32) -> bool
     steps <= 4294967295 - r.steps
 }
 
+// Whether its mark is not below top, nor above the store's length.
+fn is_marked(store: &[i64], r: RunResult) -> bool
+    ensures { λ x. ⌜ x ≡ markWithin (now (store .entry)) r ⌝ }
+{
+    if r.mark < r.at.top {
+        return false;
+    }
+    r.mark as usize <= store.len()
+}
+
 // Whether a run can go on from an earlier result and this store, for so many steps.
 pub fn continuable(
     image: &&[u8],
@@ -260,6 +270,9 @@ pub fn continuable(
         return false;
     }
     if !is_within(input, output, from, steps) {
+        return false;
+    }
+    if !is_marked(store, from) {
         return false;
     }
     sound(image, plan, store, from.at)

@@ -24,7 +24,7 @@ use Rattle.checker.proofs.Accepted.{AcceptedTables}
 use Rattle.semantics.specs.Memory.{Memory, Cell, tagged, bare}
 use Rattle.semantics.specs.Layout.{Program}
 use Rattle.semantics.specs.Stepping.{State, Next, Next.goes, Next.finished, Next.trapped, Next.stuck, stepOf}
-use Rattle.semantics.specs.Running.{programOf, firstTop, fresh, Ended, onward, runFrom, refusal, ranOf}
+use Rattle.semantics.specs.Running.{programOf, firstTop, fresh, raised, Ended, onward, runFrom, refusal, ranOf}
 use Rattle.semantics.specs.Running.{numbersOf, refusedWith, resultBy, outputBy, resultOf, outputAfter}
 use Rattle.semantics.specs.Sound.{Sound}
 use Rattle.semantics.specs.After.{Machine, Machine.running, Machine.over, Machine.failed, moved, after}
@@ -52,19 +52,26 @@ pub record TrappedIn (g : Program) (input : List ℤ) (s : State Cell) (e : Ende
   pub unchanged : Unchanged before (e .state)
 
 -- a run of n steps from s, where k were done before: its steps are used up, or it ended with a step from a state that
--- the machine had reached
+-- the machine had reached; whatever its mark is
 pub data Reported (g : Program) (input : List ℤ) (n k : ℕ) (s : State Cell) : Ended Cell → Type 0 where
-  used-up : {u : State Cell} {c : ℕ} → c ≡ k + n → after tagged g input n s ≡ running u
-      → Reported g input n k s (record { outcome = 0; trap = 0; halt = pos 0; steps = c; state = u })
-  finishes : {u : State Cell} {c : ℕ} (d : ℕ) → d < n → c ≡ k + suc d → after tagged g input d s ≡ running u
+  used-up : {u : State Cell} {c mark : ℕ} → c ≡ k + n → after tagged g input n s ≡ running u
+      → Reported g input n k s (record { outcome = 0; trap = 0; halt = pos 0; steps = c; mark = mark; state = u })
+  finishes : {u : State Cell} {c mark : ℕ} (d : ℕ) → d < n → c ≡ k + suc d → after tagged g input d s ≡ running u
       → stepOf tagged g input u ≡ finished
-      → Reported g input n k s (record { outcome = 1; trap = 0; halt = pos 0; steps = c; state = u })
-  traps : {t : Trap} {z : ℤ} {u v : State Cell} {c : ℕ} (d : ℕ) → d < n → c ≡ k + suc d
+      → Reported g input n k s (record { outcome = 1; trap = 0; halt = pos 0; steps = c; mark = mark; state = u })
+  traps : {t : Trap} {z : ℤ} {u v : State Cell} {c mark : ℕ} (d : ℕ) → d < n → c ≡ k + suc d
       → after tagged g input d s ≡ running u → stepOf tagged g input u ≡ trapped t z v
-      → Reported g input n k s (record { outcome = 2; trap = trapNumber t; halt = z; steps = c; state = v })
-  sticks : {u v : State Cell} {c : ℕ} (d : ℕ) → d < n → c ≡ k + suc d → after tagged g input d s ≡ running u
+      → Reported g input n k s (record {
+        outcome = 2;
+        trap = trapNumber t;
+        halt = z;
+        steps = c;
+        mark = mark;
+        state = v;
+      })
+  sticks : {u v : State Cell} {c mark : ℕ} (d : ℕ) → d < n → c ≡ k + suc d → after tagged g input d s ≡ running u
       → stepOf tagged g input u ≡ stuck v
-      → Reported g input n k s (record { outcome = 3; trap = 0; halt = pos 0; steps = c; state = v })
+      → Reported g input n k s (record { outcome = 3; trap = 0; halt = pos 0; steps = c; mark = mark; state = v })
 
 module _ (g : Program) (input : List ℤ) where
   -- one step more
@@ -84,18 +91,18 @@ module _ (g : Program) (input : List ℤ) where
       sticks {c = c} (suc d) (omega arith) (omega arith) (after-goes d s u step ∙ r) x
 
   -- the run is the machine's
-  pub reported : (n k : ℕ) (s : State Cell) → Reported g input n k s (runFrom tagged g input n k s)
+  pub reported : (n k mark : ℕ) (s : State Cell) → Reported g input n k s (runFrom tagged g input n k mark s)
   unfolding runFrom onward after
-  reported zero k s = used-up {c = k} (omega arith) refl
-  reported (suc n) k s = go (stepOf tagged g input s) refl (λ u. reported n (k + 1) u)
+  reported zero k mark s = used-up {c = k} (omega arith) refl
+  reported (suc n) k mark s = go (stepOf tagged g input s) refl (raised g s mark) (reported n (k + 1))
     where
-      go : (x : Next Cell) → stepOf tagged g input s ≡ x
-          → ((u : State Cell) → Reported g input n (k + 1) u (runFrom tagged g input n (k + 1) u))
-          → Reported g input (suc n) k s (onward x s (k + 1) (λ u. runFrom tagged g input n (k + 1) u))
-      go (goes u) e later = reported-later n k s u e (later u)
-      go finished e later = finishes {c = k + 1} 0 (omega arith) (omega arith) refl e
-      go (trapped t z u) e later = traps {c = k + 1} 0 (omega arith) (omega arith) refl e
-      go (stuck u) e later = sticks {c = k + 1} 0 (omega arith) (omega arith) refl e
+      go : (x : Next Cell) → stepOf tagged g input s ≡ x → (mark : ℕ)
+          → ((mark : ℕ) (u : State Cell) → Reported g input n (k + 1) u (runFrom tagged g input n (k + 1) mark u))
+          → Reported g input (suc n) k s (onward x s (k + 1) mark (λ u. runFrom tagged g input n (k + 1) mark u))
+      go (goes u) e mark later = reported-later n k s u e (later mark u)
+      go finished e mark later = finishes {c = k + 1} 0 (omega arith) (omega arith) refl e
+      go (trapped t z u) e mark later = traps {c = k + 1} 0 (omega arith) (omega arith) refl e
+      go (stuck u) e mark later = sticks {c = k + 1} 0 (omega arith) (omega arith) refl e
 
 -- the machine finished or trapped
 pub data Last : Machine Cell → Type 0 where
@@ -124,9 +131,9 @@ last-stays g input (suc n) k s last =
     go (stuck u) h later = refl
 
 -- a run that used up its steps took them all
-pub steps-used : (g : Program) (input : List ℤ) (n k : ℕ) (s : State Cell)
-    → runFrom tagged g input n k s .outcome ≡ 0 → runFrom tagged g input n k s .steps ≡ k + n
-steps-used g input n k s = go (reported g input n k s)
+pub steps-used : (g : Program) (input : List ℤ) (n k mark : ℕ) (s : State Cell)
+    → runFrom tagged g input n k mark s .outcome ≡ 0 → runFrom tagged g input n k mark s .steps ≡ k + n
+steps-used g input n k mark s = go (reported g input n k mark s)
   where
     go : {e : Ended Cell} → Reported g input n k s e → e .outcome ≡ 0 → e .steps ≡ k + n
     go (used-up c r) used = c
@@ -139,7 +146,7 @@ pub steps-lent : (image : List ℕ) (input store output : List ℤ) (steps : ℕ
     → ranOf image input store output steps .steps ≤ steps
 unfolding ranOf
 steps-lent image input store output steps =
-    go (reported (programOf image) input steps 0 (fresh tagged (programOf image) store output))
+    go (reported (programOf image) input steps 0 _ (fresh tagged (programOf image) store output))
   where
     go : {s : State Cell} {e : Ended Cell} → Reported (programOf image) input steps 0 s e → e .steps ≤ steps
     go (used-up c r) = omega arith
@@ -194,28 +201,29 @@ module _ (g : Program)
     (ok : AcceptedTables (g .types) (g .fields) (g .variables) (g .procedures) (g .nodes) (g .statements))
     (bytes : Bytes (g .nodes)) (input : List ℤ) where
   -- from every sound state
-  pub run-ok : (n k : ℕ) (s : State Cell) → Sound g s → RunOk g s (runFrom tagged g input n k s)
+  pub run-ok : (n k mark : ℕ) (s : State Cell) → Sound g s → RunOk g s (runFrom tagged g input n k mark s)
   unfolding runFrom onward
-  run-ok zero k s sound = record { outcome = omega arith; sound = λ used. sound; room = refl }
-  run-ok (suc n) k s sound =
-      go (stepOf tagged g input s) (step-ok g ok bytes s sound input) (λ u h. run-ok n (k + 1) u h)
+  run-ok zero k mark s sound = record { outcome = omega arith; sound = λ used. sound; room = refl }
+  run-ok (suc n) k mark s sound =
+      go (stepOf tagged g input s) (step-ok g ok bytes s sound input) (raised g s mark) (run-ok n (k + 1))
     where
-      go : (x : Next Cell) → NextOk g s x
-          → ((u : State Cell) → Sound g u → RunOk g u (runFrom tagged g input n (k + 1) u))
-          → RunOk g s (onward x s (k + 1) (λ u. runFrom tagged g input n (k + 1) u))
-      go x (ok-goes {s′ = u} next cells output) later =
-          let rest = later u next in
+      go : (x : Next Cell) → NextOk g s x → (mark : ℕ)
+          → ((mark : ℕ) (u : State Cell) → Sound g u → RunOk g u (runFrom tagged g input n (k + 1) mark u))
+          → RunOk g s (onward x s (k + 1) mark (λ u. runFrom tagged g input n (k + 1) mark u))
+      go x (ok-goes {s′ = u} next cells output) mark later =
+          let rest = later mark u next in
           record { outcome = rest .outcome; sound = rest .sound; room = rest .room ∙ cells }
-      go x ok-finished later = record { outcome = omega arith; sound = λ used. absurd (omega arith); room = refl }
-      go x (ok-trapped same) later =
+      go x ok-finished mark later =
+          record { outcome = omega arith; sound = λ used. absurd (omega arith); room = refl }
+      go x (ok-trapped same) mark later =
           record { outcome = omega arith; sound = λ used. absurd (omega arith); room = same .cells }
 
   -- the bare machine, on the numbers alone, does the same
-  pub run-bare : (n k : ℕ) (s : State Cell) → Sound g s
-      → runFrom bare g input n k (erase s) ≡ eraseEnded (runFrom tagged g input n k s)
-  run-bare n k s sound =
-      let few = run-ok n k s sound .outcome in
-      run-follows g input n k s (λ three. absurd (omega arith))
+  pub run-bare : (n k mark : ℕ) (s : State Cell) → Sound g s
+      → runFrom bare g input n k mark (erase s) ≡ eraseEnded (runFrom tagged g input n k mark s)
+  run-bare n k mark s sound =
+      let few = run-ok n k mark s sound .outcome in
+      run-follows g input n k mark s (λ three. absurd (omega arith))
 
 module _ (image : List ℕ) (bytes : Bytes image) (accepted : checkOf image ≡ Accepted) (input store output : List ℤ)
     (most : length store ≤ 65536) (least : firstTop (programOf image) ≤ length store) (steps : ℕ) where
@@ -224,7 +232,7 @@ module _ (image : List ℕ) (bytes : Bytes image) (accepted : checkOf image ≡ 
 
   ran : Reported (programOf image) input steps 0 first (ranOf image input store output steps)
   unfolding ranOf
-  ran = reported (programOf image) input steps 0 first
+  ran = reported (programOf image) input steps 0 _ first
 
   -- a state that the machine reached is sound, and so is its next step
   running-sound : (d : ℕ) (u : State Cell) → after tagged (programOf image) input d first ≡ running u
@@ -243,7 +251,7 @@ module _ (image : List ℕ) (bytes : Bytes image) (accepted : checkOf image ≡ 
   unfolding ranOf
   ran-ok =
       let ok = program-accepted image accepted in
-      run-ok (programOf image) ok (program-bytes image bytes) input steps 0 first
+      run-ok (programOf image) ok (program-bytes image bytes) input steps 0 _ first
       (fresh-sound (programOf image) ok store output most least)
 
   pub ran-outcome : ranOf image input store output steps .outcome ≤ 2
@@ -278,12 +286,13 @@ module _ (image : List ℕ) (bytes : Bytes image) (accepted : checkOf image ≡ 
       go (sticks d low c r x) two = absurd (omega arith)
 
   -- the bare machine, on the numbers alone, does the same
-  pub ran-bare : runFrom bare (programOf image) input steps 0 (fresh bare (programOf image) store output)
+  pub ran-bare : runFrom bare (programOf image) input steps 0 (firstTop (programOf image))
+      (fresh bare (programOf image) store output)
       ≡ eraseEnded (ranOf image input store output steps)
   unfolding ranOf
   ran-bare =
       rw (fresh-erased (programOf image) store output)
-      (run-follows (programOf image) input steps 0 first never-stuck)
+      (run-follows (programOf image) input steps 0 _ first never-stuck)
 
   -- a run leaves as many cells as it was lent
   pub ran-cells : length (ranOf image input store output steps .state .cells) ≡ length store
@@ -311,49 +320,49 @@ pub record Kept {X : Type 0} (input : List ℤ) (s : State X) (e : Ended X) : Ty
   pub output : Keeps input s (e .state)
 
 module _ {X : Type 0} (m : Memory X) (g : Program) (input : List ℤ) where
-  onward-kept : {s : State X} (x : Next X) (k : ℕ) (next : State X → Ended X) → Reports input s x
-      → ((u : State X) → Kept input u (next u)) → Kept input s (onward x s k next)
+  onward-kept : {s : State X} {asked : ℕ} (x : Next X) (k mark : ℕ) (next : State X → Ended X)
+      → Reports input asked s x → ((u : State X) → Kept input u (next u)) → Kept input s (onward x s k mark next)
   unfolding onward
-  onward-kept (goes u) k next (reports-goes kept) more = record {
+  onward-kept (goes u) k mark next (reports-goes kept top) more = record {
     no-trap = more u .no-trap;
     named-trap = more u .named-trap;
     halt = more u .halt;
     output = keeps-on input kept (more u .output);
   }
-  onward-kept {s} finished k next h more = record {
+  onward-kept {s} finished k mark next h more = record {
     no-trap = λ h. refl;
     named-trap = λ h. absurd (omega arith);
     halt = λ h. refl;
     output = keeps-all input s;
   }
-  onward-kept (trapped t z u) k next (reports-trapped kept numbered) more = record {
+  onward-kept (trapped t z u) k mark next (reports-trapped kept numbered) more = record {
     no-trap = λ h. absurd (h refl);
     named-trap = λ h. trap-range t;
     halt = numbered .halt;
     output = kept;
   }
-  onward-kept (stuck u) k next (reports-stuck kept) more = record {
+  onward-kept (stuck u) k mark next (reports-stuck kept) more = record {
     no-trap = λ h. refl;
     named-trap = λ h. absurd (omega arith);
     halt = λ h. refl;
     output = kept;
   }
 
-  pub run-kept : (n k : ℕ) (s : State X) → Kept input s (runFrom m g input n k s)
+  pub run-kept : (n k mark : ℕ) (s : State X) → Kept input s (runFrom m g input n k mark s)
   unfolding runFrom
-  run-kept zero k s = record {
+  run-kept zero k mark s = record {
     no-trap = λ h. refl;
     named-trap = λ h. absurd (omega arith);
     halt = λ h. refl;
     output = keeps-all input s;
   }
-  run-kept (suc n) k s =
-      onward-kept (stepOf m g input s) (k + 1) _ (step-reports input m g s) (λ u. run-kept n (k + 1) u)
+  run-kept (suc n) k mark s =
+      onward-kept (stepOf m g input s) (k + 1) _ _ (step-reports input m g s) (λ u. run-kept n (k + 1) _ u)
 
 module _ (image : List ℕ) (input store output : List ℤ) (steps : ℕ) where
   ran-kept : Kept input (fresh tagged (programOf image) store output) (ranOf image input store output steps)
   unfolding ranOf
-  ran-kept = run-kept tagged (programOf image) input steps 0 (fresh tagged (programOf image) store output)
+  ran-kept = run-kept tagged (programOf image) input steps 0 _ (fresh tagged (programOf image) store output)
 
   -- "trap is 0 unless trapped"
   pub result-no-trap : (resultOf image input store output steps .outcome ≡ 2 → ⊥)

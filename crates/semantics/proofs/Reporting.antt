@@ -1,4 +1,5 @@
--- What a step does to the counts and the output places, and the number that a trap has, from any state of any memory.
+-- What a step does to the counts, the output places and top, and the number that a trap has, from any state of any
+-- memory.
 use mathlib.Core.Path.{_≡_, refl, _∙_}
 use mathlib.Core.Bool.{Bool}
 use mathlib.Core.List.{List}
@@ -47,12 +48,20 @@ pub no-number : (t : Trap) → Numbered t (pos 0)
 no-number t = record { halt = λ h. refl }
 
 module _ {X : Type 0} (input : List ℤ) where
-  -- what a step comes to, of the output and HALT's number
-  pub data Reports (s : State X) : Next X → Type 0 where
-    reports-goes : {u : State X} → Keeps input s u → Reports s (goes u)
-    reports-finished : Reports s finished
-    reports-trapped : {t : Trap} {z : ℤ} {u : State X} → Keeps input s u → Numbered t z → Reports s (trapped t z u)
-    reports-stuck : {u : State X} → Keeps input s u → Reports s (stuck u)
+  -- what a step that asks for a top comes to, of the output, HALT's number and top: where it goes on, the new top is the
+  -- one asked for, or neither lies above the old one
+  pub data Reports (asked : ℕ) (s : State X) : Next X → Type 0 where
+    reports-goes : {u : State X} → Keeps input s u
+        → larger (s .at .top) (u .at .top) ≡ larger (s .at .top) asked → Reports asked s (goes u)
+    reports-finished : Reports asked s finished
+    reports-trapped : {t : Trap} {z : ℤ} {u : State X} → Keeps input s u → Numbered t z
+        → Reports asked s (trapped t z u)
+    reports-stuck : {u : State X} → Keeps input s u → Reports asked s (stuck u)
+
+  -- no top is asked for, and none above the old one is there
+  reports-below : {s u : State X} → Keeps input s u → u .at .top ≤ s .at .top → Reports 0 s (goes u)
+  reports-below {s} {u} kept low =
+      reports-goes kept (omega (arith, larger-sum (s .at .top) (u .at .top), larger-sum (s .at .top) 0))
 
   -- the same counts and output, whatever else is
   pub keeps-same : {s u : State X} → u .at .read ≡ s .at .read → u .at .written ≡ s .at .written
@@ -82,164 +91,182 @@ module _ {X : Type 0} (input : List ℤ) where
 
   -- ---- by the ways that a step goes on, after cells above top were written
 
-  module _ {s s′ : State X} (kept : Keeps input s s′) where
-    place-reports : (found : Found) (k : Place → Next X) → ((place : Place) → Reports s (k place))
-        → Reports s (onPlace s′ found k)
+  module _ {asked : ℕ} {s s′ : State X} (kept : Keeps input s s′) where
+    place-reports : (found : Found) (k : Place → Next X) → ((place : Place) → Reports asked s (k place))
+        → Reports asked s (onPlace s′ found k)
     unfolding onPlace
     place-reports (Fs.At place) k f = f place
     place-reports (Fs.Trap t) k f = reports-trapped kept (no-number t)
     place-reports Fs.Stuck k f = reports-stuck kept
 
-    value-reports : (answer : Answer) (k : Value → Next X) → ((v : Value) → Reports s (k v))
-        → Reports s (onValue s′ answer k)
+    value-reports : (answer : Answer) (k : Value → Next X) → ((v : Value) → Reports asked s (k v))
+        → Reports asked s (onValue s′ answer k)
     unfolding onValue
     value-reports (As.Val v) k f = f v
     value-reports (As.Trap t) k f = reports-trapped kept (no-number t)
     value-reports As.Stuck k f = reports-stuck kept
 
-    integer-reports : (v : Value) (k : ℤ → Next X) → ((z : ℤ) → Reports s (k z)) → Reports s (onInteger s′ v k)
+    integer-reports : (v : Value) (k : ℤ → Next X) → ((z : ℤ) → Reports asked s (k z)) → Reports asked s (onInteger s′ v k)
     unfolding onInteger
     integer-reports (Vs.Int z) k f = f z
     integer-reports (Vs.Bool b) k f = reports-stuck kept
     integer-reports (Vs.Set t) k f = reports-stuck kept
 
-    boolean-reports : (v : Value) (k : Bool → Next X) → ((b : Bool) → Reports s (k b)) → Reports s (onBoolean s′ v k)
+    boolean-reports : (v : Value) (k : Bool → Next X) → ((b : Bool) → Reports asked s (k b)) → Reports asked s (onBoolean s′ v k)
     unfolding onBoolean
     boolean-reports (Vs.Bool b) k f = f b
     boolean-reports (Vs.Int z) k f = reports-stuck kept
     boolean-reports (Vs.Set t) k f = reports-stuck kept
 
-    mark-reports : (mark : Mark) (k : ℕ → Next X) → ((n : ℕ) → Reports s (k n)) → Reports s (onMark s′ mark k)
+    mark-reports : (mark : Mark) (k : ℕ → Next X) → ((n : ℕ) → Reports asked s (k n)) → Reports asked s (onMark s′ mark k)
     unfolding onMark
     mark-reports (Number n) k f = f n
     mark-reports Nothing k f = reports-stuck kept
 
-    part-reports : (a n : ℕ) (k : List X → Next X) → ((part : List X) → Reports s (k part))
-        → Reports s (onPart s′ a n k)
+    part-reports : (a n : ℕ) (k : List X → Next X) → ((part : List X) → Reports asked s (k part))
+        → Reports asked s (onPart s′ a n k)
     unfolding onPart
-    part-reports a n k f = choose-has (Reports s) _ (λ e. f _) (λ e. reports-stuck kept)
+    part-reports a n k f = choose-has (Reports asked s) _ (λ e. f _) (λ e. reports-stuck kept)
 
   -- ---- the statements
 
   module _ (s : State X) where
-    went : (row : ℕ) → Keeps input s (goTo s row)
+    went-reports : (row : ℕ) → Reports 0 s (goes (goTo s row))
     unfolding goTo
-    went row = keeps-same refl refl refl
+    went-reports row = reports-below (keeps-same refl refl refl) (omega arith)
 
-    written-reports : (a : ℕ) (new : List X) → Reports s (written s a new)
+    written-reports : (a : ℕ) (new : List X) → Reports 0 s (written s a new)
     unfolding written following goTo withCells
     written-reports a new =
-        choose-has (Reports s) _ (λ e. reports-goes (keeps-same refl refl refl)) (λ e. reports-stuck (keeps-all s))
+        choose-has (Reports 0 s) _ (λ e. reports-below (keeps-same refl refl refl) (omega arith)) (λ e. reports-stuck (keeps-all s))
 
-  argument-reports : (m : Memory X) (g : Program) {s s′ : State X} → Keeps input s s′ → (k : ℕ) (parameter : Row)
-      (next : List X → Next X) → ((new : List X) → Reports s (next new))
-      → Reports s (argumentCells m g s′ k parameter next)
+  argument-reports : (m : Memory X) (g : Program) {asked : ℕ} {s s′ : State X} → Keeps input s s′ → (k : ℕ) (parameter : Row)
+      (next : List X → Next X) → ((new : List X) → Reports asked s (next new))
+      → Reports asked s (argumentCells m g s′ k parameter next)
   unfolding argumentCells
-  argument-reports m g {s} kept k parameter next f =
-      choose-has (Reports s) _ (λ e. place-reports kept _ _ (λ place. f _))
-      (λ e. choose-has (Reports s) _ (λ e. value-reports kept _ _ (λ v. f _))
+  argument-reports m g {asked} {s} kept k parameter next f =
+      choose-has (Reports asked s) _ (λ e. place-reports kept _ _ (λ place. f _))
+      (λ e. choose-has (Reports asked s) _ (λ e. value-reports kept _ _ (λ v. f _))
       (λ e. place-reports kept _ _ (λ place. part-reports kept _ _ _ f)))
 
-  passed-reports : (m : Memory X) (g : Program) {s : State X} (k a n : ℕ) (s′ : State X) → Keeps input s s′
-      → (next : State X → Next X) → ((u : State X) → Keeps input s u → Reports s (next u))
-      → Reports s (passed m g k a n s′ next)
+  passed-reports : (m : Memory X) (g : Program) {asked : ℕ} {s : State X} (k a n : ℕ) (s′ : State X) → Keeps input s s′
+      → s′ .at .top ≡ s .at .top → (next : State X → Next X)
+      → ((u : State X) → Keeps input s u → u .at .top ≡ s .at .top → Reports asked s (next u))
+      → Reports asked s (passed m g k a n s′ next)
   unfolding passed withCells
-  passed-reports m g k a zero s′ kept next f = f s′ kept
-  passed-reports m g k a (suc n) s′ kept next f =
+  passed-reports m g k a zero s′ kept top next f = f s′ kept top
+  passed-reports m g k a (suc n) s′ kept top next f =
       argument-reports m g kept k (rowAt (g .variables) a) _ (λ new.
-      passed-reports m g (k + 1) (a + 1) n _ (keeps-on kept (keeps-same refl refl refl)) next f)
+      passed-reports m g (k + 1) (a + 1) n _ (keeps-on kept (keeps-same refl refl refl)) top next f)
 
   module _ (m : Memory X) (g : Program) (s : State X) where
     abbrev here : Keeps input s s
     here = keeps-all s
 
-    copied-reports : (target source : Place) → Reports s (copied m g s target source)
+    copied-reports : (target source : Place) → Reports 0 s (copied m g s target source)
     unfolding copied
     copied-reports target source =
-        choose-has (Reports s) _ (λ e. reports-trapped here (no-number _))
+        choose-has (Reports 0 s) _ (λ e. reports-trapped here (no-number _))
         (λ e. part-reports here _ _ _ (λ part. written-reports s (target .address) part))
 
-    assigned-reports : (row : Row) → Reports s (assigned m g s row)
+    assigned-reports : (row : Row) → Reports 0 s (assigned m g s row)
     unfolding assigned
     assigned-reports row =
-        place-reports here _ _ (λ target. choose-has (Reports s) _
+        place-reports here _ _ (λ target. choose-has (Reports 0 s) _
         (λ e. value-reports here _ _ (λ v. written-reports s (target .address) _))
         (λ e. place-reports here _ _ (λ source. copied-reports target source)))
 
-    entered-reports : (q : ℕ) (procedure : Row) (u : State X) → Keeps input s u → Reports s (entered m g q procedure u)
+    -- the top that a call of procedure q asks for
+    abbrev newTop : ℕ → ℕ
+    newTop q = s .at .top + frameSize (g .types) (g .fields) (g .variables) (g .procedures) q
+
+    entered-reports : (q : ℕ) (procedure : Row) (u : State X) → Keeps input s u → u .at .top ≡ s .at .top
+        → Reports (newTop q) s (entered m g q procedure u)
     unfolding entered
-    entered-reports q procedure u kept = reports-goes (keeps-on kept (keeps-same refl refl refl))
+    entered-reports q procedure u kept top = reports-goes (keeps-on kept (keeps-same refl refl refl)) (rw top)
 
-    called-reports : (row : Row) → Reports s (called m g row s)
-    unfolding called
-    called-reports row =
-        choose-has (Reports s) _ (λ e. reports-trapped here (no-number _))
-        (λ e. passed-reports m g _ _ _ s here _ (λ u kept. entered-reports _ _ u kept))
+    called-reports : (row : Row)
+        → Reports (choose (ltb (length (s .cells)) (newTop (row .a))) 0 (newTop (row .a))) s (called m g row s)
+    unfolding called choose
+    called-reports row = go (ltb (length (s .cells)) (newTop (row .a)))
+      where
+        go : (b : Bool) → Reports (choose b 0 (newTop (row .a))) s (choose b (trapped Ts.Frame (pos 0) s)
+            (passed m g (row .b) (firstVariable (g .variables) (g .procedures) (row .a))
+            (rowAt (g .procedures) (row .a) .b) s (entered m g (row .a) (rowAt (g .procedures) (row .a)))))
+        go true = reports-trapped here (no-number _)
+        go false = passed-reports m g _ _ _ s here refl _ (λ u kept top. entered-reports _ _ u kept top)
 
-    jumped-reports : (row : Row) → Reports s (jumped m g row s)
+    jumped-reports : (row : Row) → Reports 0 s (jumped m g row s)
     unfolding jumped following
     jumped-reports row =
         value-reports here _ _ (λ v. boolean-reports here v _ (λ holds.
-        reports-goes (choose-has (Keeps input s) holds (λ e. went s _) (λ e. went s _))))
+        choose-has (λ u. Reports 0 s (goes u)) holds (λ e. went-reports s _) (λ e. went-reports s _)))
 
-    returned-reports : Reports s (returned m g s)
-    unfolding returned
+    -- its links are found below top, so the frame begins below it
+    returned-reports : Reports 0 s (returned m g s)
+    unfolding returned markAt onMark
     returned-reports =
-        choose-has (Reports s) _ (λ e. reports-finished)
-        (λ e. mark-reports here _ _ (λ row. mark-reports here _ _ (λ base.
-        reports-goes (keeps-same refl refl refl))))
+        choose-has (Reports 0 s) _ (λ e. reports-finished)
+        (λ e. choose-has (λ mark. Reports 0 s (onMark s mark _)) _
+        (λ low. mark-reports here _ _ (λ row. mark-reports here _ _ (λ base.
+        reports-below (keeps-same refl refl refl) (omega (arith, ltb-true (s .at .base + 1) (s .at .top) low)))))
+        (λ e. reports-stuck here))
 
     -- one more input, where there is one
-    read-reports : (a : ℕ) (new : List X) → s .at .read < length input → Reports s (afterRead (written s a new))
+    read-reports : (a : ℕ) (new : List X) → s .at .read < length input → Reports 0 s (afterRead (written s a new))
     unfolding written following goTo withCells afterRead
     read-reports a new more =
-        choose-has (λ x. Reports s (afterRead x)) _
-        (λ e. reports-goes (record {
+        choose-has (λ x. Reports 0 s (afterRead x)) _
+        (λ e. reports-below (record {
           count = omega arith;
           places = refl;
           place = λ i h. refl;
           inputs = λ h. omega arith;
           outputs = λ h. h;
-        }))
+        }) (omega arith))
         (λ e. reports-stuck here)
 
-    received-reports : (row : Row) → Reports s (received m g input row s)
+    received-reports : (row : Row) → Reports 0 s (received m g input row s)
     unfolding received
     received-reports row =
-        place-reports here _ _ (λ target. choose-has (Reports s) _
+        place-reports here _ _ (λ target. choose-has (Reports 0 s) _
         (λ e. read-reports (target .address) _ (ltb-true _ _ e)) (λ e. reports-trapped here (no-number _)))
 
-    sent-reports : (row : Row) → Reports s (sent m g row s)
+    sent-reports : (row : Row) → Reports 0 s (sent m g row s)
     unfolding sent
     sent-reports row =
-        value-reports here _ _ (λ v. integer-reports here v _ (λ z. choose-has (Reports s) _
-        (λ e. reports-goes (record {
+        value-reports here _ _ (λ v. integer-reports here v _ (λ z. choose-has (Reports 0 s) _
+        (λ e. reports-below (record {
           count = omega arith;
           places = length-set (s .output) (s .at .written) z;
           place = λ i h. getD-set-other (s .output) (s .at .written) i z (pos 0) (omega arith);
           inputs = λ h. h;
           outputs = λ h. omega (arith, ltb-true (s .at .written) (length (s .output)) e);
-        }))
+        }) (omega arith))
         (λ e. reports-trapped here (no-number _))))
 
-    halted-reports : (row : Row) → Reports s (halted m g row s)
+    halted-reports : (row : Row) → Reports 0 s (halted m g row s)
     unfolding halted
     halted-reports row =
         value-reports here _ _ (λ v. integer-reports here v _ (λ z.
         reports-trapped here (record { halt = λ other. absurd (other halt-number) })))
 
-    perform-reports : (kind : ℕ) (row : Row) → Reports s (perform m g input kind row s)
+    -- by the kind: a call asks for a top
+    perform-reports : (kind : ℕ) (row : Row)
+        → Reports (choose (eqb kind 1) (choose (ltb (length (s .cells)) (newTop (row .a))) 0 (newTop (row .a))) 0) s
+        (perform m g input kind row s)
     unfolding perform
     perform-reports kind row =
-        choose-has (Reports s) _ (λ e. assigned-reports row)
-        (λ e. choose-has (Reports s) _ (λ e. called-reports row)
-        (λ e. choose-has (Reports s) _ (λ e. jumped-reports row)
-        (λ e. choose-has (Reports s) _ (λ e. reports-goes (went s (row .b)))
-        (λ e. choose-has (Reports s) _ (λ e. returned-reports)
-        (λ e. choose-has (Reports s) _ (λ e. received-reports row)
-        (λ e. choose-has (Reports s) _ (λ e. sent-reports row)
-        (λ e. choose-has (Reports s) _ (λ e. halted-reports row) (λ e. reports-stuck here))))))))
+        choose-has (Reports _ s) _ (λ e. other e (λ z. absurd (omega arith)) (assigned-reports row))
+        (λ e. choose-has (Reports _ s) _ (λ e. rw (choose-yes _ _ _ e) (called-reports row))
+        (λ call. rw (choose-no _ _ _ call)
+        (choose-has (Reports 0 s) _ (λ e. jumped-reports row)
+        (λ e. choose-has (Reports 0 s) _ (λ e. went-reports s (row .b))
+        (λ e. choose-has (Reports 0 s) _ (λ e. returned-reports)
+        (λ e. choose-has (Reports 0 s) _ (λ e. received-reports row)
+        (λ e. choose-has (Reports 0 s) _ (λ e. sent-reports row)
+        (λ e. choose-has (Reports 0 s) _ (λ e. halted-reports row) (λ e. reports-stuck here)))))))))
 
-    pub step-reports : Reports s (stepOf m g input s)
-    unfolding stepOf
+    pub step-reports : Reports (askedBy g (s .at) (length (s .cells))) s (stepOf m g input s)
+    unfolding stepOf askedBy
     step-reports = perform-reports _ _

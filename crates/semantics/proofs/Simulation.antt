@@ -252,26 +252,34 @@ eraseEnded e = record {
   trap = e .trap;
   halt = e .halt;
   steps = e .steps;
+  mark = e .mark;
   state = erase (e .state);
 }
 
-onward-follows : {x : Next Cell} {y : Next ℤ} (s : State Cell) (k : ℕ)
+onward-follows : {x : Next Cell} {y : Next ℤ} (s : State Cell) (k mark : ℕ)
     (f : State Cell → Ended Cell) (h : State ℤ → Ended ℤ) → Follows x y
     → ((u : State Cell) → (f u .outcome ≡ 3 → ⊥) → h (erase u) ≡ eraseEnded (f u))
-    → (onward x s k f .outcome ≡ 3 → ⊥) → onward y (erase s) k h ≡ eraseEnded (onward x s k f)
+    → (onward x s k mark f .outcome ≡ 3 → ⊥) → onward y (erase s) k mark h ≡ eraseEnded (onward x s k mark f)
 unfolding onward
-onward-follows s k f h astray next e = absurd (e refl)
-onward-follows s k f h (goes-on {s = u} q) next e = rw q (next u e)
-onward-follows s k f h ends next e = refl
-onward-follows s k f h (traps q) next e = rw q
+onward-follows s k mark f h astray next e = absurd (e refl)
+onward-follows s k mark f h (goes-on {s = u} q) next e = rw q (next u e)
+onward-follows s k mark f h ends next e = refl
+onward-follows s k mark f h (traps q) next e = rw q
 
-pub run-follows : (g : Program) (input : List ℤ) (n k : ℕ) (s : State Cell)
-    → (runFrom tagged g input n k s .outcome ≡ 3 → ⊥)
-    → runFrom bare g input n k (erase s) ≡ eraseEnded (runFrom tagged g input n k s)
+-- a store of the same length: the same mark
+raised-erased : (g : Program) (s : State Cell) (mark : ℕ) → raised g (erase s) mark ≡ raised g s mark
+unfolding raised
+raised-erased g s mark = rw (length-map (s .cells) (tagged .number))
+
+pub run-follows : (g : Program) (input : List ℤ) (n k mark : ℕ) (s : State Cell)
+    → (runFrom tagged g input n k mark s .outcome ≡ 3 → ⊥)
+    → runFrom bare g input n k mark (erase s) ≡ eraseEnded (runFrom tagged g input n k mark s)
 unfolding runFrom
-run-follows g input zero k s e = refl
-run-follows g input (suc n) k s e =
-    onward-follows s (k + 1) _ _ (step-follows g input s) (λ u h. run-follows g input n (k + 1) u h) e
+run-follows g input zero k mark s e = refl
+run-follows g input (suc n) k mark s e =
+    rw (raised-erased g s mark)
+    (onward-follows s (k + 1) (raised g s mark) _ _ (step-follows g input s)
+    (λ u h. run-follows g input n (k + 1) (raised g s mark) u h) e)
 
 -- ---- the fresh state
 

@@ -1,10 +1,11 @@
 -- The run of an image and its results.
 use Prim.Native.Nat.{ℕ, zero, suc, _+_}
 use mathlib.Core.List.{List, _++_, map}
-use lib.Dec.{leb, eqb}
+use lib.Dec.{ltb, leb, eqb}
 use lib.IntN.{ℤ, pos}
 use lib.ListN.{length, drop, replicate}
 use Rattle.prelude.specs.Choice.{choose}
+use Rattle.image.specs.declared.Row.{Row}
 use Rattle.image.specs.Rows.{rowAt}
 use Rattle.frames.specs.Variables.{globalsOf}
 use Rattle.frames.specs.Procedures.{firstVariable, claimedBy}
@@ -12,6 +13,7 @@ use Rattle.places.specs.Places.{globalCells, frameSize}
 use Rattle.values.specs.Values.{trapNumber}
 use Rattle.checker.specs.Check.{typesIn, fieldsIn, variablesIn, proceduresIn, nodesIn, statementsIn}
 use Rattle.checker.specs.Check.{checkOf, refusalOf, rowOf}
+use Rattle.semantics.specs.declared.Registers.{Registers}
 use Rattle.semantics.specs.declared.RunResult.{RunResult}
 use Rattle.semantics.specs.Memory.{LINK, Cell, Memory, tagged}
 use Rattle.semantics.specs.Layout.{Program, kindsFrom}
@@ -55,6 +57,23 @@ fresh m g store output = record {
   output = output;
 }
 
+-- ---- "a mark: the largest of G + F0 and the tops asked for by calls that passed the store check"
+
+-- the top that the step from here asks for in a store of so many cells: a call's that passes the store check, be it that
+-- an argument then traps; of any other step 0
+unfoldable pub askedBy : Program → Registers → ℕ → ℕ
+askedBy g s cells =
+    let row : Row = rowAt (g .statements) (s .row) in
+    let top : ℕ = s .top + frameSize (g .types) (g .fields) (g .variables) (g .procedures) (row .a) in
+    choose (eqb (row .kind) 1) (choose (ltb cells top) 0 top) 0
+
+unfoldable pub larger : ℕ → ℕ → ℕ
+larger a b = choose (ltb a b) b a
+
+-- the mark behind the step from a state, where it was so large before
+unfoldable pub raised : {X : Type 0} → Program → State X → ℕ → ℕ
+raised g s mark = larger mark (askedBy g (s .at) (length (s .cells)))
+
 -- ---- "A run takes image, input, store, output and 0 to 4294967295 steps."
 
 -- where a run ended: "outcome (0 steps used up, 1 finished, 2 trapped)", 3 stuck
@@ -63,19 +82,23 @@ pub record Ended (X : Type 0) : Type 0 where
   pub trap : ℕ
   pub halt : ℤ
   pub steps : ℕ
+  pub mark : ℕ
   pub state : State X
 
 -- "A step that finishes or traps counts and is the last."
-unfoldable pub onward : {X : Type 0} → Next X → State X → ℕ → (State X → Ended X) → Ended X
-onward (goes s′) s k next = next s′
-onward finished s k next = record { outcome = 1; trap = 0; halt = pos 0; steps = k; state = s }
-onward (trapped t z s′) s k next = record { outcome = 2; trap = trapNumber t; halt = z; steps = k; state = s′ }
-onward (stuck s′) s k next = record { outcome = 3; trap = 0; halt = pos 0; steps = k; state = s′ }
+unfoldable pub onward : {X : Type 0} → Next X → State X → ℕ → ℕ → (State X → Ended X) → Ended X
+onward (goes s′) s k mark next = next s′
+onward finished s k mark next = record { outcome = 1; trap = 0; halt = pos 0; steps = k; mark = mark; state = s }
+onward (trapped t z s′) s k mark next =
+    record { outcome = 2; trap = trapNumber t; halt = z; steps = k; mark = mark; state = s′ }
+onward (stuck s′) s k mark next = record { outcome = 3; trap = 0; halt = pos 0; steps = k; mark = mark; state = s′ }
 
--- n steps more, where k were done before
-unfoldable pub runFrom : {X : Type 0} → Memory X → Program → List ℤ → ℕ → ℕ → State X → Ended X
-runFrom m g input zero k s = record { outcome = 0; trap = 0; halt = pos 0; steps = k; state = s }
-runFrom m g input (suc n) k s = onward (stepOf m g input s) s (k + 1) (λ s′. runFrom m g input n (k + 1) s′)
+-- n steps more, where k were done before, and the mark was so large
+unfoldable pub runFrom : {X : Type 0} → Memory X → Program → List ℤ → ℕ → ℕ → ℕ → State X → Ended X
+runFrom m g input zero k mark s = record { outcome = 0; trap = 0; halt = pos 0; steps = k; mark = mark; state = s }
+runFrom m g input (suc n) k mark s =
+    onward (stepOf m g input s) s (k + 1) (raised g s mark)
+    (λ s′. runFrom m g input n (k + 1) (raised g s mark) s′)
 
 -- ---- refusals
 
@@ -88,7 +111,7 @@ refusal image store =
 
 -- ---- what a call gives back: "a refusal leaves store and output untouched, other results 0"
 
--- "refusal, row of refusal, outcome, trap, HALT number, statement row, steps, read, written", with base and top
+-- "refusal, row of refusal, outcome, trap, HALT number, statement row, steps, read, written", with base, top and mark
 unfoldable pub numbersOf : {X : Type 0} → Ended X → RunResult
 numbersOf e = record {
   refusal = 0;
@@ -98,6 +121,7 @@ numbersOf e = record {
   halt = e .halt;
   steps = e .steps;
   at = e .state .at;
+  mark = e .mark;
 }
 
 -- a refusal's: "other results 0"
@@ -110,6 +134,7 @@ refusedWith q row = record {
   halt = pos 0;
   steps = 0;
   at = record { row = 0; base = 0; top = 0; read = 0; written = 0 };
+  mark = 0;
 }
 
 -- the result, by the number of the refusal or 0, its row, and where the call ended
@@ -129,7 +154,8 @@ outputBy q e output = choose (eqb q 0) (e .state .output) output
 -- "A run takes image, input, store, output and 0 to 4294967295 steps.": where the tagged machine ends, from fresh
 unfoldable pub ranOf : List ℕ → List ℤ → List ℤ → List ℤ → ℕ → Ended Cell
 ranOf image input store output steps =
-    runFrom tagged (programOf image) input steps 0 (fresh tagged (programOf image) store output)
+    runFrom tagged (programOf image) input steps 0 (firstTop (programOf image))
+    (fresh tagged (programOf image) store output)
 
 -- "It returns refusal, row of refusal, outcome .., trap, HALT number, statement row, steps, read, written"
 unfoldable pub resultOf : List ℕ → List ℤ → List ℤ → List ℤ → ℕ → RunResult

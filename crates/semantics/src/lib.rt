@@ -31,7 +31,7 @@ pub enum Mark {
     Nothing,
 }
 
-// The numbers of a run; `fault` is the row of refusal, `at` is where the run ended.
+// The numbers of a run; `fault` is the row of refusal, `at` is where the run ended, `mark` how many cells it needed.
 #[repr(C)]
 pub struct RunResult {
     pub refusal: u32,
@@ -41,4 +41,5 @@ pub struct RunResult {
     pub halt: i32,
     pub steps: u32,
     pub at: Registers,
+    pub mark: u32,
 }

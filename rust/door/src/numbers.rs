@@ -28,6 +28,8 @@ pub struct Numbers {
     pub read: u64,
     /// Outputs written.
     pub written: u64,
+    /// How many cells the run needed; 0 in a refusal.
+    pub mark: u32,
 }
 
 impl Numbers {
