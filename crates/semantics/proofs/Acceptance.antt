@@ -125,7 +125,7 @@ pub case-6 :
     (checkOf skipping ≡ Accepted)
     × (valueAfter skipping 0 5 ≡ As.Trap Ts.Divisor)
     × (valueAfter skipping 0 6 ≡ As.Val (Vs.Bool false))
-    × (resultOf skipping [] (zeros 32) [] 100 ≡ results 0 0 1 0 0 1 2 0 0 0 3)
+    × (resultOf skipping [] (zeros 32) [] 100 ≡ results 0 0 1 0 0 1 2 0 0 0 3 3)
 unfolding run
 case-6 = (refl, refl, refl, refl)
 
@@ -187,7 +187,7 @@ changing = joined (
 pub case-8 :
     (checkOf changing ≡ Accepted)
     × (valueAfter changing 1 2 ≡ As.Val (Vs.Bool true))
-    × (resultOf changing [] (zeros 32) [] 100 ≡ results 0 0 2 3 0 3 3 0 0 6 11)
+    × (resultOf changing [] (zeros 32) [] 100 ≡ results 0 0 2 3 0 3 3 0 0 6 11 11)
 unfolding run
 case-8 = (refl, refl, refl)
 
@@ -222,12 +222,12 @@ pub case-9 :
     let at4 = indexing 0 4 in
     let at-1 = indexing 65535 65535 in
     (foundAfter at3 0 2 ≡ object 3 1)
-    × (resultOf at3 [] (zeros 32) (zeros 1) 100 ≡ results 0 0 1 0 0 1 2 0 1 4 7)
+    × (resultOf at3 [] (zeros 32) (zeros 1) 100 ≡ results 0 0 1 0 0 1 2 0 1 4 7 7)
     × (foundAfter at4 0 2 ≡ Fs.Trap Ts.Index)
-    × (resultOf at4 [] (zeros 32) (zeros 1) 100 ≡ results 0 0 2 1 0 0 1 0 0 4 7)
+    × (resultOf at4 [] (zeros 32) (zeros 1) 100 ≡ results 0 0 2 1 0 0 1 0 0 4 7 7)
     × (valueAfter at-1 0 1 ≡ As.Val (minus 1))
     × (foundAfter at-1 0 2 ≡ Fs.Trap Ts.Index)
-    × (resultOf at-1 [] (zeros 32) (zeros 1) 100 ≡ results 0 0 2 1 0 0 1 0 0 4 7)
+    × (resultOf at-1 [] (zeros 32) (zeros 1) 100 ≡ results 0 0 2 1 0 0 1 0 0 4 7 7)
 unfolding run
 case-9 = (refl, refl, refl, refl, refl, refl, refl)
 
@@ -253,13 +253,13 @@ smallest =
 pub case-10 :
     (checkOf smallest ≡ Accepted)
     × (numberOf (checkOf smallest) ≡ 0)
-    × (resultOf smallest [] (zeros 8192) (zeros 4096) 100000 ≡ results 0 0 1 0 0 0 1 0 0 0 3)
+    × (resultOf smallest [] (zeros 8192) (zeros 4096) 100000 ≡ results 0 0 1 0 0 0 1 0 0 0 3 3)
 unfolding run
 case-10 = (refl, refl, refl)
 
 -- "Two cells: refusal 13.", whatever they and the rest are; "a refusal leaves store and output untouched"
 pub case-10-two-cells : (input output : List ℤ) (x y : ℤ) (steps : ℕ) →
-    (resultOf smallest input (x ∷ y ∷ []) output steps ≡ results 13 0 0 0 0 0 0 0 0 0 0)
+    (resultOf smallest input (x ∷ y ∷ []) output steps ≡ results 13 0 0 0 0 0 0 0 0 0 0 0)
     × (storeAfter smallest input (x ∷ y ∷ []) output steps ≡ x ∷ y ∷ [])
     × (outputAfter smallest input (x ∷ y ∷ []) output steps ≡ output)
 unfolding run

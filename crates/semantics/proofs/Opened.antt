@@ -50,7 +50,8 @@ use Rattle.semantics.specs.Stepping.{onPlace, onValue, onInteger, onBool
 use Rattle.semantics.specs.Stepping.{written, onPart, otherRecord, copied, assigned, argumentCells, passed}
 use Rattle.semantics.specs.Stepping.{entered, called, jumped, returned, inputAt, afterRead, received, sent}
 use Rattle.semantics.specs.Stepping.{halted, perform, stepOf}
-use Rattle.semantics.specs.Running.{programOf, globalRoom, firstTop, freshCells, fresh, onward, runFrom}
+use Rattle.semantics.specs.Running.{programOf, globalRoom, firstTop, freshCells, fresh, askedBy, raised}
+use Rattle.semantics.specs.Running.{onward, runFrom}
 use Rattle.semantics.specs.Running.{refusal, ranOf, numbersOf, refusedWith, resultBy, storeBy, outputBy}
 use Rattle.semantics.specs.Running.{resultOf, storeAfter, outputAfter}
 
@@ -143,5 +144,5 @@ stepping = tt
 -- the whole run, the check before it
 unfoldable pub run : Unit {0}
 unfolding check integers operators values memory finding stepping programOf globalRoom firstTop freshCells fresh
-    onward runFrom refusal ranOf numbersOf refusedWith resultBy storeBy outputBy resultOf storeAfter outputAfter
+    askedBy raised onward runFrom refusal ranOf numbersOf refusedWith resultBy storeBy outputBy resultOf storeAfter outputAfter
 run = tt

@@ -1,20 +1,25 @@
 -- What a step does to the counts, the output places and top, and the number that a trap has, from any state of any
 -- memory.
 use mathlib.Core.Path.{_≡_, refl, _∙_}
-use mathlib.Core.Bool.{Bool}
+use mathlib.Core.Bool.{Bool, true, false}
 use mathlib.Core.List.{List}
-use Prim.Native.Nat.{ℕ, zero, suc, _+_, _≤_, _<_}
+use Prim.Native.Nat.{ℕ, zero, suc, _+_, _≤_, _<_, max}
 use native.Mathlib.Omega.{arith}
-use borrow.Author.Tests.{ltb-true}
+use borrow.Author.Tests.{ltb-true, eqb-true, ne-eqb}
+use lib.Dec.{ltb, eqb}
 use lib.IntN.{ℤ, pos}
 use lib.ListN.{length, getD, length-set}
 use lib.Seq.{getD-set-other}
-use Rattle.prelude.proofs.Choice.{choose-has}
+use Rattle.prelude.specs.Choice.{choose}
+use Rattle.prelude.proofs.Choice.{choose-yes, choose-no, choose-has}
 use Rattle.image.specs.declared.Row.{Row}
 use Rattle.image.specs.Rows.{rowAt}
+use Rattle.frames.specs.Procedures.{firstVariable}
+use Rattle.places.specs.Places.{frameSize}
 use Rattle.values.specs.declared.Value.{Value}
 use Rattle.values.specs.declared.Value.the-variants as Vs
 use Rattle.values.specs.declared.Trap.{Trap}
+use Rattle.values.specs.declared.Trap.the-variants as Ts
 use Rattle.values.specs.declared.Answer.{Answer}
 use Rattle.values.specs.declared.Answer.the-variants as As
 use Rattle.values.specs.Values.{trapNumber}
@@ -24,12 +29,13 @@ use Rattle.semantics.specs.declared.Found.{Found}
 use Rattle.semantics.specs.declared.Found.the-variants as Fs
 use Rattle.semantics.specs.declared.Mark.{Mark}
 use Rattle.semantics.specs.declared.Mark.the-variants.{Number, Nothing}
-use Rattle.semantics.specs.Memory.{Memory}
+use Rattle.semantics.specs.Memory.{LINK, Memory, cellAt, markAt}
 use Rattle.semantics.specs.Layout.{Program}
 use Rattle.semantics.specs.Stepping.{State, Next, Next.goes, Next.finished, Next.trapped, Next.stuck}
 use Rattle.semantics.specs.Stepping.{onPlace, onValue, onInteger, onBoolean, onMark, goTo, following, withCells}
 use Rattle.semantics.specs.Stepping.{written, onPart, afterRead, copied, assigned, argumentCells, passed, entered}
 use Rattle.semantics.specs.Stepping.{called, jumped, returned, received, sent, halted, perform, stepOf}
+use Rattle.semantics.specs.Running.{askedBy}
 
 -- "output places from written on keep their numbers", and a count within its lent list stays within it: from a state to
 -- a later one
@@ -52,7 +58,7 @@ module _ {X : Type 0} (input : List ℤ) where
   -- one asked for, or neither lies above the old one
   pub data Reports (asked : ℕ) (s : State X) : Next X → Type 0 where
     reports-goes : {u : State X} → Keeps input s u
-        → larger (s .at .top) (u .at .top) ≡ larger (s .at .top) asked → Reports asked s (goes u)
+        → max (s .at .top) (u .at .top) ≡ max (s .at .top) asked → Reports asked s (goes u)
     reports-finished : Reports asked s finished
     reports-trapped : {t : Trap} {z : ℤ} {u : State X} → Keeps input s u → Numbered t z
         → Reports asked s (trapped t z u)
@@ -60,8 +66,7 @@ module _ {X : Type 0} (input : List ℤ) where
 
   -- no top is asked for, and none above the old one is there
   reports-below : {s u : State X} → Keeps input s u → u .at .top ≤ s .at .top → Reports 0 s (goes u)
-  reports-below {s} {u} kept low =
-      reports-goes kept (omega (arith, larger-sum (s .at .top) (u .at .top), larger-sum (s .at .top) 0))
+  reports-below {s} {u} kept low = reports-goes kept (omega arith)
 
   -- the same counts and output, whatever else is
   pub keeps-same : {s u : State X} → u .at .read ≡ s .at .read → u .at .written ≡ s .at .written
@@ -183,7 +188,10 @@ module _ {X : Type 0} (input : List ℤ) where
     entered-reports : (q : ℕ) (procedure : Row) (u : State X) → Keeps input s u → u .at .top ≡ s .at .top
         → Reports (newTop q) s (entered m g q procedure u)
     unfolding entered
-    entered-reports q procedure u kept top = reports-goes (keeps-on kept (keeps-same refl refl refl)) (rw top)
+    entered-reports q procedure u kept top = reports-goes (keeps-on kept (keeps-same refl refl refl)) (raised-by _ top)
+      where
+        raised-by : (room : ℕ) {a b : ℕ} → a ≡ b → max b (a + room) ≡ max b (b + room)
+        raised-by room e = rw e
 
     called-reports : (row : Row)
         → Reports (choose (ltb (length (s .cells)) (newTop (row .a))) 0 (newTop (row .a))) s (called m g row s)
@@ -202,15 +210,26 @@ module _ {X : Type 0} (input : List ℤ) where
         value-reports here _ _ (λ v. boolean-reports here v _ (λ holds.
         choose-has (λ u. Reports 0 s (goes u)) holds (λ e. went-reports s _) (λ e. went-reports s _)))
 
-    -- its links are found below top, so the frame begins below it
+    -- a link is found below top alone
+    link-reports : (a : ℕ) (k : ℕ → Next X) → ((n : ℕ) → a < s .at .top → Reports 0 s (k n))
+        → Reports 0 s (onMark s (markAt m (s .at .top) (s .cells) LINK a) k)
+    unfolding markAt choose
+    link-reports a k f = go (ltb a (s .at .top)) refl
+      where
+        go : (b : Bool) → ltb a (s .at .top) ≡ b
+            → Reports 0 s (onMark s (choose b (m .marked LINK (cellAt m (s .cells) a)) Nothing) k)
+        go true low = mark-reports here _ k (λ n. f n (ltb-true _ _ low))
+        go false low = unfold onMark in reports-stuck here
+
     returned-reports : Reports 0 s (returned m g s)
-    unfolding returned markAt onMark
+    unfolding returned
     returned-reports =
         choose-has (Reports 0 s) _ (λ e. reports-finished)
-        (λ e. choose-has (λ mark. Reports 0 s (onMark s mark _)) _
-        (λ low. mark-reports here _ _ (λ row. mark-reports here _ _ (λ base.
-        reports-below (keeps-same refl refl refl) (omega (arith, ltb-true (s .at .base + 1) (s .at .top) low)))))
-        (λ e. reports-stuck here))
+        (λ e. link-reports _ _ (λ row low. link-reports _ _ (λ base above.
+        reports-below (keeps-same refl refl refl) (begins low))))
+      where
+        begins : s .at .base + 1 < s .at .top → s .at .base ≤ s .at .top
+        begins low = omega arith
 
     -- one more input, where there is one
     read-reports : (a : ℕ) (new : List X) → s .at .read < length input → Reports 0 s (afterRead (written s a new))
@@ -257,7 +276,7 @@ module _ {X : Type 0} (input : List ℤ) where
         (perform m g input kind row s)
     unfolding perform
     perform-reports kind row =
-        choose-has (Reports _ s) _ (λ e. other e (λ z. absurd (omega arith)) (assigned-reports row))
+        choose-has (Reports _ s) _ (λ e. rw (choose-no _ _ _ (no-call (eqb-true kind 0 e))) (assigned-reports row))
         (λ e. choose-has (Reports _ s) _ (λ e. rw (choose-yes _ _ _ e) (called-reports row))
         (λ call. rw (choose-no _ _ _ call)
         (choose-has (Reports 0 s) _ (λ e. jumped-reports row)
@@ -266,6 +285,9 @@ module _ {X : Type 0} (input : List ℤ) where
         (λ e. choose-has (Reports 0 s) _ (λ e. received-reports row)
         (λ e. choose-has (Reports 0 s) _ (λ e. sent-reports row)
         (λ e. choose-has (Reports 0 s) _ (λ e. halted-reports row) (λ e. reports-stuck here)))))))))
+      where
+        no-call : kind ≡ 0 → eqb kind 1 ≡ false
+        no-call e = ne-eqb kind 1 (λ one. omega arith)
 
     pub step-reports : Reports (askedBy g (s .at) (length (s .cells))) s (stepOf m g input s)
     unfolding stepOf askedBy

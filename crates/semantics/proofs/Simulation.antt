@@ -27,7 +27,7 @@ use Rattle.semantics.specs.Stepping.{following, withCells, written, onPa
 use Rattle.semantics.specs.Stepping.{copied, assigned, argumentCells, passed, entered}
 use Rattle.semantics.specs.Stepping.{called, jumped, returned}
 use Rattle.semantics.specs.Stepping.{afterRead, received, sent, halted, perform, stepOf}
-use Rattle.semantics.specs.Running.{Ended, onward, runFrom, freshCells, fresh}
+use Rattle.semantics.specs.Running.{raised, Ended, onward, runFrom, freshCells, fresh}
 use Rattle.semantics.proofs.Agreeing.{Answers, Founds, Marks, lost, same, choose-rel}
 use Rattle.semantics.proofs.Agreeing.{numbers, part-numbers, overwrite-numbers}
 use Rattle.semantics.proofs.Agreeing.{put-number, mark-number, blank-numbers, loose-numbers}

@@ -93,7 +93,7 @@ left = map pos (
 -- These numbers would differ if own fields came before the base's, a guard asked for equality, a VAR parameter were
 -- handed on with its static type, or a projection copied the extension too.
 pub whole-run :
-    (resultOf whole [] (zeros 17) (zeros 2) 100 ≡ results 0 0 2 10 5 3 10 0 1 3 6)
+    (resultOf whole [] (zeros 17) (zeros 2) 100 ≡ results 0 0 2 10 5 3 10 0 1 3 6 17)
     × (outputAfter whole [] (zeros 17) (zeros 2) 100 ≡ pos 49 ∷ pos 0 ∷ [])
     × (storeAfter whole [] (zeros 17) (zeros 2) 100 ≡ left)
 unfolding run

@@ -1,5 +1,5 @@
 -- The run of an image and its results.
-use Prim.Native.Nat.{ℕ, zero, suc, _+_}
+use Prim.Native.Nat.{ℕ, zero, suc, _+_, max}
 use mathlib.Core.List.{List, _++_, map}
 use lib.Dec.{ltb, leb, eqb}
 use lib.IntN.{ℤ, pos}
@@ -67,12 +67,9 @@ askedBy g s cells =
     let top : ℕ = s .top + frameSize (g .types) (g .fields) (g .variables) (g .procedures) (row .a) in
     choose (eqb (row .kind) 1) (choose (ltb cells top) 0 top) 0
 
-unfoldable pub larger : ℕ → ℕ → ℕ
-larger a b = choose (ltb a b) b a
-
 -- the mark behind the step from a state, where it was so large before
 unfoldable pub raised : {X : Type 0} → Program → State X → ℕ → ℕ
-raised g s mark = larger mark (askedBy g (s .at) (length (s .cells)))
+raised g s mark = max mark (askedBy g (s .at) (length (s .cells)))
 
 -- ---- "A run takes image, input, store, output and 0 to 4294967295 steps."
 
