@@ -33,8 +33,8 @@ use Rattle.semantics.proofs.Beginning.{fresh-sound, fresh-length}
 use Rattle.semantics.proofs.Demand3.{program-accepted, program-bytes, demand3-from}
 use Rattle.semantics.proofs.Outcomes.{refusal-none, none-refusal, steps-used, run-ok, run-kept}
 use Rattle.asking.specs.Resuming.{resumed}
-use Rattle.asking.specs.Continuing.{Continuable, unfinished, withinLent, question14, continueRefusal, continuedOf}
-use Rattle.asking.specs.Continuing.{continueResult, continuedStore, continuedOutput, Left, afterRun}
+use Rattle.asking.specs.Continuing.{Continuable, unfinished, withinLent, markWithin, question14, continueRefusal}
+use Rattle.asking.specs.Continuing.{continuedOf, continueResult, continuedStore, continuedOutput, Left, afterRun}
 use Rattle.asking.specs.Continuing.{afterContinue, refusalOn}
 use Rattle.asking.proofs.Built.{number-is, yes-sound}
 use Rattle.asking.proofs.Told.{number-same, sound-told}
@@ -46,9 +46,9 @@ module _ (g : Program)
     (ok : AcceptedTables (g .types) (g .fields) (g .variables) (g .procedures) (g .nodes) (g .statements))
     (input : List ℤ) where
   module _ (store output : List ℤ) (r : RunResult) (n : ℕ) where
-    -- by its nine parts, in any order
+    -- by its parts, in any order
     yes-passes : Continuable g input store output r n → question14 g input store output r n ≡ true
-    unfolding question14 unfinished withinLent _also_
+    unfolding question14 unfinished withinLent markWithin _also_
     yes-passes c =
         simp (
           eq-eqb (r .refusal) 0 (c .refusal),
@@ -60,19 +60,23 @@ module _ (g : Program)
           le-leb (r .at .read) (length input) (c .read),
           le-leb (r .at .written) (length output) (c .written),
           le-leb (r .steps + n) 4294967295 (c .steps),
+          le-leb (r .at .top) (r .mark) (c .mark-top),
+          le-leb (r .mark) (length store) (c .mark-store),
         )
 
     passes-yes : question14 g input store output r n ≡ true → Continuable g input store output r n
-    unfolding question14 unfinished withinLent
+    unfolding question14 unfinished withinLent markWithin
     passes-yes e =
         let (zeros, e₁) = also-true _ _ e in
-        let (sound, lent) = also-true _ _ e₁ in
+        let (sound, e₂) = also-true _ _ e₁ in
+        let (lent, marks) = also-true _ _ e₂ in
         let (a, zeros₁) = also-true _ _ zeros in
         let (b, zeros₂) = also-true _ _ zeros₁ in
         let (c, zeros₃) = also-true _ _ zeros₂ in
         let (d, h) = also-true _ _ zeros₃ in
         let (read, lent₁) = also-true _ _ lent in
         let (written, steps) = also-true _ _ lent₁ in
+        let (top, most) = also-true _ _ marks in
         record {
           refusal = eqb-true _ _ a;
           fault = eqb-true _ _ b;
@@ -83,6 +87,8 @@ module _ (g : Program)
           read = leb-true _ _ read;
           written = leb-true _ _ written;
           steps = leb-true _ _ steps;
+          mark-top = leb-true _ _ top;
+          mark-store = leb-true _ _ most;
         }
 
 -- where the image is accepted, "14" is answered by yes just where a continuation may go on
@@ -153,12 +159,15 @@ continue-left image input l n none = rw (eq-eqb _ 0 none)
 
 -- ---- in two goes
 
--- a sound state that the image has room for, with its counts within their lists: a run can begin here
-record Starts (g : Program) (input : List ℤ) (s : State Cell) : Type 0 where
+-- a sound state that the image has room for, with its counts within their lists and its mark within the store: a run
+-- can begin here
+record Starts (g : Program) (input : List ℤ) (mark : ℕ) (s : State Cell) : Type 0 where
   sound : Sound g s
   least : firstTop g ≤ length (s .cells)
   read : s .at .read ≤ length input
   written : s .at .written ≤ length (s .output)
+  top : s .at .top ≤ mark
+  marked : mark ≤ length (s .cells)
 
 module _ (image : List ℕ) (bytes : Bytes image) (accepted : checkOf image ≡ Accepted) (input : List ℤ) where
   abbrev g : Program
@@ -171,37 +180,47 @@ module _ (image : List ℕ) (bytes : Bytes image) (accepted : checkOf image ≡ 
   nodes = program-bytes image bytes
 
   fresh-starts : (store output : List ℤ) → length store ≤ 65536 → firstTop g ≤ length store
-      → Starts g input (fresh tagged g store output)
+      → Starts g input (firstTop g) (fresh tagged g store output)
   unfolding fresh
   fresh-starts store output most least = record {
     sound = fresh-sound g ok store output most least;
     least = rw (fresh-length g ok store least) least;
     read = omega arith;
     written = omega arith;
+    top = omega arith;
+    marked = rw (fresh-length g ok store least) least;
   }
 
   resumed-starts : (store output : List ℤ) (r : RunResult) (n : ℕ) → firstTop g ≤ length store
-      → Continuable g input store output r n → Starts g input (resumed g (r .at) store output)
+      → Continuable g input store output r n → Starts g input (r .mark) (resumed g (r .at) store output)
   unfolding resumed
   resumed-starts store output r n least c = record {
     sound = c .sound;
     least = rw (resumed-cells g (r .at) store output) least;
     read = c .read;
     written = c .written;
+    top = c .mark-top;
+    marked = rw (resumed-cells g (r .at) store output) (c .mark-store);
   }
 
-  module _ (s : State Cell) (starts : Starts g input s) (n k m : ℕ)
-      (used : runFrom tagged g input n k s .outcome ≡ 0) (steps : k + (n + m) ≤ 4294967295) where
+  module _ (mark : ℕ) (s : State Cell) (starts : Starts g input mark s) (n k m : ℕ)
+      (used : runFrom tagged g input n k mark s .outcome ≡ 0) (steps : k + (n + m) ≤ 4294967295) where
     abbrev left : Left
-    left = leftBy (eraseEnded (runFrom tagged g input n k s))
+    left = leftBy (eraseEnded (runFrom tagged g input n k mark s))
+
+    as-many : length (left .store) ≡ length (s .cells)
+    as-many =
+        length-map (runFrom tagged g input n k mark s .state .cells) (tagged .number)
+        ∙ run-ok g ok nodes input n k mark s (starts .sound) .room
 
     may-go-on : Continuable g input (left .store) (left .output) (left .result) m
     unfolding numbersOf
     may-go-on =
-        let kept = run-kept tagged g input n k s in
+        let kept = run-kept tagged g input n k mark s in
+        let goes-on = run-ok g ok nodes input n k mark s (starts .sound) in
         let no-trap = kept .no-trap (λ two. absurd (omega arith)) in
         let places = kept .output .places in
-        let told = sound-told g ok _ (run-ok g ok nodes input n k s (starts .sound) .sound used) in
+        let told = sound-told g ok _ (goes-on .sound used) in
         record {
           refusal = refl;
           fault = refl;
@@ -211,15 +230,15 @@ module _ (image : List ℕ) (bytes : Bytes image) (accepted : checkOf image ≡ 
           sound = yes-sound g ok (left .result .at) (left .store) (left .output) told;
           read = kept .output .inputs (starts .read);
           written = rw places (kept .output .outputs (starts .written));
-          steps = omega (arith, steps-used g input n k s used);
+          steps = omega (arith, steps-used g input n k mark s used);
+          mark-top = goes-on .top (starts .top);
+          mark-store = rw as-many (goes-on .marked (starts .marked));
         }
 
     -- a run that used up its steps is not refused a continuation
     left-passes : refusalOn image input left m ≡ 0
     left-passes =
-        let e = runFrom tagged g input n k s in
-        let cells : length (numbers (e .state .cells)) ≡ length (s .cells) =
-        length-map (e .state .cells) (tagged .number) ∙ run-ok g ok nodes input n k s (starts .sound) .room in
+        let cells = as-many in
         let most = starts .sound .lent in
         let least = starts .least in
         none-continue image input (left .store) (left .output) (left .result) m
@@ -227,11 +246,11 @@ module _ (image : List ℕ) (bytes : Bytes image) (accepted : checkOf image ≡ 
         (yes-passes g ok input (left .store) (left .output) (left .result) m may-go-on)
 
     -- which adds its steps
-    left-adds : afterContinue image input left m ≡ leftBy (eraseEnded (runFrom tagged g input (n + m) k s))
+    left-adds : afterContinue image input left m ≡ leftBy (eraseEnded (runFrom tagged g input (n + m) k mark s))
     unfolding continuedOf numbersOf
     left-adds =
         continue-left image input left m left-passes
-        ∙ ap leftBy (continue-adds g ok nodes input n m k s (starts .sound) used)
+        ∙ ap leftBy (continue-adds g ok nodes input n m k mark s (starts .sound) used)
 
 -- ---- after a run
 
@@ -244,12 +263,12 @@ module _ (image : List ℕ) (bytes : Bytes image) (input store output : List ℤ
   abbrev first : State Cell
   first = fresh tagged (programOf image) store output
 
-  first-starts : Starts (programOf image) input first
+  first-starts : Starts (programOf image) input (firstTop (programOf image)) first
   first-starts =
       let (accepted, most, least) = refusal-none image store none in
       fresh-starts image bytes accepted input store output most least
 
-  first-used : runFrom tagged (programOf image) input n 0 first .outcome ≡ 0
+  first-used : runFrom tagged (programOf image) input n 0 (firstTop (programOf image)) first .outcome ≡ 0
   unfolding ranOf numbersOf afterRun
   first-used = sym (ap (λ (l : Left). l .result .outcome) (run-left image input store output n none)) ∙ used
 
@@ -260,14 +279,14 @@ module _ (image : List ℕ) (bytes : Bytes image) (input store output : List ℤ
   unfolding ranOf
   passes-run =
       ap (λ (l : Left). refusalOn image input l m) (run-left image input store output n none)
-      ∙ left-passes image bytes accepted input first first-starts n 0 m first-used first-lent
+      ∙ left-passes image bytes accepted input _ first first-starts n 0 m first-used first-lent
 
   adds-run : afterContinue image input (afterRun image input store output n) m
       ≡ afterRun image input store output (n + m)
   unfolding ranOf
   adds-run =
       ap (λ (l : Left). afterContinue image input l m) (run-left image input store output n none)
-      ∙ left-adds image bytes accepted input first first-starts n 0 m first-used first-lent
+      ∙ left-adds image bytes accepted input _ first first-starts n 0 m first-used first-lent
       ∙ sym (run-left image input store output (n + m) none)
 
 -- ---- after a continuation
@@ -288,12 +307,12 @@ module _ (image : List ℕ) (bytes : Bytes image) (input : List ℤ) (l : Left) 
   may : Continuable (programOf image) input (l .store) (l .output) (l .result) n
   may = question14-exact image agreed input (l .store) (l .output) (l .result) n .0 (asked .1)
 
-  again-starts : Starts (programOf image) input again
+  again-starts : Starts (programOf image) input (l .result .mark) again
   again-starts =
       resumed-starts image bytes agreed input (l .store) (l .output) (l .result) n
       (refusal-none image (l .store) (asked .0) .2) may
 
-  again-used : runFrom tagged (programOf image) input n (l .result .steps) again .outcome ≡ 0
+  again-used : runFrom tagged (programOf image) input n (l .result .steps) (l .result .mark) again .outcome ≡ 0
   unfolding continuedOf numbersOf
   again-used = sym (ap (λ (l : Left). l .result .outcome) (continue-left image input l n none)) ∙ used
 
@@ -311,19 +330,21 @@ module _ (image : List ℕ) (bytes : Bytes image) (input : List ℤ) (l : Left) 
         read = may .read;
         written = may .written;
         steps = lent;
+        mark-top = may .mark-top;
+        mark-store = may .mark-store;
       }))
 
   passes-again : refusalOn image input (afterContinue image input l n) m ≡ 0
   unfolding continuedOf
   passes-again =
       ap (λ (l : Left). refusalOn image input l m) (continue-left image input l n none)
-      ∙ left-passes image bytes agreed input again again-starts n (l .result .steps) m again-used lent
+      ∙ left-passes image bytes agreed input _ again again-starts n (l .result .steps) m again-used lent
 
   adds-again : afterContinue image input (afterContinue image input l n) m ≡ afterContinue image input l (n + m)
   unfolding continuedOf
   adds-again =
       ap (λ (l : Left). afterContinue image input l m) (continue-left image input l n none)
-      ∙ left-adds image bytes agreed input again again-starts n (l .result .steps) m again-used lent
+      ∙ left-adds image bytes agreed input _ again again-starts n (l .result .steps) m again-used lent
       ∙ sym (continue-left image input l (n + m) longer-none)
 
 -- ---- the claims

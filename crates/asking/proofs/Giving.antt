@@ -28,7 +28,7 @@ use Rattle.asking.specs.Continuing.{question14, continueRefusal, continu
 use Rattle.asking.specs.Continuing.{continuedOutput}
 use Rattle.asking.proofs.Built.{yes-sound}
 use Rattle.asking.proofs.Resuming.{resumed-cells, resumed-bare}
-use Rattle.asking.proofs.Continuing.{continue-none, none-continue}
+use Rattle.asking.proofs.Continuing.{question14-exact, continue-none, none-continue}
 
 -- the numbers that a sound state has room for
 pub record Ranged (s : Registers) (store : List ℤ) : Type 0 where
@@ -98,11 +98,15 @@ module _ (image : List ℕ) (input store output : List ℤ) (from : RunResult) (
           few = omega arith;
         }
 
+    -- with a mark that is not below top
+    pub continued-marked : from .at .top ≤ from .mark
+    continued-marked = question14-exact image accepted input store output from steps .0 passes .mark-top
+
     -- its outcome is one of the paper's
     pub continued-outcome : continuedOf image input store output from steps .outcome ≤ 2
     unfolding continuedOf
     continued-outcome =
-        run-ok g (program-accepted image accepted) (program-bytes image bytes) input steps (from .steps)
+        run-ok g (program-accepted image accepted) (program-bytes image bytes) input steps (from .steps) (from .mark)
         (resumed g (from .at) store output) state-sound .outcome
 
     -- it is never stuck
@@ -111,14 +115,14 @@ module _ (image : List ℕ) (input store output : List ℤ) (from : RunResult) (
 
     -- the code's run, on the numbers alone
     abbrev ran : Ended ℤ
-    ran = runFrom bare g input steps (from .steps) (record { at = from .at; cells = store; output = output })
+    ran = runFrom bare g input steps (from .steps) (from .mark) (record { at = from .at; cells = store; output = output })
 
     -- is the tagged machine's
     pub continued-bare : ran ≡ eraseEnded (continuedOf image input store output from steps)
     unfolding continuedOf
     continued-bare =
         resumed-bare g (program-accepted image accepted) (program-bytes image bytes) input (from .at) store output
-        passes-sound steps (from .steps)
+        passes-sound steps (from .steps) (from .mark)
 
     -- so what it gives is what is asked for
     pub continues-run : {r : RunResult} {cells places : List ℤ} → r ≡ numbersOf ran → ran .state .cells ≡ cells

@@ -6,7 +6,7 @@ use mathlib.Core.List.{List}
 use mathlib.Core.Logic.{⊎-elim}
 use Prim.Native.Nat.{ℕ, zero, suc, _+_, _≤_, _<_}
 use native.Mathlib.Omega.{arith}
-use borrow.Author.Tests.{leb-true, le-leb, eqb-true, eq-eqb}
+use borrow.Author.Tests.{ltb-false, leb-true, le-leb, eqb-true, eq-eqb}
 use lib.Dec.{leb, eqb}
 use lib.IntN.{ℤ, pos}
 use lib.ListN.{length, getD}
@@ -21,11 +21,13 @@ use Rattle.checker.specs.declared.CheckAnswer.the-variants.{Accepted, Refused}
 use Rattle.checker.specs.Check.{questionOf, checkOf, refusalOf, rowOf}
 use Rattle.checker.proofs.Chain.{refused-first}
 use Rattle.checker.proofs.Accepted.{AcceptedTables}
+use Rattle.semantics.specs.declared.Registers.{Registers}
 use Rattle.semantics.specs.Memory.{Memory, Cell, tagged, bare}
 use Rattle.semantics.specs.Layout.{Program}
 use Rattle.semantics.specs.Stepping.{State, Next, Next.goes, Next.finished, Next.trapped, Next.stuck, stepOf}
-use Rattle.semantics.specs.Running.{programOf, firstTop, fresh, raised, Ended, onward, runFrom, refusal, ranOf}
-use Rattle.semantics.specs.Running.{numbersOf, refusedWith, resultBy, outputBy, resultOf, outputAfter}
+use Rattle.semantics.specs.Running.{programOf, firstTop, fresh, askedBy, raised, Ended, onward, runFrom}
+use Rattle.semantics.specs.Running.{refusal, ranOf, numbersOf, refusedWith, resultBy, outputBy, resultOf}
+use Rattle.semantics.specs.Running.{outputAfter}
 use Rattle.semantics.specs.Sound.{Sound}
 use Rattle.semantics.specs.After.{Machine, Machine.running, Machine.over, Machine.failed, moved, after}
 use Rattle.semantics.proofs.Simulation.{erase, eraseEnded, run-follows, fresh-erased}
@@ -190,33 +192,82 @@ none-refusal image store accepted most least =
 
 -- ---- what follows from demand 3
 
--- a run from s: its outcome is one of the paper's, so it is never stuck; a state with its steps used up is sound; and
--- there are as many cells as before
-pub record RunOk (g : Program) (s : State Cell) (e : Ended Cell) : Type 0 where
+-- a run from s: its outcome is one of the paper's, so it is never stuck; a state with its steps used up is sound; there
+-- are as many cells as before; and its mark, where it was not below top and within the store, is so still
+pub record RunOk (g : Program) (mark : ℕ) (s : State Cell) (e : Ended Cell) : Type 0 where
   pub outcome : e .outcome ≤ 2
   pub sound : e .outcome ≡ 0 → Sound g (e .state)
   pub room : length (e .state .cells) ≡ length (s .cells)
+  pub top : s .at .top ≤ mark → e .state .at .top ≤ e .mark
+  pub marked : mark ≤ length (s .cells) → e .mark ≤ length (s .cells)
+
+-- the mark behind a step: not below the one before it, nor above that and the store
+record Raised (g : Program) (mark : ℕ) (s : State Cell) : Type 0 where
+  kept : mark ≤ raised g s mark
+  lent : mark ≤ length (s .cells) → raised g s mark ≤ length (s .cells)
+
+asked-lent : (g : Program) (s : Registers) (cells : ℕ) → askedBy g s cells ≤ cells
+unfolding askedBy
+asked-lent g s cells =
+    choose-has (λ n. n ≤ cells) _
+    (λ e. choose-has (λ n. n ≤ cells) _ (λ f. omega arith) (λ f. ltb-false _ _ f)) (λ e. omega arith)
+
+mark-raised : (g : Program) (mark : ℕ) (s : State Cell) → Raised g mark s
+unfolding raised
+mark-raised g mark s =
+    record { kept = omega arith; lent = λ low. omega (arith, asked-lent g (s .at) (length (s .cells))) }
 
 module _ (g : Program)
     (ok : AcceptedTables (g .types) (g .fields) (g .variables) (g .procedures) (g .nodes) (g .statements))
     (bytes : Bytes (g .nodes)) (input : List ℤ) where
+  -- a step that goes on leaves no top above the mark behind it
+  goes-below : (mark : ℕ) (s u : State Cell)
+      → Reports input (askedBy g (s .at) (length (s .cells))) s (goes u) → s .at .top ≤ mark
+      → u .at .top ≤ raised g s mark
+  unfolding raised
+  goes-below mark s u (reports-goes kept top) low = omega arith
+
   -- from every sound state
-  pub run-ok : (n k mark : ℕ) (s : State Cell) → Sound g s → RunOk g s (runFrom tagged g input n k mark s)
+  pub run-ok : (n k mark : ℕ) (s : State Cell) → Sound g s → RunOk g mark s (runFrom tagged g input n k mark s)
   unfolding runFrom onward
-  run-ok zero k mark s sound = record { outcome = omega arith; sound = λ used. sound; room = refl }
+  run-ok zero k mark s sound = record {
+    outcome = omega arith;
+    sound = λ used. sound;
+    room = refl;
+    top = λ low. low;
+    marked = λ low. low;
+  }
   run-ok (suc n) k mark s sound =
-      go (stepOf tagged g input s) (step-ok g ok bytes s sound input) (raised g s mark) (run-ok n (k + 1))
+      go (stepOf tagged g input s) (step-ok g ok bytes s sound input) (step-reports input tagged g s)
+      (raised g s mark) refl (mark-raised g mark s) (run-ok n (k + 1))
     where
-      go : (x : Next Cell) → NextOk g s x → (mark : ℕ)
-          → ((mark : ℕ) (u : State Cell) → Sound g u → RunOk g u (runFrom tagged g input n (k + 1) mark u))
-          → RunOk g s (onward x s (k + 1) mark (λ u. runFrom tagged g input n (k + 1) mark u))
-      go x (ok-goes {s′ = u} next cells output) mark later =
-          let rest = later mark u next in
-          record { outcome = rest .outcome; sound = rest .sound; room = rest .room ∙ cells }
-      go x ok-finished mark later =
-          record { outcome = omega arith; sound = λ used. absurd (omega arith); room = refl }
-      go x (ok-trapped same) mark later =
-          record { outcome = omega arith; sound = λ used. absurd (omega arith); room = same .cells }
+      go : (x : Next Cell) → NextOk g s x → Reports input (askedBy g (s .at) (length (s .cells))) s x
+          → (new : ℕ) → raised g s mark ≡ new → Raised g mark s
+          → ((mark : ℕ) (u : State Cell) → Sound g u → RunOk g mark u (runFrom tagged g input n (k + 1) mark u))
+          → RunOk g mark s (onward x s (k + 1) new (λ u. runFrom tagged g input n (k + 1) new u))
+      go x (ok-goes {s′ = u} next cells output) reports new e up later =
+          let rest = later new u next in
+          record {
+            outcome = rest .outcome;
+            sound = rest .sound;
+            room = rest .room ∙ cells;
+            top = λ low. rest .top (omega (arith, goes-below mark s u reports low));
+            marked = λ low. rw cells at (rest .marked (omega (arith, up .lent low)));
+          }
+      go x ok-finished reports new e up later = record {
+        outcome = omega arith;
+        sound = λ used. absurd (omega arith);
+        room = refl;
+        top = λ low. omega (arith, up .kept);
+        marked = λ low. omega (arith, up .lent low);
+      }
+      go x (ok-trapped same) reports new e up later = record {
+        outcome = omega arith;
+        sound = λ used. absurd (omega arith);
+        room = same .cells;
+        top = λ low. rw (same .registers) (omega (arith, up .kept));
+        marked = λ low. omega (arith, up .lent low);
+      }
 
   -- the bare machine, on the numbers alone, does the same
   pub run-bare : (n k mark : ℕ) (s : State Cell) → Sound g s
@@ -247,7 +298,7 @@ module _ (image : List ℕ) (bytes : Bytes image) (accepted : checkOf image ≡ 
       go x e (sound-over sound step) = let z : _≡_ {A = ℕ} 0 1 = cc in absurd (omega arith)
       go x e (sound-failed sound step same left) = let z : _≡_ {A = ℕ} 0 1 = cc in absurd (omega arith)
 
-  ran-ok : RunOk (programOf image) first (ranOf image input store output steps)
+  ran-ok : RunOk (programOf image) (firstTop (programOf image)) first (ranOf image input store output steps)
   unfolding ranOf
   ran-ok =
       let ok = program-accepted image accepted in
