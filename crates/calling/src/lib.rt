@@ -243,6 +243,18 @@ fn locals_place(image: &&[u8], plan: &Plan, q: u16) -> u32
     access::place_of(image, plan, first + parameters as u32)
 }
 
+// The top that a call of procedure q asks for.
+fn new_top(image: &&[u8], plan: &Plan, top: u32, q: u16) -> u32
+    requires { ⌜ Ready (now (now image)) (now plan) × (top ≤ 65536)
+        × (q < rowsOf (programOf (now (now image)) .procedures)) ⌝ }
+    ensures { λ x. ⌜ x ≡ top + frameSize (programOf (now (now (image .entry))) .types)
+        (programOf (now (now (image .entry))) .fields) (programOf (now (now (image .entry))) .variables)
+        (programOf (now (now (image .entry))) .procedures) q ⌝ }
+{
+    let size = access::frame_size(image, plan, q);
+    top + size
+}
+
 // The call of procedure q, whose arguments are passed.
 fn enter(image: &&[u8], plan: &Plan, store: &mut [i64], s: Registers, q: u16) -> Step
     requires { ⌜ Ready (now (now image)) (now plan) × Stands s (now store)
@@ -279,15 +291,14 @@ fn enter(image: &&[u8], plan: &Plan, store: &mut [i64], s: Registers, q: u16) ->
 
 // The top that the step from s asks for, in a store of so many cells: a call's that passes the store check, else 0.
 pub fn asked(image: &&[u8], plan: &Plan, cells: usize, s: Registers) -> u32
-    requires { ⌜ Ready (now (now image)) (now plan) × (s .row ≤ 65536) × (s .top ≤ 65536) ⌝ }
+    requires { ⌜ Ready (now (now image)) (now plan) × (s .top ≤ 65536) ⌝ }
     ensures { λ x. ⌜ x ≡ askedBy (programOf (now (now (image .entry)))) s cells ⌝ }
 {
     let statement = access::statement_at(image, plan, s.row);
     if statement.kind != 1 {
         return 0;
     }
-    let size = access::frame_size(image, plan, statement.a);
-    let end = s.top + size;
+    let end = new_top(image, plan, s.top, statement.a);
     if cells < end as usize {
         return 0;
     }
@@ -305,9 +316,7 @@ pub fn call(image: &&[u8], plan: &Plan, store: &mut [i64], s: Registers, stateme
 {
     let q = statement.a;
     let k = statement.b;
-    let top = s.top;
-    let size = access::frame_size(image, plan, q);
-    let end = top + size;
+    let end = new_top(image, plan, s.top, q);
     if store.len() < end as usize {
         return Step::Trapped(Trap::Frame, 0);
     }

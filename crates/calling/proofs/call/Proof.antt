@@ -6,7 +6,6 @@ use lib.ListN.{length}
 use Rattle.places.specs.Places.{frameSize}
 use Rattle.semantics.specs.Layout.{Program}
 use Rattle.semantics.specs.Running.{programOf}
-use Rattle.access.proofs.Bounds.{frame-low}
 use Rattle.calling.proofs.Arguments.{stands-kept}
 use Rattle.calling.proofs.Calls.{first-low, parameter-roomy, shows-beyond, call-ended, call-entered}
 use Rattle.calling.proofs.call.Statement.{statement}
@@ -14,16 +13,16 @@ use Rattle.calling.proofs.call.Tie as tie
 use Rattle.calling.proofs.call.Reads as reads
 use Rattle.calling.proofs.call.Lts as lts
 use Rattle.access.proofs.first_variable.Reads as first-variable-reads
-use Rattle.access.proofs.frame_size.Reads as frame-size-reads
 use Rattle.access.proofs.procedure_at.Reads as procedure-at-reads
 use Rattle.calling.proofs.ended_by.Reads as ended-by-reads
 use Rattle.calling.proofs.enter.Reads as enter-reads
+use Rattle.calling.proofs.new_top.Reads as new-top-reads
 use Rattle.calling.proofs.pass_all.Reads as pass-all-reads
 
 abbrev claims : lts.Claims
 claims = (
-  frame-size-reads.Asked,
-  frame-size-reads.Learnt,
+  new-top-reads.Asked,
+  new-top-reads.Learnt,
   procedure-at-reads.Asked,
   procedure-at-reads.Learnt,
   first-variable-reads.Asked,
@@ -42,16 +41,10 @@ room : (c : lts.After-first-variable claims reads.Pre reads.Post) →
     let g : Program = programOf (s .image .now .now) in
     s .s .top + frameSize (g .types) (g .fields) (g .variables) (g .procedures) (s .statement .a)
     ≤ length (s .store .now)
-room c = rw (← c .before .before .before .frame-size .ensures) (c .before .before .if1 .left)
+room c = rw (← c .before .before .before .new-top .ensures) (c .before .before .if1 .left)
 
-frame-size-requires : tie.Need-frame-size-requires
-frame-size-requires c κs = search needs
-
-add-end : tie.Need-add-end
-add-end c =
-    let s = c .before in
-    let low = frame-low (s .pre .0 .planned) (s .args .statement .a) (s .pre .2) in
-    record { fits = omega (arith, c .frame-size .ensures, low, s .pre .1 .top, s .pre .1 .few) }
+new-top-requires : tie.Need-new-top-requires
+new-top-requires c κs = search needs
 
 cast-if1 : tie.Need-cast-if1
 cast-if1 c = search needs
@@ -60,7 +53,7 @@ returns : tie.Need-returns
 returns c = λ output.
     let s = c .before .before in
     shows-beyond (programOf (s .args .image .now .now)) (s .args .statement) (s .args .s) (s .args .store .now) output
-    (rw (← c .before .frame-size .ensures) (c .if1 .taken))
+    (rw (← c .before .new-top .ensures) (c .if1 .taken))
 
 procedure-at-requires : tie.Need-procedure-at-requires
 procedure-at-requires c κs = search needs
@@ -131,8 +124,7 @@ pub call-spec : {M : Type 1} → statement M
 call-spec =
     tie.close
     (tie.spec
-    frame-size-requires
-    add-end
+    new-top-requires
     cast-if1
     returns
     procedure-at-requires
