@@ -1,6 +1,6 @@
 -- Question 14 part by part, as the code asks it.
-use mathlib.Core.Path.{_≡_, refl, _∙_, ap}
-use mathlib.Core.Bool.{Bool, true, false}
+use mathlib.Core.Path.{_≡_, refl, _∙_}
+use mathlib.Core.Bool.{true, false}
 use mathlib.Core.List.{List}
 use Prim.Native.Nat.{ℕ, suc, _+_, _≤_, _<_}
 use native.Mathlib.Omega.{arith}
@@ -26,7 +26,7 @@ use Rattle.semantics.proofs.Demand3.{program-accepted}
 use Rattle.asking.specs.Asking.{roomOf}
 use Rattle.asking.specs.State.{chain, framesOf, insideKept, soundOf}
 use Rattle.asking.specs.Passes.{Walked}
-use Rattle.asking.specs.Continuing.{unfinished, withinLent, question14}
+use Rattle.asking.specs.Continuing.{unfinished, withinLent, markWithin, question14}
 use Rattle.asking.proofs.Passing.{sound-passes}
 use Rattle.access.specs.Ready.{Planned, Ready}
 use Rattle.access.proofs.Bounds.{procedures-few}
@@ -119,10 +119,14 @@ module _ (g : Program) (input store output : List ℤ) (r : RunResult) (n : ℕ)
 
   pub question-within : withinLent input output r n ≡ false → question14 g input store output r n ≡ false
   unfolding question14
-  question-within fails = also-right (unfinished r) (also-right (soundOf g (r .at) store) fails)
+  question-within fails = also-right (unfinished r) (also-right (soundOf g (r .at) store) (also-left _ fails))
 
-  pub question-sound : unfinished r ≡ true → withinLent input output r n ≡ true
+  pub question-marked : markWithin store r ≡ false → question14 g input store output r n ≡ false
+  unfolding question14
+  question-marked fails =
+      also-right (unfinished r) (also-right (soundOf g (r .at) store) (also-right (withinLent input output r n) fails))
+
+  pub question-sound : unfinished r ≡ true → withinLent input output r n ≡ true → markWithin store r ≡ true
       → question14 g input store output r n ≡ soundOf g (r .at) store
   unfolding question14
-  question-sound first last =
-      also-pass _ first ∙ ap (λ b. soundOf g (r .at) store also b) last ∙ also-first (soundOf g (r .at) store) refl
+  question-sound first lent marked = also-pass _ first ∙ also-first (soundOf g (r .at) store) (also-yes lent marked)
