@@ -6,13 +6,12 @@ use semantics::Registers;
 use semantics::RunResult;
 use sizes::RUN_PLAN;
 ghost use mathlib.Core.Path.{_≡_};
-ghost use Prim.Native.Nat.{ℕ, _+_, _≤_};
-ghost use lib.ListN.{length};
+ghost use Prim.Native.Nat.{_+_, _≤_, max};
 ghost use Rattle.prelude.specs.Choice.{choose};
 ghost use Rattle.checker.specs.Check.{refusalOf, rowOf};
 ghost use Rattle.semantics.specs.Memory.{bare};
-ghost use Rattle.semantics.specs.Running.{programOf, globalRoom, firstTop, runFrom, refusedWith, resultOf, storeAfter};
-ghost use Rattle.semantics.specs.Running.{outputAfter, larger};
+ghost use Rattle.semantics.specs.Running.{programOf, firstTop, runFrom, refusedWith, resultOf, storeAfter};
+ghost use Rattle.semantics.specs.Running.{outputAfter};
 ghost use Rattle.access.specs.Ready.{Ready};
 ghost use Rattle.calling.specs.Showing.{stateOf, Stands};
 ghost use Rattle.asking.specs.Continuing.{continueResult, continuedStore, continuedOutput};
@@ -45,8 +44,8 @@ fn stop_by(x: Step, s: Registers, k: u32, mark: u32) -> RunResult
     }
 }
 
-fn larger_of(a: u32, b: u32) -> u32
-    ensures { λ x. ⌜ x ≡ larger a b ⌝ }
+fn max_of(a: u32, b: u32) -> u32
+    ensures { λ x. ⌜ x ≡ max a b ⌝ }
 {
     if a < b {
         return b;
@@ -81,9 +80,9 @@ pub fn advance(
         let count = k + 1;
         let Step::Goes(q) = next else {
             let asked = calling::asked(image, plan, store.len(), s);
-            return stop_by(next, s, count, larger_of(mark, asked));
+            return stop_by(next, s, count, max_of(mark, asked));
         };
-        mark = larger_of(mark, q.top);
+        mark = max_of(mark, q.top);
         s = q;
         k = count;
     }

@@ -1,5 +1,6 @@
+-- `machine::advance` meets its contract: step by step, until the last.
 use borrow.Author.Needs.{needs}
-use mathlib.Core.Path.{_≡_, _∙_}
+use mathlib.Core.Path.{_∙_}
 use Prim.Native.Nat.{_-_}
 use native.Mathlib.Omega.{arith}
 use denote.Ref.{now}
@@ -8,23 +9,19 @@ use Rattle.calling.specs.Showing.{stateOf}
 use Rattle.machine.proofs.Along.{Along, along-start, along-more, along-last, along-out, shows-going}
 use Rattle.machine.proofs.advance.Statement.{statement}
 use Rattle.machine.proofs.advance.Tie as tie
-use Rattle.machine.proofs.advance.Reads as reads
-use Rattle.machine.proofs.advance.Lts as lts
-use Rattle.machine.proofs.ended.Reads as ended-reads
-use Rattle.machine.proofs.stop_by.Reads as stop-by-reads
-use Rattle.stepping.proofs.step.Reads as step-reads
 
 abbrev Inv-loop : tie.InvT-loop
-Inv-loop image plan input store₀ output₀ done n end s₀ k₀ store output s k = Along (programOf (now image)) input n done (stateOf s₀ store₀ output₀) (stateOf s store output) k
+Inv-loop image plan input store₀ output₀ done first n end s₀ k₀ mark₀ store output s k mark =
+    Along (programOf (now image)) input n done first (stateOf s₀ store₀ output₀) (stateOf s store output) k mark
 
 abbrev μ-loop : tie.MeasureT-loop
-μ-loop image plan input store₀ output₀ done n end s₀ k₀ store output s k = end - k
+μ-loop image plan input store₀ output₀ done first n end s₀ k₀ mark₀ store output s k mark = end - k
 
 add-end : tie.Need-add-end Inv-loop μ-loop
 add-end c = search needs
 
 loop-holds : tie.Need-loop-holds Inv-loop μ-loop
-loop-holds c = along-start _ _ _ _ _ (c .pre .1)
+loop-holds c = along-start _ _ _ _ _ _ (c .pre .1) (c .pre .2)
 
 step-requires : tie.Need-step-requires Inv-loop μ-loop
 step-requires c κs = (c .before .before .before .before .pre .0, c .before .before .before .loop .inv .stands)
@@ -35,24 +32,52 @@ add-count c = omega (arith, c .before .before .before .before .before .before .l
 enum-known-next : tie.Need-enum-known-next Inv-loop μ-loop
 enum-known-next c = search needs
 
+asked-requires : tie.Need-asked-requires Inv-loop μ-loop
+asked-requires c κs =
+    let begin = c .before .before .before .before .before .before .before in
+    let stands = begin .loop .inv .stands in
+    (begin .before .pre .0, omega (arith, stands .top, stands .few))
+
+max-of-requires : tie.Need-max-of-requires Inv-loop μ-loop
+max-of-requires c κs = search needs
+
 stop-by-requires : tie.Need-stop-by-requires Inv-loop μ-loop
 stop-by-requires c κs = search needs
 
 same-length : tie.Need-same-length Inv-loop μ-loop
-same-length c = c .before .before .before .before .step .kept .1 .1 .1 .0 ∙ c .before .before .before .before .before .before .before .before .loop .inv .cells-kept
+same-length c =
+    let at = c .before .before .before .before .before .before in
+    at .step .kept .1 .1 .1 .0 ∙ at .before .before .before .before .loop .inv .cells-kept
 
 same-length-2 : tie.Need-same-length-2 Inv-loop μ-loop
-same-length-2 c = c .before .before .before .before .step .kept .1 .1 .1 .1 .0 ∙ c .before .before .before .before .before .before .before .before .loop .inv .output-kept
+same-length-2 c =
+    let at = c .before .before .before .before .before .before in
+    at .step .kept .1 .1 .1 .1 .0 ∙ at .before .before .before .before .loop .inv .output-kept
 
 returns : tie.Need-returns Inv-loop μ-loop
-returns c = rw (c .stop-by .ensures) (along-last _ _ (c .before .before .before .before .before .before .before .before .loop .inv) (c .before .before .before .before .before .before .before .loop-test .taken) (c .before .before .before .before .step .ensures) (c .before .match .keys2))
+returns c =
+    let at = c .before .before .before .before .before .before in
+    let test = at .before .before .before in
+    rw (c .stop-by .ensures)
+    (along-last _ _ (test .before .loop .inv) (test .loop-test .taken) (at .step .ensures)
+    (c .before .before .before .match .keys2) (at .step .kept .1 .1 .1 .0) (c .before .before .asked .ensures)
+    (c .before .max-of .ensures))
+
+max-of-requires-2 : tie.Need-max-of-requires-2 Inv-loop μ-loop
+max-of-requires-2 c κs = search needs
 
 loop-less : tie.Need-loop-less Inv-loop μ-loop
-loop-less c = omega (arith, c .before .before .before .before .before .before .before .before .before .loop .inv .few)
+loop-less c =
+    omega (arith, c .before .before .before .before .before .before .before .before .before .before .loop .inv .few)
 
 loop-again : tie.Need-loop-again Inv-loop μ-loop
-loop-again c = let shown = shows-going (rw (c .before .next .given .1) at (c .before .before .before .before .before .step .ensures)) in
-    along-more _ _ (c .before .before .before .before .before .before .before .before .before .loop .inv) (c .before .before .before .before .before .before .before .before .loop-test .taken) (shown .0) (shown .1) (c .before .before .before .before .before .step .kept .1 .1 .1 .0) (c .before .before .before .before .before .step .kept .1 .1 .1 .1 .0)
+loop-again c =
+    let at = c .before .before .before .before .before .before in
+    let test = at .before .before .before in
+    let shown = shows-going (rw (c .before .before .next .given .1) at (at .step .ensures)) in
+    rw (c .max-of2 .ensures)
+    (along-more _ _ (test .before .loop .inv) (test .loop-test .taken) (shown .0) (shown .1)
+    (at .step .kept .1 .1 .1 .0) (at .step .kept .1 .1 .1 .1 .0))
 
 ended-requires : tie.Need-ended-requires Inv-loop μ-loop
 ended-requires c κs = search needs
@@ -77,10 +102,13 @@ advance-spec =
     step-requires
     add-count
     enum-known-next
+    asked-requires
+    max-of-requires
     stop-by-requires
     same-length
     same-length-2
     returns
+    max-of-requires-2
     loop-less
     loop-again
     ended-requires

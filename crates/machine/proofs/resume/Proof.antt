@@ -91,10 +91,12 @@ advance-requires : tie.Need-advance-requires
 advance-requires c κs =
     let bytes = c .before .before .before .before .before .before .before .before .before .before .before .before .before .before .before .before .before .before .before .before .shared-slice-known .given in
     let passes = sym (c .before .before .before .before .before .continuable2 .ensures) ∙ not-false _ (c .before .before .before .before .if3 .left) in
+    let may = question14-exact _ (sym (c .before .before .before .before .before .before .before .before .before .before .before .before .before .before .before .before .before .before .open-image .ensures .0) ∙ c .before .before .before .before .before .before .before .before .before .before .before .before .before .before .before .enum-told .given .1) _ _ _ _ _ .0 passes in
     let ranged = continued-ranged _ _ _ _ _ _ (record { each = λ i. omega (arith, bytes i) }) (store-refuses _ (now (c .before .before .before .before .before .before .before .before .before .before .before .before .before .before .before .before .before .before .before .before .before .args .store)) (sym (c .before .before .before .before .before .before .before .before .before .before .before .before .before .before .before .before .before .before .open-image .ensures .0) ∙ c .before .before .before .before .before .before .before .before .before .before .before .before .before .before .before .enum-told .given .1) ∙ sym (c .before .before .before .before .before .before .before .before .before .before .before .before .store-question .ensures) ∙ c .before .before .before .before .before .before .before .before .before .before .before .if1 .left) passes in (
       opened-ready _ _ _ _ (omega arith) (c .before .before .before .before .before .before .before .before .before .before .before .before .before .before .before .enum-told .given .1) (sym (c .before .before .before .before .before .before .before .before .before .before .before .before .before .before .before .before .before .before .open-image .ensures .0)) (c .before .before .before .before .before .before .before .before .before .before .before .before .before .before .before .before .before .before .open-image .ensures .1),
       record { row = omega (arith, ranged .row); base = omega (arith, ranged .base); top = omega (arith, ranged .top); few = ranged .few },
-      omega (arith, question14-exact _ (sym (c .before .before .before .before .before .before .before .before .before .before .before .before .before .before .before .before .before .before .open-image .ensures .0) ∙ c .before .before .before .before .before .before .before .before .before .before .before .before .before .before .before .enum-told .given .1) _ _ _ _ _ .0 passes .steps),
+      omega (arith, may .mark-top),
+      omega (arith, may .steps),
     )
 
 same-length-5 : tie.Need-same-length-5

@@ -70,6 +70,7 @@ advance-requires c κs =
       opened-ready _ _ _ _ (omega arith) (c .before .before .before .before .before .before .before .before .before .before .before .before .before .before .before .before .before .enum-told .given .1) (sym (c .before .before .before .before .before .before .before .before .before .before .before .before .before .before .before .before .before .before .before .before .open-image .ensures .0)) (c .before .before .before .before .before .before .before .before .before .before .before .before .before .before .before .before .before .before .before .before .open-image .ensures .1),
       fresh-stands _ (now (start .args .store)) _ (c .before .before .before .before .before .before .before .before .before .before .global-room .ensures) (c .before .before .before .before .before .before .before .first-top .ensures)
           (omega (arith, c .before .before .before .before .before .before .before .first-top .ensures, room)) few (c .before .before .before .before .before .zero .kept .0),
+      omega arith,
       omega (arith, start .fits .steps .fits),
     )
 

@@ -40,7 +40,7 @@ unfolding stopBy
 returns-2 c = c .ended2 .ensures ∙ rw (c .before .before .before .x .given .1, c .before .trap-number .ensures, plain32 (c .before .before .before .x .given .0 .1 .0) (search needs))
 
 returns-3 : tie.Need-returns-3
-returns-3 c = c .ended3 .ensures ∙ sym (stop-other _ (c .before .match .keys3) _ _)
+returns-3 c = c .ended3 .ensures ∙ sym (stop-other _ (c .before .match .keys3) _ _ _)
 
 pub stop-by-spec : {M : Type 1} → statement M
 stop-by-spec =
