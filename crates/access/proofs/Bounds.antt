@@ -22,7 +22,6 @@ use Rattle.frames.proofs.Claiming.{globals-within}
 use Rattle.places.specs.Places.{roomFrom, placeIn, frameSize}
 use Rattle.places.specs.Filling.{Claims}
 use Rattle.places.proofs.Rooms.{room-small}
-use Rattle.places.proofs.Counting.{first-next}
 use Rattle.places.proofs.Owning.{claims-kept, width-kept, globals-kept, frame-kept}
 use Rattle.nodes.proofs.Accepted.{guard-is}
 use Rattle.statements.proofs.Accepted.{call-is}
@@ -30,10 +29,9 @@ use Rattle.typing.proofs.Lower.{field-row, element-row}
 use Rattle.checker.proofs.Accepted.{AcceptedTables}
 use Rattle.semantics.specs.Layout.{Program, ownerOf, placeOf}
 use Rattle.semantics.specs.Running.{programOf, globalRoom}
-use Rattle.semantics.specs.Sound.{Own}
 use Rattle.semantics.proofs.Demand3.{program-accepted}
 use Rattle.semantics.proofs.FieldRows.{field-nth}
-use Rattle.semantics.proofs.Objects.{place-own}
+use Rattle.semantics.proofs.Objects.{claimed-place}
 use Rattle.access.specs.Ready.{Planned}
 
 -- a choice of two numbers that are not large
@@ -156,15 +154,8 @@ module _ {image plan : List ℕ} (p : Planned image plan) where
   pub place-in : (q j : ℕ) → q < rowsOf (g .procedures) → j < rowAt (g .procedures) q .b + rowAt (g .procedures) q .c
       → placeOf g (firstVariable (g .variables) (g .procedures) q + j)
       ≡ 3 + roomFrom (g .types) (g .fields) (g .variables) (firstVariable (g .variables) (g .procedures) q) j
-  unfolding placeIn claimedBy
-  place-in q j h l =
-      let first : ℕ = firstVariable (g .variables) (g .procedures) q in
-      let one : suc q ≡ q + 1 = omega arith in
-      let next = rw one at (first-next (g .variables) (g .procedures) q) in
-      let own : Own g q (first + j) = record { low = omega arith; high = omega (arith, next) } in
-      let back : first + j - first ≡ j = omega arith in
-      place-own g ok q (first + j) h own
-      ∙ ap (λ n. 3 + roomFrom (g .types) (g .fields) (g .variables) first n) back
+  unfolding claimedBy
+  place-in q j h l = claimed-place g ok q h j l
 
   -- ---- nodes and statements
 

@@ -143,15 +143,15 @@ continue-refused image input store output r n q e some = choose-no _ _ _ (ne-eqb
 -- ---- what calls leave
 
 -- by where the run ended, in numbers
-abbrev leftBy : Ended ℤ → Left
+abbrev pub leftBy : Ended ℤ → Left
 leftBy e = record { result = numbersOf e; store = e .state .cells; output = e .state .output }
 
-run-left : (image : List ℕ) (input store output : List ℤ) (n : ℕ) → refusal image store ≡ 0
+pub run-left : (image : List ℕ) (input store output : List ℤ) (n : ℕ) → refusal image store ≡ 0
     → afterRun image input store output n ≡ leftBy (eraseEnded (ranOf image input store output n))
 unfolding afterRun resultOf storeAfter outputAfter resultBy storeBy outputBy numbersOf choose
 run-left image input store output n none = rw (eq-eqb _ 0 none)
 
-continue-left : (image : List ℕ) (input : List ℤ) (l : Left) (n : ℕ) → refusalOn image input l n ≡ 0
+pub continue-left : (image : List ℕ) (input : List ℤ) (l : Left) (n : ℕ) → refusalOn image input l n ≡ 0
     → afterContinue image input l n
     ≡ leftBy (eraseEnded (continuedOf image input (l .store) (l .output) (l .result) n))
 unfolding afterContinue continueResult continuedStore continuedOutput resultBy storeBy outputBy numbersOf choose

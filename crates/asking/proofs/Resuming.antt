@@ -72,7 +72,7 @@ dressed-numbers ks l =
 -- ---- what numbers stand for
 
 module _ (g : Program) (s : Registers) (store output : List ℤ) where
-  resumed-erased : erase (resumed g s store output) ≡ record { at = s; cells = store; output = output }
+  pub resumed-erased : erase (resumed g s store output) ≡ record { at = s; cells = store; output = output }
   unfolding resumed
   resumed-erased = rw (dressed-numbers (kindsBelow g (framesOf g s store)) store)
 

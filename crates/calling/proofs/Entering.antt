@@ -1,18 +1,17 @@
 -- Laws of a new frame: its size, its cells, and the step that enters it.
 use mathlib.Core.Path.{_≡_, refl, sym, _∙_, ap}
 use mathlib.Core.List.{List, [], _∷_, _++_, map}
-use Prim.Native.Nat.{ℕ, zero, suc, _+_, _-_, _≤_, _<_}
+use Prim.Native.Nat.{ℕ, _+_, _-_, _≤_, _<_}
 use native.Mathlib.Omega.{arith}
 use lib.IntN.{ℤ, pos}
 use lib.ListN.{length, set, take, drop, replicate, length-append, length-drop, length-replicate}
 use lib.Seq.{length-take-le, take-at, drop-at}
 use Rattle.image.specs.declared.Row.{Row}
 use Rattle.image.specs.Rows.{rowAt, rowsOf}
-use Rattle.shapes.specs.Sizes.{sizeOf}
 use Rattle.frames.specs.Procedures.{claimedBy, firstVariable}
 use Rattle.statements.specs.Statements.{procedureAt}
-use Rattle.places.specs.Places.{roomBy, roomFrom, frameSize}
-use Rattle.places.proofs.Rooms.{room-more}
+use Rattle.places.specs.Places.{roomFrom, frameSize}
+use Rattle.places.proofs.Owning.{frame-parts}
 use Rattle.semantics.specs.declared.Registers.{Registers}
 use Rattle.semantics.specs.Memory.{bare, overwrite}
 use Rattle.semantics.specs.Layout.{Program, placeOf, kindsFrom}
@@ -27,16 +26,6 @@ use Rattle.calling.specs.declared.Step.the-variants as Steps
 use Rattle.calling.specs.Showing.{stateOf, Shows, Shows.shows-goes}
 
 -- ---- how many cells
-
--- the room of m variables and of n behind them
-room-both : (size : ℕ → ℕ) (v : List ℕ) (k m n : ℕ)
-    → roomBy size v k (m + n) ≡ roomBy size v k m + roomBy size v (k + m) n
-unfolding roomBy
-room-both size v k m zero = let none : m + 0 ≡ m = omega arith in rw none (omega arith)
-room-both size v k m (suc n) =
-    let more : m + suc n ≡ suc (m + n) = omega arith in
-    let row : k + (m + n) ≡ k + m + n = omega arith in
-    rw (more, room-more size v k (m + n), row) (omega (arith, room-both size v k m n))
 
 module _ (g : Program) (q : ℕ) where
   abbrev first : ℕ
@@ -57,8 +46,7 @@ module _ (g : Program) (q : ℕ) where
 
   -- a frame ends with the locals
   frame-both : size ≡ past + roomFrom (g .types) (g .fields) (g .variables) (first + parameters) locals
-  unfolding frameSize claimedBy
-  frame-both = omega (arith, room-both (sizeOf (g .types) (g .fields)) (g .variables) first parameters locals)
+  frame-both = frame-parts (g .types) (g .fields) (g .variables) (g .procedures) q
 
   -- a procedure with no locals
   frame-past : locals ≡ 0 → size ≡ past

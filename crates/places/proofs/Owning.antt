@@ -18,7 +18,7 @@ use Rattle.frames.proofs.Accepted.{variables-kept, procedures-kept}
 use Rattle.frames.proofs.Claiming.{globals-within}
 use Rattle.places.specs.Places.{widthOf, roomFrom, globalCells, frameSize, placeIn, Places}
 use Rattle.places.specs.Filling.{Claims}
-use Rattle.places.proofs.Rooms.{width-small, room-up, room-small}
+use Rattle.places.proofs.Rooms.{width-small, room-both, room-up, room-small}
 use Rattle.places.proofs.Counting.{first-next}
 
 -- on accepted procedures every procedure's variables exist
@@ -36,6 +36,14 @@ plan-kept t f old plan same four few-types few-fields planned = record {
       let within = record-is (types-kept t f four .row r h .shape) e .within in
       same (OFFSETS + (first + j)) (omega arith) ∙ planned .offset r base first count j h e l;
 }
+
+-- a frame has its links, its parameters, and behind them its locals
+pub frame-parts : (t f v p : List ℕ) (q : ℕ)
+    → frameSize t f v p q
+    ≡ 3 + roomFrom t f v (firstVariable v p q) (rowAt p q .b)
+    + roomFrom t f v (firstVariable v p q + rowAt p q .b) (rowAt p q .c)
+unfolding frameSize claimedBy
+frame-parts t f v p q = omega (arith, room-both (sizeOf t f) v (firstVariable v p q) (rowAt p q .b) (rowAt p q .c))
 
 -- row k is a variable of procedure q
 pub record Own (v p : List ℕ) (q k : ℕ) : Type 0 where

@@ -38,6 +38,16 @@ width-small size v k small = go (eqb (rowAt v k .kind) 3)
 
 -- ---- several
 
+-- the room of m variables and of n behind them
+pub room-both : (size : ℕ → ℕ) (v : List ℕ) (k m n : ℕ)
+    → roomBy size v k (m + n) ≡ roomBy size v k m + roomBy size v (k + m) n
+unfolding roomBy
+room-both size v k m zero = let none : m + 0 ≡ m = omega arith in rw none (omega arith)
+room-both size v k m (suc n) =
+    let more : m + suc n ≡ suc (m + n) = omega arith in
+    let row : k + (m + n) ≡ k + m + n = omega arith in
+    rw (more, row) (omega (arith, room-both size v k m n))
+
 pub room-agree : (g h : ℕ → ℕ) (v : List ℕ) (k n : ℕ)
     → ((j : ℕ) → k ≤ j → j < k + n → g (rowAt v j .a) ≡ h (rowAt v j .a))
     → roomBy g v k n ≡ roomBy h v k n

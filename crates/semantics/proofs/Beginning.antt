@@ -1,5 +1,5 @@
 -- The fresh state is sound.
-use mathlib.Core.Path.{_≡_, refl, sym, _∙_}
+use mathlib.Core.Path.{_≡_, refl, sym, _∙_, ap}
 use mathlib.Core.List.{List, [], _∷_, _++_, map, append-assoc}
 use Prim.Native.Nat.{ℕ, _+_, _≤_, _<_}
 use native.Mathlib.Omega.{arith}
@@ -9,14 +9,16 @@ use lib.Seq.{take-append-seam}
 use Rattle.image.specs.Rows.{rowAt, rowsOf}
 use Rattle.frames.specs.Variables.{globalsOf}
 use Rattle.frames.specs.Procedures.{claimedBy, firstVariable}
+use Rattle.places.specs.Places.{frameSize}
 use Rattle.statements.proofs.Bodies.{start-in}
 use Rattle.checker.proofs.Accepted.{AcceptedTables}
 use Rattle.semantics.specs.Memory.{LINK, Cell, tagged}
 use Rattle.semantics.specs.Layout.{Program, kindsFrom}
+use Rattle.semantics.specs.Stepping.{State}
 use Rattle.semantics.specs.Running.{globalRoom, firstTop, freshCells, fresh}
 use Rattle.semantics.specs.Sound.{Want, Fits, Fits.fits-exactly, Matched, Matched.one-more, Frame, frameWants}
-use Rattle.semantics.specs.Sound.{wants, room, Inside, Called.is-first, Stack, Stack.no-frame, Stack.a-frame}
-use Rattle.semantics.specs.Sound.{Sound}
+use Rattle.semantics.specs.Sound.{wants, room, Inside, Called.is-first, Called.is-called, Stack, Stack.no-frame}
+use Rattle.semantics.specs.Sound.{Stack.a-frame, Sound}
 use Rattle.semantics.proofs.Holding.{matched-length}
 use Rattle.semantics.proofs.Objects.{global-kind, room-next, room-globals}
 use Rattle.semantics.proofs.Blanks.{blanks-fit, local-low, slotsFrom, kinds-scalar, slots-matched, slots-fit}
@@ -118,3 +120,17 @@ module _ (g : Program)
     stored = rw (fresh-length store least) least;
     lent = rw (fresh-length store least) most;
   }
+
+  -- a sound state's newest frame ends no lower than procedure 0's
+  stack-least : {f : Frame} {fs : List Frame} → Stack g (f ∷ fs) → firstTop g ≤ room g (f ∷ fs)
+  unfolding firstTop globalRoom
+  stack-least (a-frame st low (is-first e a b c) slots) =
+      let next = room-next g ok (a-frame st low (is-first e a b c) slots) in
+      let same = ap (frameSize (g .types) (g .fields) (g .variables) (g .procedures)) e in
+      omega (arith, next, same, room-globals g ok)
+  stack-least (a-frame st low (is-called r call named here behind caller back base) slots) =
+      let next = room-next g ok (a-frame st low (is-called r call named here behind caller back base) slots) in
+      omega (arith, next, stack-least st)
+
+  pub sound-least : {s : State Cell} → Sound g s → firstTop g ≤ s .at .top
+  sound-least sound = omega (arith, sound .ends, stack-least (sound .stack))

@@ -19,10 +19,8 @@ use Rattle.nodes.proofs.Accepted.{argument-is, argument-kind, argument-within}
 use Rattle.typing.proofs.Accepted.{argument-typed}
 use Rattle.frames.specs.Variables.{isParameter, kindWithin}
 use Rattle.frames.specs.Procedures.{firstVariable, claimedBy}
-use Rattle.places.specs.Places.{roomBy, widthOf, roomFrom, frameSize, placeIn}
+use Rattle.places.specs.Places.{roomBy, widthOf, roomFrom, frameSize}
 use Rattle.places.proofs.Rooms.{room-more}
-use Rattle.places.proofs.Counting.{first-next}
-use Rattle.places.proofs.Owning.{own-within}
 use Rattle.statements.specs.Statements.{procedureAt}
 use Rattle.statements.proofs.Accepted.{CallRow, call-is}
 use Rattle.statements.proofs.Bodies.{start-in}
@@ -44,7 +42,7 @@ use Rattle.semantics.specs.Demand3.{Unchanged, NextOk, NextOk.ok-goes, N
 use Rattle.semantics.proofs.Evaluating.{FoundOk, Designates.as-argument, find-ok, eval-ok, part-top}
 use Rattle.semantics.proofs.Evaluating.{scalar-values}
 use Rattle.semantics.proofs.Objects.{values-length, slot-width, object-front, slots-length, room-next}
-use Rattle.semantics.proofs.Objects.{place-own}
+use Rattle.semantics.proofs.Objects.{claimed-there, claimed-place, claimed-within}
 use Rattle.semantics.proofs.Blanks.{local-low, slotsFrom, slots-matched, slots-fit}
 use Rattle.semantics.proofs.Kinship.{extends-low, extends-scalar}
 use Rattle.semantics.proofs.Performing.{unchanged, ok-choose, ok-yes, on-place-ok, on-value-ok, part-cells}
@@ -254,28 +252,6 @@ module _ (g : Program)
     }
 
     module _ (j : ℕ) (claimed : j < claimedBy (rowAt (g .procedures) q)) where
-      variable-there : first + j < rowsOf (g .variables)
-      unfolding claimedBy
-      variable-there = let room = ok .procedures .row q exists .room in omega arith
-
-      variable-own : first + j < firstVariable (g .variables) (g .procedures) (q + 1)
-      variable-own =
-          let one : q + 1 ≡ suc q = omega arith in
-          rw one (omega (arith, first-next (g .variables) (g .procedures) q))
-
-      place-next : placeOf g (first + j) ≡ 3 + roomFrom (g .types) (g .fields) (g .variables) first j
-      unfolding placeIn
-      place-next =
-          let back : (first + j) - first ≡ j = omega arith in
-          place-own g ok q (first + j) exists (record { low = omega arith; high = variable-own }) ∙ rw back
-
-      place-within : placeOf g (first + j) + widthOf (g .types) (g .fields) (g .variables) (first + j)
-          ≤ frameSize (g .types) (g .fields) (g .variables) (g .procedures) q
-      place-within =
-          let at = place-own g ok q (first + j) exists (record { low = omega arith; high = variable-own }) in
-          rw at (own-within (g .types) (g .fields) (g .variables) (g .procedures) q (first + j)
-          (record { low = omega arith; high = variable-own }))
-
       passing-next : (cells : List Cell) → Passing j cells → (new : List Cell) (ws : List Want)
           → Slot g (sound .newest ∷ sound .others) (first + j) ws → Matched Fits new ws
           → Passing (j + 1) (overwrite cells (s .at .top + placeOf g (first + j)) new)
@@ -285,8 +261,8 @@ module _ (g : Program)
           let width : length new ≡ widthOf (g .types) (g .fields) (g .variables) (first + j) =
           matched-length matched ∙ slot-width g slot in
           let at : s .at .top + placeOf g (first + j) ≡ s .at .top + 3 + length args =
-          omega (arith, place-next, p .filled) in
-          let most = place-within in
+          omega (arith, claimed-place g ok q exists j claimed, p .filled) in
+          let most = claimed-within g ok q exists j claimed in
           let many = p .above .as-many in
           let room : s .at .top + 3 + length args + length new ≤ length cells = omega arith in
           let one : j + 1 ≡ suc j = omega arith in
@@ -495,7 +471,7 @@ module _ (g : Program)
       passed-ok zero j k a e from to cells p = let all : j ≡ count = omega arith in entered-ok cells (rw all at p)
       passed-ok (suc n) j k a e from to cells p =
           rw (from, to)
-          (argument-ok (rowAt (g .statements) (s .at .row) .b + j) (first + j) (variable-there j (omega arith))
+          (argument-ok (rowAt (g .statements) (s .at .row) .b + j) (first + j) (claimed-there g ok q exists j (omega arith))
           (ok .procedures .row q exists .parameters .each (first + j) (omega arith) (omega arith))
           (argument-there j (omega arith)) (argument-ruled j (omega arith)) cells (p .above) _
           λ new ws slot matched.

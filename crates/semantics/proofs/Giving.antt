@@ -1,5 +1,5 @@
 -- What a call gives back, by its refusal, the row of that, and how its run ended: what the code has to show.
-use mathlib.Core.Path.{_≡_, sym, _∙_, ap}
+use mathlib.Core.Path.{_≡_, refl, sym, _∙_, ap}
 use mathlib.Core.Bool.{true, false}
 use mathlib.Core.List.{List}
 use Prim.Native.Nat.{ℕ}
@@ -26,6 +26,11 @@ pub result-has : (q row : ℕ) (e : Ended Cell) (P : RunResult → Type 0) → (
     → P (refusedWith q row) → P (resultBy q row e)
 unfolding resultBy
 result-has q row e P ran refused = choose-has P _ (λ z. ran (eqb-true _ _ z)) (λ z. refused)
+
+-- the result has the number of the refusal, or 0
+pub result-refusal : (q row : ℕ) (e : Ended Cell) → resultBy q row e .refusal ≡ q
+unfolding resultBy numbersOf refusedWith
+result-refusal q row e = choose-has (λ (r : RunResult). r .refusal ≡ q) _ (λ z. sym (eqb-true _ _ z)) (λ z. refl)
 
 module _ {q row : ℕ} {e : Ended Cell} {store output : List ℤ} {r : RunResult} where
   -- a refusal

@@ -27,6 +27,7 @@ use Rattle.frames.proofs.Claiming.{globals-within}
 use Rattle.places.specs.Places.{widthBy, widthOf, roomBy, roomFrom, globalCells, frameSize, placeIn}
 use Rattle.places.proofs.Rooms.{width-var, width-other}
 use Rattle.places.proofs.Counting.{first-none, first-next, first-grows}
+use Rattle.places.proofs.Owning as Owning
 use Rattle.typing.proofs.Lower.{field-row, element-row}
 use Rattle.checker.proofs.Accepted.{AcceptedTables}
 use Rattle.semantics.specs.Memory.{ADDRESS, TYPE}
@@ -338,6 +339,33 @@ module _ (g : Program)
       let kind = own-kind q k less own .0 in
       choose-no _ _ _ (ne-eqb (rowAt (g .variables) k .kind) 0 (λ e. absurd (omega arith)))
       ∙ rw (owner-is q k own (rowsOf (g .procedures)) 0 (omega arith) (omega arith))
+
+  -- the j-th variable of a procedure: it is the procedure's own, it is there, it stands behind those before it, and ends
+  -- within the frame
+  module _ (q : ℕ) (exists : q < rowsOf (g .procedures)) (j : ℕ) (claimed : j < claimedBy (rowAt (g .procedures) q)) where
+    abbrev first : ℕ
+    first = firstVariable (g .variables) (g .procedures) q
+
+    pub claimed-own : Own g q (first + j)
+    claimed-own =
+        let one : q + 1 ≡ suc q = omega arith in
+        record { low = omega arith; high = rw one (omega (arith, first-next (g .variables) (g .procedures) q)) }
+
+    pub claimed-there : first + j < rowsOf (g .variables)
+    claimed-there = own-within claimed-own
+
+    pub claimed-place : placeOf g (first + j) ≡ 3 + roomFrom (g .types) (g .fields) (g .variables) first j
+    unfolding placeIn
+    claimed-place =
+        let back : (first + j) - first ≡ j = omega arith in
+        place-own q (first + j) exists claimed-own ∙ rw back
+
+    pub claimed-within : placeOf g (first + j) + widthOf (g .types) (g .fields) (g .variables) (first + j)
+        ≤ frameSize (g .types) (g .fields) (g .variables) (g .procedures) q
+    claimed-within =
+        rw (place-own q (first + j) exists claimed-own)
+        (Owning.own-within (g .types) (g .fields) (g .variables) (g .procedures) q (first + j)
+        (record { low = claimed-own .low; high = claimed-own .high }))
 
   pub place-global : (k : ℕ) → isGlobal (g .variables) k ≡ true
       → placeOf g k ≡ roomFrom (g .types) (g .fields) (g .variables) 0 k

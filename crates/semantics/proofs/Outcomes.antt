@@ -6,12 +6,12 @@ use mathlib.Core.List.{List}
 use mathlib.Core.Logic.{⊎-elim}
 use Prim.Native.Nat.{ℕ, zero, suc, _+_, _≤_, _<_}
 use native.Mathlib.Omega.{arith}
-use borrow.Author.Tests.{ltb-false, leb-true, le-leb, eqb-true, eq-eqb}
+use borrow.Author.Tests.{ltb-false, leb-true, lt-leb, le-leb, eqb-true, eq-eqb}
 use lib.Dec.{leb, eqb}
 use lib.IntN.{ℤ, pos}
 use lib.ListN.{length, getD}
 use Rattle.prelude.specs.Choice.{choose}
-use Rattle.prelude.proofs.Choice.{choose-yes, choose-cases, choose-has, clash}
+use Rattle.prelude.proofs.Choice.{choose-yes, choose-no, choose-cases, choose-has, clash}
 use Rattle.image.specs.Rows.{Bytes}
 use Rattle.values.specs.declared.Trap.{Trap}
 use Rattle.values.specs.Values.{trapNumber}
@@ -190,6 +190,14 @@ none-refusal image store accepted most least =
     let none : refusalOf (checkOf image) ≡ 0 = rw accepted in
     choose-yes _ _ _ (eq-eqb _ 0 none) ∙ choose-yes _ _ _ (le-leb _ 65536 most) ∙ choose-yes _ _ _ (le-leb _ _ least)
 
+-- an accepted image with too few cells
+pub refusal-13 : (image : List ℕ) (store : List ℤ) → checkOf image ≡ Accepted → length store ≤ 65536
+    → length store < firstTop (programOf image) → refusal image store ≡ 13
+unfolding refusal refusalOf
+refusal-13 image store accepted most few =
+    let none : refusalOf (checkOf image) ≡ 0 = rw accepted in
+    choose-yes _ _ _ (eq-eqb _ 0 none) ∙ choose-yes _ _ _ (le-leb _ 65536 most) ∙ choose-no _ _ _ (lt-leb _ _ few)
+
 -- ---- what follows from demand 3
 
 -- a run from s: its outcome is one of the paper's, so it is never stuck; a state with its steps used up is sound; there
@@ -344,6 +352,13 @@ module _ (image : List ℕ) (bytes : Bytes image) (accepted : checkOf image ≡ 
   ran-bare =
       rw (fresh-erased (programOf image) store output)
       (run-follows (programOf image) input steps 0 _ first never-stuck)
+
+  -- its mark lies within the store
+  pub ran-marked : ranOf image input store output steps .mark ≤ length store
+  unfolding fresh
+  ran-marked =
+      let cells = fresh-length (programOf image) (program-accepted image accepted) store least in
+      rw cells at (ran-ok .marked (rw cells least))
 
   -- a run leaves as many cells as it was lent
   pub ran-cells : length (ranOf image input store output steps .state .cells) ≡ length store
