@@ -12,8 +12,8 @@ use programs::{programs, INPUT};
 const CALL: u8 = 1;
 const RETURN: Row = Row { kind: 4, zero: 0, a: 0, b: 0, c: 0 };
 
-/// A global INTEGER g. Procedure 0's frame is at 1 and ends at 4, which is G + F0. Procedure 1 has two value parameters,
-/// 5 cells, procedure 2 none, 3 cells.
+/// A global INTEGER g. Procedure 0's frame is at 1 and ends at 4, which is G + F0. Procedure 1 has two value parameters
+/// and so 5 cells, procedure 2 none and 3 cells.
 ///
 ///     0: read into g                     4: RETURN
 ///     1: call 1 with 7 and 1 DIV g
