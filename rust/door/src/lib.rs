@@ -321,6 +321,8 @@ pub struct Report {
     pub read: usize,
     /// Outputs written: so many of the first output places. The others keep what they held.
     pub written: usize,
+    /// How many cells it needed: with so many it comes to the same.
+    pub mark: u32,
 }
 
 impl fmt::Display for Report {
@@ -346,9 +348,9 @@ impl Report {
             Outcome::Finished => (1, 0, 0),
             Outcome::Trapped(trap) => (2, trap.number(), if let Trap::Halt(number) = trap { number } else { 0 }),
         };
-        let Report { row, steps, base, top, .. } = *self;
+        let Report { row, steps, base, top, mark, .. } = *self;
         let [read, written] = [self.read, self.written].map(|count| count as u64);
-        Numbers { refusal: 0, fault: 0, outcome, trap, halt, steps, row, base, top, read, written }
+        Numbers { refusal: 0, fault: 0, outcome, trap, halt, steps, row, base, top, read, written, mark }
     }
 }
 
@@ -378,8 +380,8 @@ impl Numbers {
             _ => panic!("no run has outcome {} with trap {}", self.outcome, self.trap),
         };
         let [read, written] = [self.read, self.written].map(|count| count as usize);
-        let Numbers { row, steps, base, top, .. } = *self;
-        Ok(Report { outcome, row, steps, base, top, read, written })
+        let Numbers { row, steps, base, top, mark, .. } = *self;
+        Ok(Report { outcome, row, steps, base, top, read, written, mark })
     }
 }
 

@@ -2,10 +2,11 @@
 
 use crate::compare::{self, After};
 use crate::counts::{Counts, Group};
-use crate::damage::damage;
+use crate::damage::{damage, other_mark};
 use crate::foreign;
 use crate::frames::{Given, Sight};
 use crate::generate;
+use crate::marks::Call;
 use crate::mutate;
 use crate::random::Random;
 use crate::surroundings::{other_steps, Surroundings};
@@ -22,6 +23,8 @@ const ENDED: usize = 60;
 const REFUSED: usize = 300;
 /// How often a state gets damage.
 const DAMAGED: [(usize, usize); 3] = [(1, 1), (1, 2), (1, 3)];
+/// What the seed of `marks` differs by.
+const MARKS: u64 = 1 << 63;
 
 /// Enough for a few statements after the state was passed.
 fn few_steps(random: &mut Random) -> u32 {
@@ -34,6 +37,8 @@ pub struct Case {
     /// Made to be accepted, and not damaged.
     pub good: bool,
     random: Random,
+    /// For what is asked about marks, which changes nothing else of the case.
+    marks: Random,
 }
 
 impl Case {
@@ -43,13 +48,13 @@ impl Case {
         let tables = generate::image(&mut random);
         let good = number.is_multiple_of(2);
         let image = if good { image_of(&tables) } else { mutate::image(&mut random, tables) };
-        Case { image, good, random }
+        Case { image, good, random, marks: Random::new(seed ^ MARKS, number) }
     }
 
     /// Any image, with surroundings that depend on it alone.
     pub fn of(image: Vec<u8>) -> Case {
         let number = image.iter().fold(0, |sum: u64, byte| sum.wrapping_mul(31).wrapping_add(u64::from(*byte)));
-        Case { image, good: false, random: Random::new(0, number) }
+        Case { image, good: false, random: Random::new(0, number), marks: Random::new(MARKS, number) }
     }
 
     /// Compares check and runs; `Err` is the first difference, in words.
@@ -111,7 +116,7 @@ impl Case {
 
     /// One run; the program is there where the image is accepted.
     fn run(
-        &self,
+        &mut self,
         program: Option<&Program>,
         lent: &Surroundings,
         counts: &mut Counts,
@@ -123,6 +128,10 @@ impl Case {
             counts.trapped(program, &after);
         }
         watcher(lent, None, &after.numbers);
+        if let Some(program) = program.filter(|_| after.numbers.refusal == 0) {
+            let call = Call { image: &self.image, program, lent, from: None, after: &after };
+            call.compare(&mut self.marks, counts)?;
+        }
         Ok(after)
     }
 
@@ -140,14 +149,29 @@ impl Case {
         let steps = self.random.between(0, last) as u32;
         let cut = compare::proved(&self.image, &Surroundings { steps, ..lent.clone() }, None)?;
         self.continue_parts(sight, lent, &cut, whole, counts, watcher)?;
+        let After { numbers: from, store, output } = cut;
+        let steps = few_steps(&mut self.marks);
+        let lent = Surroundings { store, output, steps, watched: true, input: lent.input.clone() };
+        let given = Given { lent, from };
         for _ in 0..self.random.weighted(&DAMAGED) {
-            let After { numbers: from, store, output } = cut.clone();
-            let steps = few_steps(&mut self.random);
-            let lent = Surroundings { store, output, steps, watched: true, input: lent.input.clone() };
-            let mut given = Given { lent, from };
+            let mut given = given.clone();
+            given.lent.steps = few_steps(&mut self.random);
             damage(&mut self.random, sight, &mut given);
             self.compare_continued(sight, &given, Group::Damaged, counts, watcher)?;
         }
+        self.continue_marked(sight, given, counts, watcher)
+    }
+
+    /// A sound state with another mark.
+    fn continue_marked(
+        &mut self,
+        sight: &Sight,
+        mut given: Given,
+        counts: &mut Counts,
+        watcher: Watcher,
+    ) -> Result<(), String> {
+        other_mark(&mut self.marks, &mut given);
+        self.compare_continued(sight, &given, Group::Damaged, counts, watcher)?;
         Ok(())
     }
 
@@ -184,14 +208,15 @@ impl Case {
     /// States that no run left, and the same with damage.
     fn continue_foreign(&mut self, sight: &Sight, counts: &mut Counts, watcher: Watcher) -> Result<(), String> {
         let lent = Surroundings::few(&mut self.random);
-        let Some(given) = foreign::given(&mut self.random, sight, lent) else { return Ok(()) };
+        let Some(mut given) = foreign::given(&mut self.random, sight, lent) else { return Ok(()) };
+        given.from.mark = foreign::mark(&mut self.marks, &given);
         self.compare_continued(sight, &given, Group::Foreign, counts, watcher)?;
         for _ in 0..self.random.weighted(&DAMAGED) {
             let mut given = given.clone();
             damage(&mut self.random, sight, &mut given);
             self.compare_continued(sight, &given, Group::Damaged, counts, watcher)?;
         }
-        Ok(())
+        self.continue_marked(sight, given, counts, watcher)
     }
 
     fn compare_continued(
@@ -207,9 +232,15 @@ impl Case {
         counts.continued(sight, given, group, &after.numbers, fault.as_ref());
         watcher(lent, Some(from), &after.numbers);
         match fault {
-            Some(fault) if group != Group::Damaged => Err(format!("a sound state is refused: {}", fault.told())),
-            _ => Ok(after),
+            Some(fault) if group != Group::Damaged => {
+                return Err(format!("a sound state is refused: {}", fault.told()))
+            }
+            Some(_) => return Ok(after),
+            None => {}
         }
+        let call = Call { image: &self.image, program: sight.program, lent, from: Some(from), after: &after };
+        call.compare(&mut self.marks, counts)?;
+        Ok(after)
     }
 
     /// An image that the check refuses, with any result.

@@ -105,14 +105,16 @@ fn same(
 
 /// The model's type is the same file's, taken a second time.
 pub fn model_numbers(numbers: &door::Numbers) -> model::Numbers {
-    let door::Numbers { refusal, fault, outcome, trap, halt, steps, row, base, top, read, written } = *numbers;
-    model::Numbers { refusal, fault, outcome, trap, halt, steps, row, base, top, read, written }
+    let door::Numbers { refusal, fault, outcome, trap, halt, steps, row, base, top, read, written, mark } = *numbers;
+    model::Numbers { refusal, fault, outcome, trap, halt, steps, row, base, top, read, written, mark }
 }
 
 /// The proved run or continuation alone.
 pub fn proved(image: &[u8], lent: &Surroundings, from: Option<&door::Numbers>) -> Result<After, String> {
-    let (numbers, store, output) = run_proved(image, lent, from)?;
-    let (store, output) = (within(&store), within(&output));
+    let (numbers, proved_store, proved_output) = run_proved(image, lent, from)?;
+    let (store, output) = (within(&proved_store), within(&proved_output));
+    same_list("cell", &beside(&store, CELL_BESIDE), &proved_store, BESIDE)?;
+    same_list("output place", &beside(&output, PLACE_BESIDE), &proved_output, BESIDE)?;
     Ok(After { numbers, store, output })
 }
 

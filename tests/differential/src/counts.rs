@@ -29,9 +29,15 @@ pub enum Group {
     Frames,
     Names,
     State,
+    Mark,
+    ContinuedMark,
+    EarlierMark,
+    CutStore,
+    Shorter,
+    ContinuedShorter,
 }
 
-const GROUPS: [(Group, &str); 20] = [
+const GROUPS: [(Group, &str); 26] = [
     (Group::Refusal, "refusals of runs"),
     (Group::Outcome, "outcomes of runs"),
     (Group::Steps, "unrefused runs by their steps"),
@@ -52,6 +58,12 @@ const GROUPS: [(Group, &str); 20] = [
     (Group::Frames, "frames of continued states"),
     (Group::Names, "what VAR parameters name in continued states"),
     (Group::State, "refusals by question 14, by the model's reason"),
+    (Group::Mark, "marks of runs"),
+    (Group::ContinuedMark, "marks of continuations"),
+    (Group::EarlierMark, "earlier marks that question 14 passed"),
+    (Group::CutStore, "stores that were longer than the mark, cut to it"),
+    (Group::Shorter, "runs with a store shorter than their mark"),
+    (Group::ContinuedShorter, "continuations with a store shorter than their mark"),
 ];
 
 const NODES: [&str; 9] =
@@ -101,6 +113,9 @@ const NAMES: [&str; 6] = [
     "one without cells at the end of the globals",
 ];
 const FORMS: [&str; 3] = ["scalar", "array", "record"];
+/// How a mark came about, each counted where it applies.
+const BY_TRAPPED_CALL: &str = "raised at last by a call that trapped in an argument";
+const BY_FAILED_CALL: &str = "with a call that failed the store check";
 
 /// What can be counted in a group; where nothing can, no name.
 fn names(group: Group) -> Vec<Option<String>> {
@@ -127,6 +142,12 @@ fn names(group: Group) -> Vec<Option<String>> {
         Group::Frames => all(&["1", "2", "3", "4 and more"]),
         Group::Names => all(&NAMES),
         Group::State => rules::STATE.iter().map(|rule| Some(rule.words.to_string())).collect(),
+        Group::Mark => all(&["G + F0", "above that", "above top", BY_TRAPPED_CALL, BY_FAILED_CALL]),
+        Group::ContinuedMark => all(&["kept", "raised", "above top", BY_TRAPPED_CALL, BY_FAILED_CALL]),
+        Group::EarlierMark => all(&["top", "above top", "the store's length", "below that"]),
+        Group::CutStore => all(&["of runs", "of continuations"]),
+        Group::Shorter => vec![Some("refused by 13".into()), None, Some("trap 7".into())],
+        Group::ContinuedShorter => all(&["refused by 13", "refused by 14", "trap 7"]),
     }
 }
 
@@ -156,6 +177,11 @@ impl Counts {
 
     pub fn add(&mut self, group: Group, number: usize) {
         self.groups[group as usize][number] += 1;
+    }
+
+    /// Those of a group that apply.
+    pub fn add_each(&mut self, group: Group, is: &[bool]) {
+        (0..is.len()).filter(|i| is[*i]).for_each(|i| self.add(group, i));
     }
 
     pub fn merge(&mut self, other: &Counts) {
@@ -228,6 +254,9 @@ impl Counts {
 
     /// What a state that question 14 passed has.
     fn survey_state(&mut self, sight: &Sight, given: &Given) {
+        let (mark, top, cells) = (given.from.mark, given.from.top, given.lent.store.len());
+        let full = mark as usize == cells;
+        self.add_each(Group::EarlierMark, &[mark == top, mark != top, full, !full]);
         let frames = sight.frames(given);
         self.add(Group::Frames, frames.len().min(4) - 1);
         let globals = sight.program.globals();
@@ -244,7 +273,7 @@ impl Counts {
                 empty && at_end,
                 empty && address == globals,
             ];
-            (0..is.len()).filter(|i| is[*i]).for_each(|i| self.add(Group::Names, i));
+            self.add_each(Group::Names, &is);
         }
     }
 

@@ -13,6 +13,29 @@ pub fn damage(random: &mut Random, sight: &Sight, given: &mut Given) {
     }
 }
 
+/// Gives a sound state another mark, or its mark another store: about top and the store's length, or far off.
+pub fn other_mark(random: &mut Random, given: &mut Given) {
+    let Given { lent, from } = given;
+    let (top, cells) = (from.top as usize, lent.store.len());
+    let mark = match random.below(12) {
+        0 => top - 1,
+        1 => random.below(top),
+        2 => top,
+        3 => random.between(top, cells),
+        4 => cells,
+        5 => cells + 1,
+        6 => cells + random.between(2, 40),
+        7 => from.mark as usize + 65_536,
+        8 => *random.pick(&[0, 65_536, 1 << 31, u32::MAX as usize]),
+        shorter => {
+            let cut = (from.mark as usize).saturating_sub(shorter - 9);
+            lent.store.truncate(cut.max(top));
+            return;
+        }
+    };
+    from.mark = mark as u32;
+}
+
 struct Damage<'a, 'r> {
     random: &'r mut Random,
     sight: &'a Sight<'a>,

@@ -35,8 +35,15 @@ pub fn given(random: &mut Random, sight: &Sight, mut lent: Surroundings) -> Opti
         _ => random.next() as u32 >> 1,
     };
     let [row, base, top] = [row, base, top].map(|number| number as u32);
-    let from = door::Numbers { row, base, top, read, written, steps, ..door::Numbers::default() };
+    let from = door::Numbers { row, base, top, read, written, steps, mark: top, ..door::Numbers::default() };
     Some(Given { lent, from })
+}
+
+/// A mark that question 14 passes: top, the store's length or one between.
+pub fn mark(random: &mut Random, given: &Given) -> u32 {
+    let (top, cells) = (given.from.top as usize, given.lent.store.len());
+    let between = random.between(top, cells);
+    *random.pick(&[top, cells, between]) as u32
 }
 
 /// Any row of the body; often one that assigns a record, since that asks for dynamic types.

@@ -16,6 +16,7 @@ mod foreign;
 mod frames;
 mod generate;
 mod image;
+mod marks;
 mod mutate;
 mod random;
 mod surroundings;
@@ -185,9 +186,9 @@ fn show_case(seed: u64, number: u64) -> bool {
     answer.is_ok()
 }
 
-/// The nine numbers in document 01's order, then base and top.
+/// The nine numbers in document 01's order, then base, top and mark.
 fn told(numbers: &door::Numbers) -> String {
-    format!("{numbers}, {} {}", numbers.base, numbers.top)
+    format!("{numbers}, {} {} {}", numbers.base, numbers.top, numbers.mark)
 }
 
 /// Prints a line. Who closes standard output has read enough: the exit status still says what was found.

@@ -40,8 +40,9 @@ fn operand(program: &Program, n: usize) -> usize {
 /// "After any trap nothing below top .. has changed, and row, base and top stay."
 fn state(program: &Program, after: &After) -> State {
     let cells = after.store.iter().map(|&number| Cell { kind: None, number }).collect();
-    let [row, base, top] = [after.numbers.row, after.numbers.base, after.numbers.top].map(|number| number as usize);
-    let mut state = State { cells, row, base, top, read: 0, written: 0, steps: 0 };
+    let door::Numbers { row, base, top, mark, .. } = after.numbers;
+    let [row, base, top, mark] = [row, base, top, mark].map(|number| number as usize);
+    let mut state = State { cells, row, base, top, read: 0, written: 0, steps: 0, mark };
     Watch::new(program).take_kinds(&mut state);
     state
 }

@@ -1,7 +1,7 @@
 //! Document 01 a second time, written from the paper alone: the check, the tagged machine, and what a sound state is;
-//! and of document 02 the first two requests, to continue a run and IN's trap. It follows the papers' order and words,
-//! and prefers the direct way to the fast one. It knows nothing of the proved crates; where a paper is open it takes the
-//! readings of `docs/DECISIONS.md`.
+//! and of document 02 the first three requests, to continue a run, IN's trap and the mark. It follows the papers' order
+//! and words, and prefers the direct way to the fast one. It knows nothing of the proved crates; where a paper is open
+//! it takes the readings of `docs/DECISIONS.md`.
 //!
 //! | module | document 01 |
 //! |---|---|
@@ -11,10 +11,10 @@
 //! | `forms` | Variables, procedures, nodes, statements; questions 5 to 9 |
 //! | `typing` | Type rules; questions 10 and 11 |
 //! | `operators` | Values, operators, traps; document 02, request 2: IN's trap |
-//! | `machine` | Tagged machine: store, evaluation, statements |
+//! | `machine` | Tagged machine: store, evaluation, statements; document 02, request 3: the mark |
 //! | `numbers` | What a run returns, as `rust/door` has it |
 //! | `sound` | Sound, and the kinds that places give |
-//! | `continuing` | Document 02, request 1: question 14 |
+//! | `continuing` | Document 02, requests 1 and 3: question 14 |
 //! | `rules` | Each thing that a question asks, as a sentence |
 //! | `words` | The words of a fault's detail |
 
@@ -188,16 +188,16 @@ fn take_steps(mut machine: Machine, watch: Option<&Watch>, lent: u32, store: &mu
     Ok(numbers(&machine.state, &last))
 }
 
-/// What an unrefused run or continuation gives back: "The result gains base and top."
+/// What an unrefused run or continuation gives back: "The result gains base and top." "The result gains a mark".
 fn numbers(state: &State, last: &Step) -> Numbers {
     let (outcome, trap, halt) = match *last {
         Step::Finished => (1, 0, 0),
         Step::Trapped { trap, halt } => (2, trap, halt),
         _ => (0, 0, 0),
     };
-    let [row, base, top] = [state.row, state.base, state.top].map(|number| number as u32);
+    let [row, base, top, mark] = [state.row, state.base, state.top, state.mark].map(|number| number as u32);
     let (steps, read, written) = (state.steps as u32, state.read as u64, state.written as u64);
-    Numbers { refusal: 0, fault: 0, outcome, trap, halt, steps, row, base, top, read, written }
+    Numbers { refusal: 0, fault: 0, outcome, trap, halt, steps, row, base, top, read, written, mark }
 }
 
 /// One demand of a question: where it does not hold, `row` is at fault.

@@ -54,7 +54,8 @@ fn row_of(table: &[Row], at: usize) -> Answer<Row> {
     }
 }
 
-/// "State: cells below top, row, base, top, counts read, written, steps." `cells` are all of the lent store.
+/// "State: cells below top, row, base, top, counts read, written, steps." `cells` are all of the lent store. Beside it
+/// document 02's mark: "the largest of G + F0 and the tops asked for by calls that passed the store check".
 #[derive(Clone, Debug, PartialEq, Eq)]
 pub struct State {
     pub cells: Vec<Cell>,
@@ -64,6 +65,7 @@ pub struct State {
     pub read: usize,
     pub written: usize,
     pub steps: u64,
+    pub mark: usize,
 }
 
 /// What a step comes to.
@@ -107,7 +109,7 @@ impl<'a> Machine<'a> {
         let cells = lent(program, store)?;
         let base = program.globals();
         let top = base + program.frame(0);
-        let state = State { cells, row: 0, base, top, read: 0, written: 0, steps: 0 };
+        let state = State { cells, row: 0, base, top, read: 0, written: 0, steps: 0, mark: top };
         let mut machine = Machine::from(program, input, output, state);
         machine.clear();
         Ok(machine)
@@ -169,13 +171,16 @@ impl<'a> Machine<'a> {
     }
 
     /// "Call: store check first; the new frame's cells begin at the old top; each argument is written once found, then
-    /// locals zero, links, and the state's row (the procedure's first), base and top."
+    /// locals zero, links, and the state's row (the procedure's first), base and top." Past the store check the call
+    /// counts for the mark, also where an argument then traps.
     fn call(&mut self, p: usize, arguments: usize) -> Answer<Step> {
         let called = row_of(&self.program.procedures, p)?;
         let State { row, base, top, .. } = self.state;
-        if top + self.program.frame(p) > self.state.cells.len() {
+        let asked = top + self.program.frame(p);
+        if asked > self.state.cells.len() {
             return trapped(trap::FRAME);
         }
+        self.state.mark = self.state.mark.max(asked);
         for (i, v) in self.program.parameters(p).enumerate() {
             self.pass(arguments + i, v)?;
         }
@@ -184,7 +189,7 @@ impl<'a> Machine<'a> {
         }
         self.put_links(top, [self.program.procedure_at(row), row + 1, base]);
         self.state.base = top;
-        self.state.top = top + self.program.frame(p);
+        self.state.top = asked;
         self.go_to(called.a())
     }
 

@@ -180,6 +180,9 @@ rules! {
     OBJECT_NO_BASE 14 "What begins at a VAR parameter's address was declared with the named type, not with an extension."
     OBJECT_NOT_OWN 14 "What begins at a VAR parameter's address is not in the parameter's own frame."
     OBJECT_NOT_YOUNGER 14 "What begins at a VAR parameter's address is not in a younger frame."
+
+    MARK_BELOW 14 "The mark is not below top."
+    MARK_ABOVE 14 "The mark is not above the store's length."
 }
 
 /// What Sound asks of a cell. Question 14 takes each cell as the kind that its place gives.

@@ -2,11 +2,13 @@
 //! of every run: in parts as at once, and no state that a run leaves is refused.
 
 mod common;
+#[path = "common/programs.rs"]
+mod programs;
 
 use common::{draft, image, row};
 use model::rules::{self, Rule};
 use model::{check, continue_program, continue_run, run, sound, Machine, Numbers, Program, Row, State, Step, Watch};
-use std::path::Path;
+use programs::INPUT;
 
 const READ: u8 = 5;
 const WRITE: u8 = 6;
@@ -485,6 +487,8 @@ const REASONS: &[(&Rule, Damage)] = &[
     (&rules::OBJECT_NO_BASE, |g| g.store[C] = GLOBAL_4 as i64),
     (&rules::OBJECT_NOT_OWN, |g| g.store[C] = D as i64),
     (&rules::OBJECT_NOT_YOUNGER, |g| g.store[A..A + 2].copy_from_slice(&[D as i64, 3])),
+    (&rules::MARK_BELOW, |g| g.from.mark = 18),
+    (&rules::MARK_ABOVE, |g| g.from.mark = 41),
 ];
 
 #[test]
@@ -503,29 +507,16 @@ fn each_reason_is_reported() {
 
 /// The numbers of a state whose steps are used up.
 fn numbers(state: &State) -> Numbers {
-    let [row, base, top, steps] = [state.row, state.base, state.top, state.steps as usize].map(|number| number as u32);
-    let [read, written] = [state.read, state.written].map(|count| count as u64);
-    Numbers { row, base, top, steps, read, written, ..Numbers::default() }
+    let [row, base, top, mark] = [state.row, state.base, state.top, state.mark].map(|number| number as u32);
+    let (steps, read, written) = (state.steps as u32, state.read as u64, state.written as u64);
+    Numbers { row, base, top, steps, read, written, mark, ..Numbers::default() }
 }
 
-/// Images of `vectors/` that the check accepts.
+/// Those of `vectors/`, and the one above.
 fn programs() -> Vec<(String, Program)> {
-    let vectors = Path::new(env!("CARGO_MANIFEST_DIR")).join("../../vectors");
-    let mut programs = vec![(String::from("the program above"), check(&bytes()).unwrap())];
-    for folder in ["special", "doorrun", "in", "runs", "report", "input"] {
-        for entry in std::fs::read_dir(vectors.join(folder)).unwrap() {
-            let path = entry.unwrap().path();
-            let name = path.display().to_string();
-            if path.extension().is_some_and(|extension| extension == "img") {
-                programs.extend(check(&std::fs::read(path).unwrap()).ok().map(|program| (name, program)));
-            }
-        }
-    }
-    assert!(programs.len() > 500);
-    programs
+    let above = (String::from("the program above"), check(&bytes()).unwrap());
+    [vec![above], programs::programs()].concat()
 }
-
-const INPUT: [i32; 40] = [3; 40];
 
 /// "What was certain from a fresh start": each state that a run leaves is sound, its cells have the kinds that their
 /// places give, and 14 passes it.

@@ -34,20 +34,24 @@ fn bytes(hex: &str) -> Vec<u8> {
     (0..hex.len() / 2).map(|i| u8::from_str_radix(&hex[2 * i..2 * i + 2], 16).unwrap()).collect()
 }
 
-/// The eleven numbers in the order of the file.
-fn eleven(numbers: &Numbers) -> Vec<i64> {
-    let Numbers { refusal, fault, outcome, trap, halt, steps, row, base, top, read, written } = *numbers;
+/// The twelve numbers in the order of the files.
+fn twelve(numbers: &Numbers) -> Vec<i64> {
+    let Numbers { refusal, fault, outcome, trap, halt, steps, row, base, top, read, written, mark } = *numbers;
     let first = [refusal, fault, outcome, trap].map(i64::from);
-    let counts = [row.into(), steps.into(), read as i64, written as i64, base.into(), top.into()];
-    [&first[..], &[halt.into()], &counts].concat()
+    let rest = [row.into(), steps.into(), read as i64, written as i64, base.into(), top.into(), mark.into()];
+    [&first[..], &[halt.into()], &rest].concat()
 }
 
+/// Where the list has no mark, it is top: then question 14 answers as it does without a mark.
 fn numbers_of(list: &[i64]) -> Numbers {
-    let [refusal, fault, outcome, trap, halt, row, steps, read, written, base, top] = *list else { panic!("{list:?}") };
+    let [refusal, fault, outcome, trap, halt, row, steps, read, written, base, top, ..] = *list else {
+        panic!("{list:?}")
+    };
+    let mark = list.get(11).copied().unwrap_or(top);
     let [refusal, fault, outcome, trap] = [refusal, fault, outcome, trap].map(|number| number as u32);
-    let [row, steps, base, top] = [row, steps, base, top].map(|number| number as u32);
+    let [row, steps, base, top, mark] = [row, steps, base, top, mark].map(|number| number as u32);
     let (halt, read, written) = (halt as i32, read as u64, written as u64);
-    Numbers { refusal, fault, outcome, trap, halt, steps, row, base, top, read, written }
+    Numbers { refusal, fault, outcome, trap, halt, steps, row, base, top, read, written, mark }
 }
 
 /// One case: its lines, in order. Gives the number of its calls.
@@ -85,15 +89,18 @@ fn call(image: &[u8], which: &str, lent: &mut Lent) -> Answer {
         "continue" => model::continue_run(image, &input, &mut store, &mut output, steps, &from),
         _ => panic!("{which}"),
     };
-    Answer { result: eleven(&numbers.unwrap()), store, output }
+    Answer { result: twelve(&numbers.unwrap()), store, output }
 }
 
-/// Where a line is missing, store or output is as before.
+/// Where a line is missing, store or output is as before. Where a result has no mark, it is not compared.
 fn expect(name: &str, lent: &Lent, answer: &Answer, lines: &[&str]) {
     let (mut store, mut output) = (lent.store.clone(), lent.output.clone());
     for line in lines {
         match line.split_once(' ').unwrap().1.split_once(' ').unwrap_or((&line[2..], "")) {
-            ("result", rest) => assert_eq!(answer.result, list::<i64>(rest), "{name}"),
+            ("result", rest) => {
+                let result: Vec<i64> = list(rest);
+                assert_eq!(answer.result[..result.len()], result, "{name}");
+            }
             ("store", rest) => store = list(rest),
             ("output", rest) => output = list(rest),
             _ => panic!("{name}: {line}"),
@@ -104,6 +111,17 @@ fn expect(name: &str, lent: &Lent, answer: &Answer, lines: &[&str]) {
     assert_eq!(answer.output, output, "{name}");
 }
 
+/// A result has eleven numbers below level 3, and from there on twelve, with the mark.
+fn expect_lengths(level: &str, lines: &[&str]) {
+    let length = match level {
+        "2" => 11,
+        "3" => 12,
+        _ => panic!("level {level}"),
+    };
+    let results = |line: &&str| line.strip_prefix("from").or(line.strip_prefix("= result")).map(list::<i64>);
+    assert!(lines.iter().filter_map(results).all(|result| result.len() == length), "level {level}");
+}
+
 /// Every case of a file. Gives the number of calls.
 fn cases(file: &Path) -> usize {
     let text = std::fs::read_to_string(file).unwrap();
@@ -112,7 +130,7 @@ fn cases(file: &Path) -> usize {
     let mut calls = 0;
     for (i, line) in lines.iter().enumerate() {
         match line.split_once(' ').unwrap_or((line, "")) {
-            ("level", level) => assert_eq!(level, "2"),
+            ("level", level) => expect_lengths(level, &lines),
             ("image", hex) => image = bytes(hex),
             ("case", name) => {
                 let outside = |line: &&&str| !line.starts_with("case ") && !line.starts_with("image");
@@ -125,10 +143,18 @@ fn cases(file: &Path) -> usize {
     calls
 }
 
+fn stored(name: &str) -> usize {
+    cases(&Path::new(env!("CARGO_MANIFEST_DIR")).join("../../vectors/requests").join(name))
+}
+
 #[test]
 fn cr1() {
-    let file = Path::new(env!("CARGO_MANIFEST_DIR")).join("../../vectors/requests/cr1.txt");
-    assert_eq!(cases(&file), 875);
+    assert_eq!(stored("cr1.txt"), 875);
+}
+
+#[test]
+fn cr3() {
+    assert_eq!(stored("cr3.txt"), 406);
 }
 
 /// The file that REQUESTS names, as one that `tests/fuzz/run --cases` writes; its answers are the engine's.

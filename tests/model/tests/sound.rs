@@ -149,7 +149,7 @@ fn begins(program: &Program, t: usize, place: usize, address: usize, named: usiz
 fn passed(program: &Program, state: &State) -> bool {
     let mut store: Vec<i64> = state.cells.iter().map(|cell| cell.number).collect();
     let [row, base, top] = [state.row, state.base, state.top].map(|number| number as u32);
-    let from = Numbers { row, base, top, ..Numbers::default() };
+    let from = Numbers { row, base, top, mark: top, ..Numbers::default() };
     continue_program(program, &[], &mut store, &mut [], 0, &from, false).unwrap().is_ok()
 }
 

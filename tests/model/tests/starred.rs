@@ -304,7 +304,7 @@ fn case_10_smallest_image() {
     let digits: Vec<u8> = hexadecimal.bytes().filter(|byte| *byte != b' ').collect();
     let image: Vec<u8> =
         digits.chunks(2).map(|pair| u8::from_str_radix(std::str::from_utf8(pair).unwrap(), 16).unwrap()).collect();
-    let finished = Numbers { outcome: 1, steps: 1, top: 3, ..Numbers::default() };
+    let finished = Numbers { outcome: 1, steps: 1, top: 3, mark: 3, ..Numbers::default() };
     assert_eq!(run(&image, &[], &mut [0; 8192], &mut [0; 4096], 100_000), Ok(finished));
     let refused = Numbers { refusal: 13, ..Numbers::default() };
     let mut store = [5, 6];
