@@ -69,12 +69,15 @@ int main(int count, char **words) {
     differences += !is_same(&whole, &part);
     differences += go_on(&part, 1) != DOOR_REFUSED_STATE;
 
-    /* a link that leads nowhere; a frame that ends elsewhere: no state of this program */
+    /* a link that leads nowhere; a frame that ends elsewhere; a mark beyond the store: not what a slice left */
     begin(&part, 30);
     part.store[part.result.base + 2] = CELLS;
     differences += go_on(&part, 1) != DOOR_REFUSED_STATE;
     begin(&part, 30);
     part.result.top++;
+    differences += go_on(&part, 1) != DOOR_REFUSED_STATE;
+    begin(&part, 30);
+    part.result.mark = CELLS + 1;
     differences += go_on(&part, 1) != DOOR_REFUSED_STATE;
     printf("%d differences\n", differences);
     return differences ? 1 : 0;

@@ -73,6 +73,7 @@ static struct {
     uint32_t trapped;
     uint32_t refused;
     uint32_t begun_afresh;
+    uint32_t cells_needed; /* the most of a run that finished: for whoever chooses a board */
 } counts;
 
 static const char *refusal_text(uint32_t refusal) {
@@ -198,9 +199,14 @@ static void on_finished(const struct door_result *result) {
         counts.denied++;
         show("shut: the program says no");
     }
+    if (result->mark > counts.cells_needed) {
+        counts.cells_needed = result->mark;
+    }
     show(" (");
     show_number(result->steps);
-    show(" steps)\n");
+    show(" steps, ");
+    show_number(result->mark);
+    show(" cells)\n");
 }
 
 static void on_steps_used_up(const struct door_result *result) {
@@ -328,6 +334,7 @@ static void show_counts(void) {
     show_count(", trapped ", counts.trapped);
     show_count(", refused ", counts.refused);
     show_count(", begun afresh ", counts.begun_afresh);
+    show_count(", cells needed ", counts.cells_needed);
     show("\n");
 }
 

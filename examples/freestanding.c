@@ -25,7 +25,7 @@ static int answers(void) {
     const struct door_result result =
         door_continue(smallest, sizeof smallest, input, 0, store, CELLS, output, 0, 100, fresh);
     return door_check(smallest, sizeof smallest) == DOOR_ACCEPTED && result.refusal == DOOR_ACCEPTED &&
-           result.outcome == DOOR_FINISHED && result.steps == 1;
+           result.outcome == DOOR_FINISHED && result.steps == 1 && result.mark == CELLS;
 }
 
 /* Called by the start below, with the stack aligned as the calling convention asks. */

@@ -7,7 +7,7 @@
  *
  *     target/measure vectors/input/members-1.img 1234 19800
  *
- * Cells: those that the program begins with (G + F0), and the most that this run reached. Stack: by painting it
+ * Cells: those that the program begins with (G + F0), and those that this run needed, its mark. Stack: by painting it
  * (tests/bench/painted.h). Time: of the processor, the best of several rounds; that of a step is the mean of this
  * run's, without the check. Another input may need more of each. */
 #define _GNU_SOURCE
@@ -21,9 +21,6 @@
 #define ROUNDS 15
 #define ROUND_SECONDS 0.02
 
-/* No run writes this number: every value, address, type and link is smaller. */
-#define UNTOUCHED INT64_MIN
-
 static int64_t store[DOOR_STORE_MAX];
 static int32_t output[PLACES];
 
@@ -35,33 +32,9 @@ struct program {
     uint32_t steps;
 };
 
-static struct door_result run(const struct program *program, size_t cells, uint32_t steps) {
-    return door_run(program->image, program->length, program->input, program->inputs, store, cells, output, PLACES,
-                    steps);
-}
-
-/* The fewest cells that a run is not refused with. */
-static size_t first_cells(const struct program *program) {
-    size_t low = 0, high = DOOR_STORE_MAX;
-    while (low < high) {
-        const size_t middle = (low + high) / 2;
-        if (run(program, middle, 0).refusal == DOOR_REFUSED_STORE_BELOW)
-            low = middle + 1;
-        else
-            high = middle;
-    }
-    return low;
-}
-
-/* Runs it, and counts the cells up to the last that the run wrote. */
-static size_t reached_cells(const struct program *program, struct door_result *result) {
-    size_t reached = DOOR_STORE_MAX;
-    for (size_t i = 0; i < DOOR_STORE_MAX; i++)
-        store[i] = UNTOUCHED;
-    *result = run(program, DOOR_STORE_MAX, program->steps);
-    while (reached > 0 && store[reached - 1] == UNTOUCHED)
-        reached--;
-    return reached;
+static struct door_result run(const struct program *program) {
+    return door_run(program->image, program->length, program->input, program->inputs, store, DOOR_STORE_MAX, output,
+                    PLACES, program->steps);
 }
 
 /* ---- stack */
@@ -75,7 +48,7 @@ static uintptr_t check_call(void *given) {
 
 static uintptr_t run_call(void *given) {
     const struct program *program = given;
-    volatile uint32_t outcome = run(program, DOOR_STORE_MAX, program->steps).outcome;
+    volatile uint32_t outcome = run(program).outcome;
     (void)outcome;
     return (uintptr_t)__builtin_frame_address(0);
 }
@@ -116,8 +89,6 @@ int main(int count, char **words) {
     struct program fresh;
     struct door_result result;
     struct painted stack = painted_stack((size_t)4 << 20);
-    size_t reached;
-    uint32_t answer;
     double whole, start;
     int at = 1;
     if (count > 2 && strcmp(words[1], "-s") == 0) {
@@ -132,20 +103,19 @@ int main(int count, char **words) {
     for (int i = at + 1; i < count; i++)
         program.input[program.inputs++] = (int32_t)strtol(words[i], NULL, 10);
 
-    answer = door_check(program.image, program.length);
+    result = run(&program);
     printf("image   %zu bytes\n", program.length);
     printf("check   %.2f us, %zu bytes of stack\n", best_seconds(check_call, &program) * 1e6,
            painted_bytes(&stack, check_call, &program));
-    if (answer != DOOR_ACCEPTED) {
-        printf("refused %u, row %u\n", (unsigned)door_refusal(answer), (unsigned)door_row(answer));
+    if (result.refusal != DOOR_ACCEPTED) {
+        printf("refused %u, row %u\n", (unsigned)result.refusal, (unsigned)result.fault);
         return 1;
     }
-    reached = reached_cells(&program, &result);
-    printf("cells   %zu to begin with, %zu reached\n", first_cells(&program), reached);
-    printf("run     outcome %u, trap %u, %u steps\n", (unsigned)result.outcome, (unsigned)result.trap,
-           (unsigned)result.steps);
     fresh = program;
     fresh.steps = 0;
+    printf("cells   %u to begin with, %u needed\n", (unsigned)run(&fresh).mark, (unsigned)result.mark);
+    printf("run     outcome %u, trap %u, %u steps\n", (unsigned)result.outcome, (unsigned)result.trap,
+           (unsigned)result.steps);
     whole = best_seconds(run_call, &program);
     start = best_seconds(run_call, &fresh);
     printf("time    %.2f us, of which %.2f before the first step; %.1f ns a step\n", whole * 1e6, start * 1e6,

@@ -15,7 +15,8 @@
 extern "C" {
 #endif
 
-/* The interface that this header speaks of: 1 is the base's, and each change of a signature or a struct adds one. */
+/* The interface that this header speaks of: 1 is the base's, and each change of a signature or a struct adds one. A
+ * result that was kept under another number has other fields, and is none to go on from. */
 #define DOOR_INTERFACE 3
 
 /* The longest image that is accepted, in bytes; the largest store that is taken, in cells. */
@@ -85,9 +86,9 @@ uint32_t door_check(const uint8_t *image, size_t length);
 static inline uint32_t door_refusal(uint32_t answer) { return answer / 65536u; }
 static inline uint32_t door_row(uint32_t answer) { return answer % 65536u; }
 
-/* The nine numbers of a run, and where its newest frame begins and ends. Of a run that was continued, `steps`, `read`
- * and `written` are those of all its parts together. Numbers, not bytes, are to be compared: four bytes between `top`
- * and `read` hold nothing. */
+/* The nine numbers of a run, where its newest frame begins and ends, and how many cells it needed. Of a run that was
+ * continued, `steps`, `read`, `written` and `mark` are those of all its parts together. It has 64 bytes. Numbers, not
+ * bytes, are to be compared: four bytes between `top` and `read`, and four behind `mark`, hold nothing. */
 struct door_result {
     uint32_t refusal; /* DOOR_ACCEPTED, or why nothing was run: DOOR_REFUSED_.. */
     uint32_t fault;   /* the row of refusal */
@@ -100,7 +101,7 @@ struct door_result {
     uint32_t top;     /* the cell where it ends, the first that is not its own; 0 in a refusal */
     uint64_t read;    /* inputs read */
     uint64_t written; /* outputs written */
-    uint32_t mark;    /* how many cells the run needed; 0 in a refusal */
+    uint32_t mark;    /* the cells that the run needed: so many are enough, one less is not; 0 in a refusal */
 };
 
 /* Checks an image, and runs it from the fresh state, with at most `steps` steps.
@@ -113,6 +114,12 @@ struct door_result {
  * last frame, and `output` has what was written in its first `written` places and keeps the others. The step that traps
  * changes no variable and no output; what earlier steps did stays. What the store held before does not matter to the
  * run.
+ *
+ * `mark` is the largest of G + F0 and the tops that calls asked for and found room for, be it that an argument then
+ * traps; a call with DOOR_TRAP_FRAME does not count. So with 0 steps it is G + F0, and always at least `top` and at
+ * most `store_length`. With a store of `mark` cells, and all else the same, the run gives the same result, the same
+ * cells below `mark` and the same output; with any shorter one it gives DOOR_REFUSED_STORE_BELOW or DOOR_TRAP_FRAME.
+ * Cells from `mark` on are not written. That is so for this input and these steps: with others it may need more.
  *
  * `image`, `input`, `store` and `output` point to as many bytes, numbers, cells and places as the length behind each
  * says, each aligned as its type asks. No pointer may be null, also where its length is 0. `image` and `input` may
@@ -132,8 +139,8 @@ struct door_result door_run(const uint8_t *image, size_t image_length, const int
  *
  * It is lent what the run was lent: the same image; `store` as the earlier call left it; `input` and `output` whole,
  * from their first place on. It goes on reading at place `from.read` and writing at `from.written`; output places below
- * that are neither read nor changed. Input, output and store may meanwhile have become longer, or shorter where what is
- * in use still fits.
+ * that are neither read nor changed. Input, output and store may meanwhile have become longer, or shorter: the input as
+ * far as `from.read`, the output as far as `from.written`, the store as far as `from.mark`.
  *
  * The check is made again, and 1 to 13 are asked as by door_run. Then DOOR_REFUSED_STATE comes, with row 0, where
  *   - `refusal`, `fault`, `outcome`, `trap` or `halt` of `from` is not 0: what was refused, has finished or has trapped
@@ -141,10 +148,16 @@ struct door_result door_run(const uint8_t *image, size_t image_length, const int
  *   - `row`, `base`, `top` of `from` and the store's cells below `top` are no state that this image can be in: frames,
  *     links, values in the range of their types, and VAR parameters that name an object of their type (document 01,
  *     "Sound");
+ *   - `mark` of `from` is below its `top`, or exceeds `store_length`;
  *   - `read` exceeds `input_length`, or `written` exceeds `output_length`;
  *   - `from.steps` and `steps` together exceed 4,294,967,295.
  * A refusal leaves store and output as they were, and every number but `refusal` and `fault` 0. So it is no result to
  * go on from: keep the earlier one until the next is there and not refused.
+ *
+ * `mark` is that of `from`, or larger by the calls since. With a store of so many cells, and all else the same, this
+ * call gives the same result, the same cells below `mark` and the same output. With a shorter one it is refused by
+ * DOOR_REFUSED_STORE_BELOW or DOOR_REFUSED_STATE or, where that has `from.mark` cells or more, gives DOOR_TRAP_FRAME.
+ * Cells from `mark` on are not written.
  *
  * Numbers and cells that have been changed since may pass, where they are another such state: the engine then goes on
  * from that, and touches nothing that was not lent. Whoever has to know that nothing was changed keeps a checksum.

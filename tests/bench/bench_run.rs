@@ -15,7 +15,8 @@
 //!
 //! It links the library where it is built with --cfg proved, and with --cfg beside also the other one, whose run is
 //! called beside_run (tests/bench/libraries); with neither, the plain run stands alone. With --cfg interface_1 that
-//! library is one of before DOOR_INTERFACE 2.
+//! library is one of before DOOR_INTERFACE 2. Whether it is one of before DOOR_INTERFACE 3 is seen when it runs: it then
+//! leaves the mark as it was.
 use std::hint::black_box;
 use std::path::{Path, PathBuf};
 use std::process::{Command, ExitCode};
@@ -44,13 +45,18 @@ const ENGINES: &[(&str, Run)] = &[
 const BESIDE: Option<usize> = if cfg!(beside) { Some(1) } else { None };
 const PLAIN: usize = ENGINES.len() - 1;
 
-/// A library's run, by its name there, and what it returns.
+/// What no run has as its mark: that of one which does not tell it.
+const NO_MARK: u32 = u32::MAX;
+
+/// A library's run, by its name there, and what it returns. In C a result is returned by value; System V has the caller
+/// give the memory for one of this size, as a pointer before all else.
 #[cfg(proved)]
 macro_rules! linked {
     ($engine:ident, $symbol:ident, $result:ty) => {
         fn $engine(image: &[u8], input: &[i32], store: &mut [i64], output: &mut [i32], steps: u32) -> Numbers {
             extern "C" {
                 fn $symbol(
+                    result: *mut $result,
                     image: *const u8,
                     image_len: usize,
                     input: *const i32,
@@ -60,11 +66,14 @@ macro_rules! linked {
                     output: *mut i32,
                     output_len: usize,
                     steps: u32,
-                ) -> $result;
+                );
             }
-            // SAFETY: each pointer comes with the length of its slice, and no two slices that are written overlap.
-            let result = unsafe {
+            let mut result = <$result>::from(Numbers { mark: NO_MARK, ..Numbers::default() });
+            // SAFETY: each pointer comes with the length of its slice, and no two slices that are written overlap; a
+            // result has the fields of the library's, and perhaps one more behind them.
+            unsafe {
                 $symbol(
+                    &mut result,
                     image.as_ptr(),
                     image.len(),
                     input.as_ptr(),
@@ -88,9 +97,10 @@ linked!(beside, beside_run, Numbers);
 #[cfg(all(beside, interface_1))]
 linked!(beside, beside_run, First);
 
-/// What a run of interface 1 returns, which has no base and no top.
+/// What a run of interface 1 returns, which has no base, no top and no mark.
 #[cfg(interface_1)]
 #[repr(C)]
+#[derive(Default)]
 struct First {
     refusal: u32,
     fault: u32,
@@ -108,16 +118,28 @@ impl From<First> for Numbers {
     fn from(first: First) -> Numbers {
         let First { refusal, fault, outcome, trap, halt, row, steps, read, written } = first;
         let [read, written] = [read, written].map(u64::from);
-        Numbers { refusal, fault, outcome, trap, halt, steps, row, base: 0, top: 0, read, written }
+        Numbers { refusal, fault, outcome, trap, halt, steps, row, base: 0, top: 0, read, written, mark: NO_MARK }
     }
 }
 
-/// What all engines tell: beside a library of interface 1 no base and no top.
-fn told_by_all(result: Numbers) -> Numbers {
-    if cfg!(interface_1) {
-        Numbers { base: 0, top: 0, ..result }
-    } else {
-        result
+#[cfg(interface_1)]
+impl From<Numbers> for First {
+    fn from(_: Numbers) -> First {
+        First::default()
+    }
+}
+
+/// Leaves of the engines' results what all of them tell: a library of interface 1 tells no base and no top, one of before
+/// interface 3 no mark.
+fn keep_told(results: &mut [Numbers]) {
+    let marked = results.iter().all(|result| result.mark != NO_MARK);
+    for result in results {
+        if cfg!(interface_1) {
+            (result.base, result.top) = (0, 0);
+        }
+        if !marked {
+            result.mark = NO_MARK;
+        }
     }
 }
 
@@ -213,7 +235,7 @@ fn vectors(folders: &[String]) -> Result<bool, Failed> {
     let mut told = 0;
     let mut same = vec![0; ENGINES.len()];
     for case in &all {
-        let mut whole = Vec::new();
+        let (mut whole, mut results) = (Vec::new(), Vec::new());
         for (who, (engine, run)) in ENGINES.iter().enumerate() {
             let mut store = vec![case.fill; case.cells];
             let mut output = vec![OUTPUT_FILL; case.places];
@@ -235,10 +257,14 @@ fn vectors(folders: &[String]) -> Result<bool, Failed> {
                 faults.push("a refusal changed the store".to_string());
             }
             whole.push((store, output));
+            results.push(result);
             if whole[0] != whole[who] {
                 faults.push(format!("store or outputs differ from those of {}", ENGINES[0].0));
             }
             // A library of before a request may give other answers: it is counted, and that is no failure.
+            if BESIDE != Some(who) && results[0] != result {
+                faults.push(format!("base, top or mark differ from those of {}", ENGINES[0].0));
+            }
             for fault in faults.iter().filter(|_| BESIDE != Some(who)) {
                 told += 1;
                 if told <= TOLD {
@@ -473,21 +499,26 @@ fn timed(path: &Path, options: &Options) -> Result<Option<Timed>, Failed> {
         None => (options.steps as f64, Vec::new()),
     };
     let steps = steps as u32;
-    let mut answers = Vec::new();
+    let (mut results, mut memories) = (Vec::new(), Vec::new());
     for (_, run) in ENGINES {
         let mut store = vec![0; CELLS];
         let mut output = vec![OUTPUT_FILL; PLACES];
-        let result = run(&image, &[], &mut store, &mut output, steps);
-        answers.push((told_by_all(result), store, output));
+        results.push(run(&image, &[], &mut store, &mut output, steps));
+        memories.push((store, output));
     }
-    let (result, store, output) = &answers[PLAIN];
-    if let Some(who) = (0..PLAIN).find(|&who| answers[who] != answers[PLAIN]) {
-        let other = &answers[who];
-        println!("{name}: {} {:?}, plain {:?}", ENGINES[who].0, other.0.in_order(), result.in_order());
-        if other.1 != *store || other.2 != *output {
-            println!("{name}: store or outputs differ");
+    keep_told(&mut results);
+    let (result, store) = (results[PLAIN], &memories[PLAIN].0);
+    for who in 0..PLAIN {
+        let (same_numbers, same_memory) = (results[who] == result, memories[who] == memories[PLAIN]);
+        if !same_numbers {
+            println!("{name}: {} {:?}, plain {result:?}", ENGINES[who].0, results[who]);
         }
-        return Ok(None);
+        if !same_memory {
+            println!("{name}: {}: store or outputs differ from those of plain", ENGINES[who].0);
+        }
+        if !(same_numbers && same_memory) {
+            return Ok(None);
+        }
     }
     if result.refusal != 0 || result.steps != steps {
         println!("{name}: it does not take {steps} steps: {:?}", result.in_order());

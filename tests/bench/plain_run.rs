@@ -1,7 +1,7 @@
-//! Document 01's run in plain Rust, IN as document 02 has it, with no proof. It is written from the papers alone, in the
-//! forms that document 01 names: rows are read from the image at each visit, `find` and `eval` call each other on lower
-//! node rows, answers are enums. Sizes, places and frames are found once, after the check of plain.rs. The benchmark
-//! holds the proved run to its speed, and to its answers.
+//! Document 01's run in plain Rust, IN as document 02 has it, with the mark, and with no proof. It is written from the
+//! papers alone, in the forms that document 01 names: rows are read from the image at each visit, `find` and `eval` call
+//! each other on lower node rows, answers are enums. Sizes, places and frames are found once, after the check of
+//! plain.rs. The benchmark holds the proved run to its speed, and to its answers.
 //!
 //! What the check has shown is not asked again at each step: an arm that no accepted image reaches is `unreachable!`,
 //! and a cell is taken as the kind that its type gives.
@@ -554,6 +554,19 @@ impl Program<'_> {
         None
     }
 
+    /// The top that the step from here asks for: a call's that passes the store check, else 0.
+    fn asked(&self, cells: usize, s: Registers) -> u32 {
+        let statement = row(self.statements, s.row as usize);
+        if statement.kind() != 1 {
+            return 0;
+        }
+        let end = s.top + self.frame[statement.a()];
+        if cells < end as usize {
+            return 0;
+        }
+        end
+    }
+
     /// One argument: node row k, to variable row v of the new frame.
     fn pass(&self, store: &[i64], frame: &mut [i64], base: u32, k: usize, v: usize) -> Option<Trap> {
         let parameter = row(self.variables, v);
@@ -603,7 +616,8 @@ pub fn run(image: &[u8], input: &[i32], store: &mut [i64], output: &mut [i32], s
     advance(&program, input, store, output, from, steps)
 }
 
-/// At most n steps.
+/// At most n steps. One that goes on leaves the top that it asked for, or a lower one than before it; what the last asks
+/// for is found anew.
 #[inline(never)]
 fn advance(
     program: &Program,
@@ -614,20 +628,20 @@ fn advance(
     n: u32,
 ) -> Numbers {
     let (mut outcome, mut trap, mut halt, mut steps) = (0, 0, 0, 0);
+    let mut mark = s.top;
     while steps < n {
         steps += 1;
         match program.step(input, store, output, &mut s) {
-            Step::Goes => {}
-            Step::Finished => {
-                outcome = 1;
-                break;
+            Step::Goes => {
+                mark = mark.max(s.top);
+                continue;
             }
-            Step::Trapped(t, number) => {
-                (outcome, trap, halt) = (2, t as u32, number);
-                break;
-            }
+            Step::Finished => outcome = 1,
+            Step::Trapped(t, number) => (outcome, trap, halt) = (2, t as u32, number),
         }
+        mark = mark.max(program.asked(store.len(), s));
+        break;
     }
     let Registers { row, base, top, read, written } = s;
-    Numbers { refusal: 0, fault: 0, outcome, trap, halt, steps, row, base, top, read, written }
+    Numbers { refusal: 0, fault: 0, outcome, trap, halt, steps, row, base, top, read, written, mark }
 }

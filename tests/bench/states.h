@@ -231,6 +231,11 @@ static void empty_globals(struct state *s, size_t cells) {
     run_full(s, cells);
 }
 
+/* The result of a run that stands before a statement, and never needed more cells than now. */
+static struct door_result standing(unsigned row, unsigned base, unsigned room) {
+    return (struct door_result){.row = row, .base = base, .top = base + room, .mark = base + room};
+}
+
 /* What a procedure with locals, whose `held` cells begin `globals` + 6 cells into the store, leads to: it calls frames
  * of three cells, `small` of them, and the last of these frames with `count` VAR parameters, which call themselves. All
  * of these name an object of this type among the locals. Only the first call's arguments are a global, g: the cells are
@@ -254,7 +259,7 @@ static void named_below(struct state *s, size_t cells, unsigned g, unsigned glob
     s->length = bytes(&b, s->image);
     s->cells = cells;
     memset(s->store, 0, sizeof s->store); /* the links of the module body's frame */
-    s->from = (struct door_result){.row = calls[BODY], .base = globals, .top = globals + rooms[BODY]};
+    s->from = standing(calls[BODY], globals, rooms[BODY]);
     for (unsigned frame = 1;; frame++) {
         const unsigned q = frame == 1 ? HOLDER : frame <= 1 + small ? SMALL : NAMER, base = s->from.top;
         if (base + rooms[q] > cells)
@@ -266,7 +271,7 @@ static void named_below(struct state *s, size_t cells, unsigned g, unsigned glob
             s->store[base + 3 + 2 * i] = address;
             s->store[base + 4 + 2 * i] = type;
         }
-        s->from = (struct door_result){.row = calls[q], .base = base, .top = base + rooms[q]};
+        s->from = standing(calls[q], base, rooms[q]);
         caller = q;
     }
 }

@@ -35,8 +35,9 @@ static void write_places(const char *word, const int32_t *places, size_t count) 
 static void write_result(const char *word, struct door_result r) {
     fprintf(cases,
             "%s %" PRIu32 " %" PRIu32 " %" PRIu32 " %" PRIu32 " %" PRId32 " %" PRIu32 " %" PRIu32 " %" PRIu64
-            " %" PRIu64 " %" PRIu32 " %" PRIu32 "\n",
-            word, r.refusal, r.fault, r.outcome, r.trap, r.halt, r.row, r.steps, r.read, r.written, r.base, r.top);
+            " %" PRIu64 " %" PRIu32 " %" PRIu32 " %" PRIu32 "\n",
+            word, r.refusal, r.fault, r.outcome, r.trap, r.halt, r.row, r.steps, r.read, r.written, r.base, r.top,
+            r.mark);
 }
 
 void write_case(const struct continued *call) {

@@ -60,11 +60,33 @@ struct door_result __wrap_door_run(const uint8_t *image, size_t image_length, co
             result.row++;
         break;
     case 9: /* 9: same || (a->store[i] == a->fill && b->store[i] == b->fill) */
-        if (result.outcome == 1 && store_length > 100)
-            store[100] = held ^ 1;
+        if (result.outcome == 1)
+            store[0] = held ^ 1;
         break;
     case 10: /* a state that is shared by the calls: only another thread can see it */
         result.row += used_by != output;
+        break;
+    case 18: /* 18: only_refusal(r) */
+        if (result.refusal == 13)
+            result.mark = (uint32_t)store_length;
+        break;
+    case 19: /* 19: left->store[i] == left->fill */
+        result.mark -= result.mark > result.top;
+        break;
+    case 20: /* 20: cut->result.refusal == 13 || cut->result.trap == 7 */
+        result.mark += result.refusal == 0 && result.mark < store_length;
+        break;
+    case 21: /* 21: same_result(cut->result, whole->result) */
+        if (result.outcome == 2) { /* a call whose argument traps is not counted, and leaves no cells */
+            const uint32_t before = __real_door_run(image, image_length, input, input_length, store, store_length,
+                                                    output, output_length, result.steps - 1).mark;
+            for (; result.mark > before; result.mark--)
+                store[result.mark - 1] = held;
+        }
+        break;
+    case 22: /* 22: left->store[i] == left->fill */
+        if (result.outcome == 1 && result.mark < store_length)
+            store[result.mark] = held ^ 1;
         break;
     default:
         break;
@@ -76,9 +98,12 @@ struct door_result __wrap_door_continue(const uint8_t *image, size_t image_lengt
                                         size_t input_length, int64_t *store, size_t store_length, int32_t *output,
                                         size_t output_length, uint32_t steps, struct door_result from) {
     const struct door_result given = from;
+    const int unasked = FAULT == 24 && steps == 0 && (from.mark < from.top || from.mark > store_length);
     struct door_result result;
     if (FAULT == 11) /* 11: same_result(next, (struct door_result){.refusal = 14}) */
         from.outcome = from.trap = 0;
+    if (unasked || (FAULT == 23 && given.steps + steps == 1000)) /* 23: same_result(next, whole->result) */
+        from.mark = from.top;
     result = __real_door_continue(image, image_length, input, input_length, store, store_length, output, output_length,
                                   steps, from);
     switch (FAULT) {
@@ -105,6 +130,14 @@ struct door_result __wrap_door_continue(const uint8_t *image, size_t image_lengt
     case 17: /* 17: same_result(answer, from->result) */
         if (result.refusal == 0 && given.steps + steps > 1000)
             result.row = 0;
+        break;
+    case 24: /* 24: from->result.mark <= given->cells */
+        if (unasked && result.refusal == 0)
+            result.mark = given.mark;
+        break;
+    case 25: /* 25: left->store[i] == from->store[i] */
+        if (result.refusal == 0 && steps > 0 && given.steps + steps > 1000 && result.mark < store_length)
+            store[result.mark] ^= 1;
         break;
     default:
         break;

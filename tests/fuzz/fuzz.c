@@ -4,7 +4,8 @@
  * in another, each time with other numbers in the store; image and input cannot be written during the calls. What
  * door.h promises is then asked of the results, as far as C can see it; abort() says where it does not hold.
  *
- * A run is also cut in two, and continued: from its own result and store, and from both damaged. */
+ * A run is also made in as many cells as its mark, and in one less; and it is cut in two, and continued: from its own
+ * result and store, and from both damaged. */
 #define _GNU_SOURCE
 #include <stdbool.h>
 #include <stdint.h>
@@ -97,13 +98,18 @@ static void run(enum side side, const struct lent *given, uint32_t steps, struct
     take_out(side, given, left);
 }
 
-/* The number of statements of an accepted image. */
-static uint32_t statements_of(const uint8_t *image) {
-    size_t at = 5;
+/* Of an accepted image: where its statement table begins, how many there are, and whether one is a call. */
+static const uint8_t *statement_table(const uint8_t *image) {
+    const uint8_t *at = image + 5;
     for (int table = 0; table < 5; table++)
-        at += 2 + 8 * (size_t)(256 * image[at] + image[at + 1]);
-    return 256u * image[at] + image[at + 1];
+        at += 2 + 8 * (size_t)(256 * at[0] + at[1]);
+    return at;
 }
+static uint32_t statements_of(const uint8_t *image) {
+    const uint8_t *at = statement_table(image);
+    return 256u * at[0] + at[1];
+}
+static bool is_call(const uint8_t *image, uint32_t row) { return statement_table(image)[2 + 8 * row] == 1; }
 
 static bool only_refusal(struct door_result r) {
     return same_result(r, (struct door_result){.refusal = r.refusal, .fault = r.fault});
@@ -132,7 +138,7 @@ static void promised_of_run(const uint8_t *image, const struct lent *given, cons
     PROMISED((r.trap != 0) == (r.outcome == 2) && r.trap <= 10);
     PROMISED(r.halt == 0 || r.trap == 10);
     PROMISED(r.row < statements_of(image));
-    PROMISED(r.base + 3 <= r.top && r.top <= given->cells);
+    PROMISED(r.base + 3 <= r.top && r.top <= r.mark && r.mark <= given->cells);
     PROMISED(r.steps <= given->steps);
     PROMISED(r.outcome == 0 ? r.steps == given->steps : r.steps >= 1);
     PROMISED(r.read <= given->inputs && r.written <= given->places);
@@ -141,6 +147,8 @@ static void promised_of_run(const uint8_t *image, const struct lent *given, cons
     PROMISED(r.read + r.written <= r.steps);
     for (size_t i = r.written; i < given->places; i++)
         PROMISED(left->output[i] == PLACE);
+    for (size_t i = r.mark; i < given->cells; i++)
+        PROMISED(left->store[i] == left->fill);
 }
 
 /* Two runs that differ in place and in what the store held: the same but for the cells that neither wrote. A number
@@ -157,14 +165,33 @@ static void promised_of_both(const struct lent *given, const struct left *a, con
 }
 
 /* A step that finishes or traps is the last, and changes no row and no count but its own: with one step less the run
- * stands before it. */
-static void promised_before_last(const struct lent *given, const struct left *all, const struct left *less) {
+ * stands before it. Only a call raises the mark, where it found room, and an argument then trapped. */
+static void promised_before_last(const uint8_t *image, const struct lent *given, const struct left *all,
+                                 const struct left *less) {
     struct door_result before = all->result;
+    const bool asked = is_call(image, before.row) && before.trap != 7;
+    PROMISED(asked ? less->result.mark <= before.mark : less->result.mark == before.mark);
     before.outcome = before.trap = 0;
     before.halt = 0;
     before.steps--;
+    before.mark = less->result.mark;
     PROMISED(same_result(before, less->result));
     PROMISED(memcmp(all->output, less->output, 4 * given->places) == 0);
+}
+
+/* In as many cells as its mark a run is the same; in one less it cannot begin, or a call finds no room. */
+static void promised_of_mark(const uint8_t *inputs, const uint8_t *image, const struct lent *given,
+                             const struct left *whole, struct left *cut) {
+    struct lent fewer = *given;
+    fewer.cells = whole->result.mark;
+    fill_lent(BEFORE_GUARD, &fewer, inputs, image, whole->fill);
+    run(BEFORE_GUARD, &fewer, given->steps, cut);
+    PROMISED(same_result(cut->result, whole->result));
+    PROMISED(is_memory(BEFORE_GUARD, &fewer, whole));
+    fewer.cells--;
+    fill_lent(BEFORE_GUARD, &fewer, inputs, image, whole->fill);
+    run(BEFORE_GUARD, &fewer, given->steps, cut);
+    PROMISED(cut->result.refusal == 13 || cut->result.trap == 7);
 }
 
 /* ---- continuing */
@@ -245,6 +272,9 @@ static void damage(const uint8_t *bytes, const struct lent *given, struct left *
     case 6:
         set_field(&left->result, where, special_of(bytes[3], r), true);
         break;
+    case 7: /* around what the mark may be */
+        left->result.mark = (uint32_t)((where % 2 ? given->cells : r.top) + (uint64_t)(int64_t)(int8_t)bytes[3]);
+        break;
     default: /* nothing */
         break;
     }
@@ -278,7 +308,7 @@ static void promised_of_continue(const uint8_t *image, const struct lent *given,
     PROMISED((r.trap != 0) == (r.outcome == 2) && r.trap <= 10);
     PROMISED(r.halt == 0 || r.trap == 10);
     PROMISED(r.row < statements_of(image));
-    PROMISED(r.base + 3 <= r.top && r.top <= given->cells);
+    PROMISED(r.base + 3 <= r.top && r.top <= r.mark && f.mark <= r.mark && r.mark <= given->cells);
     PROMISED(r.steps >= f.steps && r.steps - f.steps <= given->steps);
     PROMISED(r.outcome == 0 ? r.steps - f.steps == given->steps : r.steps > f.steps);
     PROMISED(f.read <= r.read && r.read <= given->inputs && f.written <= r.written && r.written <= given->places);
@@ -287,6 +317,26 @@ static void promised_of_continue(const uint8_t *image, const struct lent *given,
     PROMISED(r.read - f.read + (r.written - f.written) <= r.steps - f.steps);
     for (size_t i = 0; i < given->places; i++)
         PROMISED((i >= f.written && i < r.written) || left->output[i] == from->output[i]);
+    for (size_t i = r.mark; i < given->cells; i++)
+        PROMISED(left->store[i] == from->store[i]);
+}
+
+/* In as many cells as its mark a continue is the same; in one less it is refused, or a call finds no room where those of
+ * the earlier mark are there. */
+static void promised_of_continued_mark(const struct lent *given, const struct left *from, const struct left *whole) {
+    struct lent fewer = *given;
+    struct door_result answer;
+    fewer.cells = whole->result.mark;
+    put_back(BEFORE_GUARD, &fewer, from);
+    PROMISED(same_result(whole->result, go_on(BEFORE_GUARD, &fewer, given->steps, from->result)));
+    PROMISED(is_memory(BEFORE_GUARD, &fewer, whole));
+    fewer.cells--;
+    put_back(BEFORE_GUARD, &fewer, from);
+    answer = go_on(BEFORE_GUARD, &fewer, given->steps, from->result);
+    if (fewer.cells < from->result.mark)
+        PROMISED(answer.refusal == 13 || answer.refusal == 14);
+    else
+        PROMISED(answer.refusal == 0 && answer.trap == 7);
 }
 
 /* Whether question 14 passes the result and store that are in `from`: with 0 steps they come back as they are. Cells
@@ -316,6 +366,7 @@ static void promised_of_foreign(const uint8_t *data, size_t head, const struct l
     passed = passes(given, from);
     PROMISED(!passed || (from->result.outcome == 0 && from->result.trap == 0 && from->result.halt == 0));
     PROMISED(!passed || (from->result.read <= given->inputs && from->result.written <= given->places));
+    PROMISED(!passed || (from->result.top <= from->result.mark && from->result.mark <= given->cells));
     put_back(BEFORE_GUARD, given, from);
     other = go_on(BEFORE_GUARD, given, given->steps, from->result);
     put_back(BEHIND_GUARD, given, from);
@@ -331,6 +382,7 @@ static void promised_of_foreign(const uint8_t *data, size_t head, const struct l
         return;
     }
     promised_of_continue(data + head, given, from, left);
+    promised_of_continued_mark(given, from, left);
     unend(&left->result);
     PROMISED(passes(given, left));
 }
@@ -382,8 +434,10 @@ int LLVMFuzzerTestOneInput(const uint8_t *data, size_t size) {
         less.fill = left[0].fill;
         fill_lent(BEHIND_GUARD, &given, data + HEAD, data + head, less.fill);
         run(BEHIND_GUARD, &given, left[0].result.steps - 1, &less);
-        promised_before_last(&given, &left[0], &less);
+        promised_before_last(data + head, &given, &left[0], &less);
     }
+    if (left[0].result.refusal == 0)
+        promised_of_mark(data + HEAD, data + head, &given, &left[0], &less);
     fill_lent(BEHIND_GUARD, &given, data + HEAD, data + head, left[0].fill);
     promised_in_two(&given, &left[0], &first);
     if (first.result.refusal == 0)

@@ -1,7 +1,8 @@
 /* Memory and steps at their limits: limits [--long]
  *
- * Every image here is made by hand, and what is expected of it is by document 01. All that is lent lies directly before
- * a page that cannot be touched, and then directly behind one. --long runs two loops with all 4,294,967,295 steps. */
+ * Every image here is made by hand, and what is expected of it is by documents 01 and 02. All that is lent lies directly
+ * before a page that cannot be touched, and then directly behind one. --long runs two loops with all 4,294,967,295
+ * steps. */
 #define _GNU_SOURCE
 #include <time.h>
 
@@ -82,10 +83,14 @@ static struct door_result trapped(uint32_t trap, uint32_t row, uint32_t steps) {
 static struct door_result finished(uint32_t row, uint32_t steps) {
     return (struct door_result){.outcome = 1, .row = row, .steps = steps};
 }
-/* the same in procedure 0, whose frame has so many cells, behind so many of globals */
-static struct door_result in_body(uint32_t globals, uint32_t frame, struct door_result result) {
-    result.base = globals;
-    result.top = globals + frame;
+/* the same with its newest frame, and with as many cells needed as it ends at, or as many as here */
+static struct door_result framed(uint32_t base, uint32_t frame, struct door_result result) {
+    result.base = base;
+    result.top = result.mark = base + frame;
+    return result;
+}
+static struct door_result marked(uint32_t mark, struct door_result result) {
+    result.mark = mark;
     return result;
 }
 
@@ -149,6 +154,33 @@ static unsigned nine(unsigned x) {
     return integer(9);
 }
 
+/* P; RETURN, and P is RETURN, or calls itself before that. Each frame has 3 cells. */
+static void calling(bool itself) {
+    begin(&b);
+    add(&b, STATEMENTS, CALL, 1, 0, 0);
+    add(&b, STATEMENTS, RETURN, 0, 0, 0);
+    add(&b, PROCEDURES, 0, 2, 0, 0);
+    if (itself)
+        add(&b, STATEMENTS, CALL, 1, 0, 0);
+    add(&b, STATEMENTS, RETURN, 0, 0, 0);
+}
+
+/* P(1, 1 DIV 0), whose frame has 5 cells: the second argument traps. Then RETURN, and P is RETURN. */
+static void trapping(void) {
+    unsigned first, second;
+    begin(&b);
+    add(&b, VARIABLES, VALUE, INTEGER, 0, 0);
+    add(&b, VARIABLES, VALUE, INTEGER, 0, 0);
+    first = integer(1);
+    second = add(&b, NODES, DYADIC, integer(1), integer(0), 4);
+    first = add(&b, NODES, ARGUMENT, first, 0, 0);
+    add(&b, NODES, ARGUMENT, second, 0, 0);
+    add(&b, STATEMENTS, CALL, 1, first, 0);
+    add(&b, STATEMENTS, RETURN, 0, 0, 0);
+    add(&b, PROCEDURES, 0, 2, 2, 0);
+    add(&b, STATEMENTS, RETURN, 0, 0, 0);
+}
+
 /* ---- tests */
 
 static void image_lengths(void) {
@@ -166,7 +198,7 @@ static void image_lengths(void) {
                       refusal(2));
     expect_result("the smallest image",
                   run((struct lending){.image = smallest, .length = sizeof smallest, .cells = 3, .steps = 9}),
-                  in_body(0, 3, finished(0, 1)));
+                  framed(0, 3, finished(0, 1)));
 }
 
 /* A store of so many cells: refused, and untouched, or the globals and the frame zeroed and the rest untouched. */
@@ -176,7 +208,7 @@ static void store_length(unsigned globals, size_t cells, uint32_t expected) {
     bool zeroed = true;
     returning(globals);
     result = run(made(cells, 4, 9));
-    expect_result("a store", result, expected ? refusal(expected) : in_body(globals, 5, finished(0, 1)));
+    expect_result("a store", result, expected ? refusal(expected) : framed(globals, 5, finished(0, 1)));
     expect(untouched(expected ? 0 : needed, cells), "cells that are not the program's");
     for (size_t i = 0; !expected && i < needed; i++)
         zeroed = zeroed && store_of(cells)[i] == 0;
@@ -210,20 +242,20 @@ static void nothing_lent(void) {
     struct lending l;
     one(READ, variable);
     l = made(4, 0, 9);
-    expect_result("a read without input", run(l), in_body(1, 3, trapped(8, 0, 1)));
+    expect_result("a read without input", run(l), framed(1, 3, trapped(8, 0, 1)));
     l.input = seven;
     l.inputs = 1;
     expect_result("a read of the only input", run(l),
-                  in_body(1, 3, (struct door_result){.outcome = 1, .row = 1, .steps = 2, .read = 1}));
+                  framed(1, 3, (struct door_result){.outcome = 1, .row = 1, .steps = 2, .read = 1}));
     expect(store_of(4)[0] == 7, "what was read");
     one(WRITE, variable);
-    expect_result("a write without places", run(made(4, 0, 9)), in_body(1, 3, trapped(9, 0, 1)));
+    expect_result("a write without places", run(made(4, 0, 9)), framed(1, 3, trapped(9, 0, 1)));
     expect_result("a write to the only place", run(made(4, 1, 9)),
-                  in_body(1, 3, (struct door_result){.outcome = 1, .row = 1, .steps = 2, .written = 1}));
-    expect_result("no steps", run(made(4, 1, 0)), in_body(1, 3, used_up(0, 0)));
+                  framed(1, 3, (struct door_result){.outcome = 1, .row = 1, .steps = 2, .written = 1}));
+    expect_result("no steps", run(made(4, 1, 0)), framed(1, 3, used_up(0, 0)));
     one(HALT, nine);
     expect_result("HALT with all steps", run(made(4, 0, ALL_STEPS)),
-                  in_body(1, 3, (struct door_result){.outcome = 2, .trap = 10, .halt = 9, .steps = 1}));
+                  framed(1, 3, (struct door_result){.outcome = 2, .trap = 10, .halt = 9, .steps = 1}));
 }
 
 static double seconds(void) {
@@ -237,13 +269,13 @@ static void loops(uint32_t steps, bool print) {
     const double began = seconds();
     double between, end;
     endless();
-    expect_result("GOTO itself", run(made(3, 0, steps)), in_body(0, 3, used_up(steps, 0)));
+    expect_result("GOTO itself", run(made(3, 0, steps)), framed(0, 3, used_up(steps, 0)));
     between = seconds();
     counting();
     if (steps == ALL_STEPS) /* the last step is addition 2,147,483,648, the first that overflows */
-        expect_result("counting", run(made(4, 0, steps)), in_body(1, 3, trapped(4, 0, steps)));
+        expect_result("counting", run(made(4, 0, steps)), framed(1, 3, trapped(4, 0, steps)));
     else
-        expect_result("counting", run(made(4, 0, steps)), in_body(1, 3, used_up(steps, steps % 2)));
+        expect_result("counting", run(made(4, 0, steps)), framed(1, 3, used_up(steps, steps % 2)));
     expect(store_of(4)[0] == (int64_t)(steps == ALL_STEPS ? INT32_MAX : steps / 2 + steps % 2), "what was counted");
     end = seconds();
     if (print)
@@ -254,9 +286,9 @@ static void loops(uint32_t steps, bool print) {
 static void finishing_early(void) {
     expect_result("RETURN with all steps",
                   run((struct lending){.image = smallest, .length = sizeof smallest, .cells = 3, .steps = ALL_STEPS}),
-                  in_body(0, 3, finished(0, 1)));
+                  framed(0, 3, finished(0, 1)));
     returning(5);
-    expect_result("RETURN with all steps and cells", run(made(65536, 0, ALL_STEPS)), in_body(5, 5, finished(0, 1)));
+    expect_result("RETURN with all steps and cells", run(made(65536, 0, ALL_STEPS)), framed(5, 5, finished(0, 1)));
 }
 
 /* Steps done and lent are at most 4,294,967,295 together, whatever was done. */
@@ -268,9 +300,9 @@ static void steps_together(void) {
     expect_result("one step more than there are", go_on(made(4, 0, 6), from), refusal(14));
     expect_result("all steps more", go_on(made(4, 0, ALL_STEPS), from), refusal(14));
     expect(store_of(4)[0] == 5, "a refusal leaves the store");
-    expect_result("the last five steps", go_on(made(4, 0, 5), from), in_body(1, 3, used_up(ALL_STEPS, 1)));
+    expect_result("the last five steps", go_on(made(4, 0, 5), from), framed(1, 3, used_up(ALL_STEPS, 1)));
     expect(store_of(4)[0] == 8, "what was counted");
-    from = in_body(1, 3, used_up(ALL_STEPS, 1));
+    from = framed(1, 3, used_up(ALL_STEPS, 1));
     expect_result("no step after the last", go_on(made(4, 0, 0), from), from);
     expect_result("a step after the last", go_on(made(4, 0, 1), from), refusal(14));
 }
@@ -289,12 +321,11 @@ static void lists_together(void) {
     l.inputs = 2;
     from = run(l);
     next = go_on(l, from);
-    expect_result("the second round", next,
-                  (struct door_result){.steps = 6, .base = 1, .top = 4, .read = 2, .written = 2});
+    expect_result("the second round", next, framed(1, 3, (struct door_result){.steps = 6, .read = 2, .written = 2}));
     l.steps = 9;
-    expect_result("counts at their lists' ends, and a read there", go_on(l, next),
-                  (struct door_result){
-                      .outcome = 2, .trap = 8, .steps = 7, .base = 1, .top = 4, .read = 2, .written = 2});
+    expect_result(
+        "counts at their lists' ends, and a read there", go_on(l, next),
+        framed(1, 3, (struct door_result){.outcome = 2, .trap = 8, .steps = 7, .read = 2, .written = 2}));
     next.outcome = 2;
     next.trap = 8;
     expect_result("after a trap", go_on(l, next), refusal(14));
@@ -312,7 +343,7 @@ static void lists_together(void) {
 /* Question 14 reads no cell from `top` on, and no cell beyond the store where base and top lie there. */
 static void states_beyond(void) {
     static const uint32_t far[] = {3, 5, 4095, 65535, 65536, 65537, INT32_MAX, 1u << 31, UINT32_MAX - 3, UINT32_MAX};
-    const struct door_result good = {.base = 1, .top = 4};
+    const struct door_result good = framed(1, 3, used_up(0, 0));
     struct door_result from;
     counting();
     (void)run(made(4, 0, 0));
@@ -330,6 +361,55 @@ static void states_beyond(void) {
         expect_result("another row", go_on(made(4, 0, 0), from), refusal(14));
     }
     expect_result("the state as it was", go_on(made(4, 0, 0), good), good);
+}
+
+/* How many cells a run needed: one less than these, and a call finds no room. */
+static void marks(void) {
+    calling(false);
+    expect_result("before the call", run(made(9, 0, 0)), framed(0, 3, used_up(0, 0)));
+    expect_result("in the call", run(made(9, 0, 1)), framed(3, 3, used_up(1, 2)));
+    expect_result("after the call", run(made(9, 0, 2)), marked(6, framed(0, 3, used_up(2, 1))));
+    expect_result("in just as many cells", run(made(6, 0, 9)), marked(6, framed(0, 3, finished(1, 3))));
+    expect_result("in one less", run(made(5, 0, 9)), framed(0, 3, trapped(7, 0, 1)));
+    trapping();
+    expect_result("an argument that traps", run(made(9, 0, 9)), marked(8, framed(0, 3, trapped(5, 0, 1))));
+    expect(store_of(9)[6] == 1 && untouched(8, 9), "the argument before it, and no cell from the mark on");
+    expect_result("in just as many cells", run(made(8, 0, 9)), marked(8, framed(0, 3, trapped(5, 0, 1))));
+    expect_result("in one less", run(made(7, 0, 9)), framed(0, 3, trapped(7, 0, 1)));
+    expect(untouched(3, 7), "cells from the mark on");
+    calling(true);
+    for (uint32_t cells = 3; cells < 20; cells++) { /* as many frames of 3 as there is room for */
+        const uint32_t base = cells / 3 * 3 - 3;
+        expect_result("calls without end", run(made(cells, 0, 99)),
+                      framed(base, 3, trapped(7, base > 0 ? 2 : 0, cells / 3)));
+        expect(untouched(base + 3, cells), "cells from the mark on");
+    }
+    expect_result("calls without end in all cells", run(made(65536, 0, ALL_STEPS)),
+                  framed(65532, 3, trapped(7, 2, 21845)));
+}
+
+/* The mark goes from slice to slice; question 14 takes any from the top to the store's length. */
+static void marks_together(void) {
+    static const uint32_t far[] = {0, 2, 10, 65535, 65536, 65537, INT32_MAX, 1u << 31, UINT32_MAX};
+    struct door_result from;
+    calling(false);
+    from = run(made(9, 0, 2));
+    expect_result("the last slice", go_on(made(9, 0, 9), from), marked(6, framed(0, 3, finished(1, 3))));
+    expect_result("in as many cells as the mark", go_on(made(6, 0, 9), run(made(6, 0, 2))),
+                  marked(6, framed(0, 3, finished(1, 3))));
+    from = run(made(9, 0, 0));
+    for (from.mark = 3; from.mark <= 9; from.mark++) {
+        expect_result("no steps", go_on(made(9, 0, 0), from), from);
+        (void)run(made(9, 0, 0));
+        expect_result("the call", go_on(made(9, 0, 1), from),
+                      marked(from.mark < 6 ? 6 : from.mark, framed(3, 3, used_up(1, 2))));
+        (void)run(made(9, 0, 0));
+    }
+    for (size_t i = 0; i < sizeof far / sizeof far[0]; i++)
+        expect_result("a mark below the top or beyond the store", go_on(made(9, 0, 0), marked(far[i], from)),
+                      refusal(14));
+    (void)run(made(8, 0, 0));
+    expect_result("one cell less than the mark", go_on(made(8, 0, 1), marked(9, from)), refusal(14));
 }
 
 int main(int count, char **words) {
@@ -351,6 +431,8 @@ int main(int count, char **words) {
         steps_together();
         lists_together();
         states_beyond();
+        marks();
+        marks_together();
         for (size_t i = 0; i < sizeof few / sizeof few[0]; i++)
             loops(few[i], false);
     }

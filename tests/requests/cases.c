@@ -1,8 +1,8 @@
 /* Calls of door.h whose answers are stored: cases FILE...
  *
- * vectors/requests/README.txt has the form of a file. Each call is made twice, with all that is lent directly behind a page that
- * cannot be touched and directly before one; image and input cannot be written meanwhile. Every number, cell and output
- * place is compared. */
+ * vectors/requests/README.txt has the form of a file. Each call is made twice, with all that is lent directly behind a
+ * page that cannot be touched and directly before one; image and input cannot be written meanwhile. Every number, cell
+ * and output place is compared. */
 #define _GNU_SOURCE
 #include <errno.h>
 #include <string.h>
@@ -11,7 +11,8 @@
 #include "guarded.h"
 #include "result.h"
 
-enum { MOST_CELLS = 70000, MOST_NUMBERS = 70000, FIELDS_OF_RESULT = 11, LONGEST_LINE = 1 << 20 };
+enum { MOST_CELLS = 70000, MOST_NUMBERS = 70000, FIELDS_OF_RESULT = 12, LONGEST_LINE = 1 << 20 };
+enum { WITH_MARK = 3 }; /* the level from which on a result has its last number, the mark */
 
 /* What is lent, as the last call left it. */
 static struct {
@@ -34,7 +35,7 @@ static struct {
 static struct guarded image_area, input_area, store_area, output_area;
 static const char *file_name;
 static char name[256];
-static unsigned line_number, same, different;
+static unsigned level, line_number, same, different;
 
 static void broken(const char *what) {
     fprintf(stderr, "cases: %s: line %u: %s\n", file_name, line_number, what);
@@ -101,11 +102,14 @@ static uint32_t word(long long number) {
     return (uint32_t)number;
 }
 
-/* In the order of the file. */
+/* In the order of the file. A result without a mark gets the lowest that it may have. */
 static struct door_result result_of(const char *at) {
+    const size_t there = level < WITH_MARK ? FIELDS_OF_RESULT - 1 : FIELDS_OF_RESULT;
     long long n[FIELDS_OF_RESULT];
-    if (list_of(at, n, FIELDS_OF_RESULT) != FIELDS_OF_RESULT)
-        broken("not eleven numbers");
+    if (list_of(at, n, FIELDS_OF_RESULT) != there)
+        broken("another number of fields");
+    if (level < WITH_MARK)
+        n[11] = n[10];
     return (struct door_result){.refusal = word(n[0]),
                                 .fault = word(n[1]),
                                 .outcome = word(n[2]),
@@ -116,7 +120,8 @@ static struct door_result result_of(const char *at) {
                                 .read = (uint64_t)n[7],
                                 .written = (uint64_t)n[8],
                                 .base = word(n[9]),
-                                .top = word(n[10])};
+                                .top = word(n[10]),
+                                .mark = word(n[11])};
 }
 
 static void take_image(const char *hex) {
@@ -215,9 +220,11 @@ static void answer(const char *line) {
     const char *rest;
     if (!expected.called)
         broken("an answer without a call");
-    if ((rest = after(line, "result")))
+    if ((rest = after(line, "result"))) {
         expected.result = result_of(rest);
-    else if ((rest = after(line, "store"))) {
+        if (level < WITH_MARK)
+            expected.result.mark = expected.got.mark;
+    } else if ((rest = after(line, "store"))) {
         if (cells_of(rest, expected.store) != lent.cells)
             broken("another number of cells");
     } else if ((rest = after(line, "output"))) {
@@ -237,7 +244,8 @@ static void take(const char *line) {
     if (line[0] == '\0' || line[0] == '#')
         return;
     if ((rest = after(line, "level"))) {
-        if (strcmp(rest, "2") != 0)
+        level = word(number_of(&rest));
+        if (level != 2 && level != 3)
             broken("a level that is not known");
     } else if ((rest = after(line, "image")))
         take_image(rest);

@@ -1,6 +1,6 @@
-//! Runs a door program on inputs, and prints how it ended and what it wrote:
+//! Runs a door program on inputs, and prints how it ended, how many cells it needed, and what it wrote:
 //!     cargo run --offline -p door --example run vectors/input/members-1.img 1234 19800
-//! It lends 8,192 cells, 64 output places and 100,000 steps. Exits 1 where the image is refused or the run does not
+//! It lends 65,536 cells, 64 output places and 100,000 steps. Exits 1 where the image is refused or the run does not
 //! finish, 2 where the image cannot be read or an input is no number.
 use door::Outcome;
 use std::process::ExitCode;
@@ -24,7 +24,7 @@ fn image_and_input(mut words: impl Iterator<Item = String>) -> Result<(Vec<u8>, 
 }
 
 fn run(image: &[u8], input: &[i32]) -> ExitCode {
-    let mut store = vec![0; 8192];
+    let mut store = vec![0; door::STORE_MAX];
     let mut output = [0; 64];
     match door::run(image, input, &mut store, &mut output, 100_000) {
         Ok(report) => {

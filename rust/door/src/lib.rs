@@ -293,17 +293,18 @@ impl fmt::Display for Outcome {
     }
 }
 
-/// What a run that was not refused came to. Steps, inputs and outputs count from the fresh state on, over a run and all
-/// that continue it.
+/// What a run that was not refused came to. Steps, inputs, outputs and the mark are those from the fresh state on, of a
+/// run and all that continue it.
 ///
 /// ```
 /// use door::{Outcome, Report};
 ///
 /// let image = std::fs::read("../../vectors/special/smallest.img").expect("an image");
 /// let report = door::run(&image, &[], &mut [0; 3], &mut [], 100);
-/// let expected = Report { outcome: Outcome::Finished, row: 0, steps: 1, base: 0, top: 3, read: 0, written: 0 };
+/// let outcome = Outcome::Finished;
+/// let expected = Report { outcome, row: 0, steps: 1, base: 0, top: 3, read: 0, written: 0, mark: 3 };
 /// assert_eq!(report, Ok(expected));
-/// assert_eq!(expected.to_string(), "finished, statement 0, 1 step, 0 inputs read, 0 outputs written");
+/// assert_eq!(expected.to_string(), "finished, statement 0, 1 step, 0 inputs read, 0 outputs written, 3 cells needed");
 /// ```
 #[derive(Clone, Copy, Debug, PartialEq, Eq, Hash)]
 pub struct Report {
@@ -321,16 +322,19 @@ pub struct Report {
     pub read: usize,
     /// Outputs written: so many of the first output places. The others keep what they held.
     pub written: usize,
-    /// How many cells it needed: with so many it comes to the same.
+    /// The cells that the run needed. A store of so many gives the same report, the same cells and the same output; a
+    /// shorter one is refused by [`Refusal::STORE_BELOW`], or traps with [`Trap::Frame`]. Cells from here on keep what
+    /// they held. With another input or more steps the program may need more.
     pub mark: u32,
 }
 
 impl fmt::Display for Report {
     fn fmt(&self, f: &mut fmt::Formatter<'_>) -> fmt::Result {
         let plural = |count: usize| if count == 1 { "" } else { "s" };
-        let Report { outcome, row, steps, read, written, .. } = *self;
+        let Report { outcome, row, steps, read, written, mark, .. } = *self;
         write!(f, "{outcome}, statement {row}, {steps} step{}", plural(steps as usize))?;
-        write!(f, ", {read} input{} read, {written} output{} written", plural(read), plural(written))
+        write!(f, ", {read} input{} read, {written} output{} written", plural(read), plural(written))?;
+        write!(f, ", {mark} cell{} needed", plural(mark as usize))
     }
 }
 
@@ -448,7 +452,8 @@ pub fn check(image: &[u8]) -> Result<(), Refusal> {
 /// refusal leaves both as they were.
 ///
 /// With [`STORE_MAX`] cells every program begins that can begin at all; `doordump FILE.img` says how many a program
-/// needs to begin. `steps` is the only limit on time. `docs/FIRMWARE.md` says more about cells, steps and time.
+/// needs to begin, and [`Report::mark`] how many this run needed. `steps` is the only limit on time. `docs/FIRMWARE.md`
+/// says more about cells, steps and time.
 ///
 /// ```
 /// use door::{Outcome, Trap};
@@ -461,7 +466,14 @@ pub fn check(image: &[u8]) -> Result<(), Refusal> {
 /// assert_eq!(report.outcome, Outcome::Trapped(Trap::Input));
 /// assert_eq!((report.row, report.read, report.written), (6, 1, 0));
 ///
-/// // the store is too small
+/// // in as many cells as a run needed it gives the same, and in one less it traps
+/// let report = door::run(&image, &[1234, 19800], &mut store, &mut output, 10_000)?;
+/// assert_eq!(report.mark, 34);
+/// assert_eq!(door::run(&image, &[1234, 19800], &mut store[..34], &mut output, 10_000), Ok(report));
+/// let less = door::run(&image, &[1234, 19800], &mut store[..33], &mut output, 10_000)?;
+/// assert_eq!(less.outcome, Outcome::Trapped(Trap::Frame));
+///
+/// // the store is too small to begin
 /// let refusal = door::run(&image, &[1234, 19800], &mut store[..8], &mut output, 10_000).unwrap_err();
 /// assert_eq!(refusal.number, door::Refusal::STORE_BELOW);
 /// # Ok::<(), door::Refusal>(())
@@ -475,13 +487,19 @@ pub fn run(image: &[u8], input: &[i32], store: &mut [i64], output: &mut [i32], s
 /// Where a run of n steps ended with [`Outcome::StepsUsedUp`], this gives, with its report as `from`, what one run of
 /// n + `steps` steps gives: the same report, store and output. Lend what the run was lent: the same image, the store as
 /// it was left, and input and output whole, from their first place on. The lists and the store may have become longer,
-/// or shorter where what is in use still fits. So a program that waits for an input gets it by a longer list.
+/// or shorter as far as what was read, written and needed: `read`, `written` and `mark` of `from`. So a program that
+/// waits for an input gets it by a longer list.
 ///
-/// The image is checked again. Then [`Refusal::STATE`] comes where `from` has finished or trapped, where its rows and
-/// the store's cells are no state that this image can be in, where it has read or written more than the list has, or
-/// where its steps and `steps` exceed 4,294,967,295 together. A refusal leaves store and output as they were: keep the
-/// earlier report until there is a next one. Cells that were changed to another such state pass, and the run goes on
-/// from there.
+/// The image is checked again. Then [`Refusal::STATE`] comes where
+///
+/// - `from` has finished or trapped;
+/// - its row, `base`, `top` and the store's cells are no state that this image can be in;
+/// - its `mark` is below its `top`, or above the store's length;
+/// - it has read or written more than the list has;
+/// - its steps and `steps` exceed 4,294,967,295 together.
+///
+/// A refusal leaves store and output as they were: keep the earlier report until there is a next one. Cells that were
+/// changed to another such state pass, and the run goes on from there.
 ///
 /// ```
 /// use door::{Outcome, Refusal};

@@ -2,7 +2,8 @@
 
 use std::fmt;
 
-/// The nine numbers of a run, and where its newest frame begins and ends: `struct door_result` of `include/door.h`.
+/// The nine numbers of a run, where its newest frame begins and ends, and its mark: `struct door_result` of
+/// `include/door.h`.
 #[repr(C)]
 #[derive(Clone, Copy, Debug, Default, PartialEq, Eq)]
 pub struct Numbers {
@@ -16,7 +17,7 @@ pub struct Numbers {
     pub trap: u32,
     /// HALT's number with trap 10, else 0.
     pub halt: i32,
-    /// Steps taken, those of the runs that were continued among them; so are inputs and outputs counted.
+    /// Steps taken, those of the runs that were continued among them; so it is with inputs, outputs and the mark.
     pub steps: u32,
     /// The statement row: of the last step where it finished or trapped, else of the next.
     pub row: u32,
@@ -28,7 +29,7 @@ pub struct Numbers {
     pub read: u64,
     /// Outputs written.
     pub written: u64,
-    /// How many cells the run needed; 0 in a refusal.
+    /// The cells that the run needed: so many are enough, one less is not; 0 in a refusal.
     pub mark: u32,
 }
 

@@ -1,5 +1,5 @@
 //! Each refusal, outcome and trap, by an image of vectors/ that gives it. The answers are those of the vectors, which
-//! an independent model or a reader of document 01 gave.
+//! an independent model or a reader of document 01 gave; marks are worked out by hand, from the images' variables.
 use door::{Numbers, Outcome, Refusal, Report, Trap};
 
 const CELLS: usize = 8192;
@@ -76,38 +76,43 @@ fn a_refusal_leaves_store_and_output() {
 #[test]
 fn each_trap() {
     let trapped = [
-        ("special/case_9__index_4.img", Trap::Index, 1, 0, 1),
-        ("special/empty_records.img", Trap::Guard, 2, 7, 10),
-        ("special/case_8.img", Trap::Target, 3, 6, 5),
-        ("special/case_2.img", Trap::Overflow, 4, 0, 1),
-        ("special/7_DIV_0.img", Trap::Divisor, 5, 0, 1),
-        ("special/0__32.img", Trap::Bound, 6, 0, 1),
-        ("special/endless_calls.img", Trap::Frame, 7, 3, 2729),
-        ("special/read.img", Trap::Input, 8, 0, 1),
-        ("special/endless_output.img", Trap::Output, 9, 0, 8193),
-        ("special/HALT.img", Trap::Halt(-7), 10, 0, 1),
+        ("special/case_9__index_4.img", Trap::Index, 1, 0, 1, 7),
+        ("special/empty_records.img", Trap::Guard, 2, 7, 10, 9),
+        ("special/case_8.img", Trap::Target, 3, 6, 5, 11),
+        ("special/case_2.img", Trap::Overflow, 4, 0, 1, 3),
+        ("special/7_DIV_0.img", Trap::Divisor, 5, 0, 1, 3),
+        ("special/0__32.img", Trap::Bound, 6, 0, 1, 4),
+        ("special/endless_calls.img", Trap::Frame, 7, 3, 2729, 8188),
+        ("special/read.img", Trap::Input, 8, 0, 1, 4),
+        ("special/endless_output.img", Trap::Output, 9, 0, 8193, 3),
+        ("special/HALT.img", Trap::Halt(-7), 10, 0, 1, 3),
     ];
-    for (name, trap, number, row, steps) in trapped {
+    for (name, trap, number, row, steps, mark) in trapped {
         let report = run(name).unwrap_or_else(|refusal| panic!("{name}: {refusal}"));
-        assert_eq!((report.outcome, report.row, report.steps), (Outcome::Trapped(trap), row, steps), "{name}");
+        let got = (report.outcome, report.row, report.steps, report.mark);
+        assert_eq!(got, (Outcome::Trapped(trap), row, steps, mark), "{name}");
         assert_eq!(trap.number(), number);
     }
 }
 
 #[test]
 fn the_other_outcomes() {
-    let finished = Report { outcome: Outcome::Finished, row: 4, steps: 99_999, base: 1, top: 4, read: 0, written: 0 };
+    let outcome = Outcome::Finished;
+    let finished = Report { outcome, row: 4, steps: 99_999, base: 1, top: 4, read: 0, written: 0, mark: 4 };
     assert_eq!(run("special/loop_of_99999_steps.img"), Ok(finished));
     let used_up = Report { outcome: Outcome::StepsUsedUp, row: 6, steps: 100_000, ..finished };
     assert_eq!(run("special/loop_of_100001_steps.img"), Ok(used_up));
 }
 
+/// What members-1.img comes to for card 1234: 26 cells to begin with, then a call whose frame has 8.
+const OPENED: Report =
+    Report { outcome: Outcome::Finished, row: 12, steps: 43, base: 23, top: 26, read: 2, written: 1, mark: 34 };
+
 #[test]
 fn inputs_outputs_and_cells() {
     let (mut store, mut output) = ([-9; 40], [7; 2]);
     let report = door::run(&image("input/members-1.img"), &[1234, 19800], &mut store, &mut output, 200);
-    let finished = Report { outcome: Outcome::Finished, row: 12, steps: 43, base: 23, top: 26, read: 2, written: 1 };
-    assert_eq!(report, Ok(finished));
+    assert_eq!(report, Ok(OPENED));
     assert_eq!(output, [1, 7]);
     assert_eq!(store[..12], [4711, 20000, 18, 815, 19500, 4, 1234, 21000, 145, 42, 20500, 32]);
     assert_eq!(store[34..], [-9; 6]);
@@ -181,6 +186,9 @@ fn each_refusal_of_a_continue_alone() {
         Numbers { base: n.base - 1, ..n },
         Numbers { top: n.top + 1, ..n },
         Numbers { top: u32::MAX, ..n },
+        Numbers { mark: n.top - 1, ..n },
+        Numbers { mark: 41, ..n },
+        Numbers { mark: u32::MAX, ..n },
         Numbers { read: 3, ..n },
         Numbers { written: 1 << 32, ..n },
         Numbers::default(),
@@ -210,6 +218,57 @@ fn the_questions_before_the_fourteenth_come_first() {
 }
 
 #[test]
+fn the_mark_is_enough_and_one_less_is_not() {
+    let program = image("input/members-1.img");
+    let (mut whole, mut output) = ([-9; 40], [7; 2]);
+    assert_eq!(door::run(&program, &FOB, &mut whole, &mut output, 200), Ok(OPENED));
+    let (mut cut, mut same) = ([-9; 34], [7; 2]);
+    assert_eq!(door::run(&program, &FOB, &mut cut, &mut same, 200), Ok(OPENED));
+    assert_eq!((&cut[..], same), (&whole[..34], output));
+
+    // the first calls have frames of 6 cells, and lie between 26 and 32
+    let less = |cells| door::run(&program, &FOB, &mut vec![0; cells], &mut [0; 2], 200);
+    let mark = |cells| less(cells).map(|report| (report.outcome, report.mark));
+    assert_eq!(mark(33), Ok((Outcome::Trapped(Trap::Frame), 32)));
+    assert_eq!(mark(31), Ok((Outcome::Trapped(Trap::Frame), 26)));
+    assert_eq!(mark(25), Err(Refusal { number: 13, row: 0 }));
+}
+
+#[test]
+fn the_mark_is_that_of_all_slices() {
+    let marks = [(0, 26), (1, 32), (27, 32), (28, 34), (42, 34)];
+    for (steps, mark) in marks {
+        assert_eq!(Kept::after(steps).numbers.mark, mark, "{steps}");
+    }
+    // a mark is believed from the top to the store's end, and only grows
+    for (given, after) in [(26, 32), (32, 32), (33, 33), (40, 40)] {
+        let mut kept = Kept::after(0);
+        kept.numbers.mark = given;
+        assert_eq!(kept.resume(&FOB, 1).mark, after, "{given}");
+        assert_eq!(kept.resume(&FOB, 5).mark, after, "{given}");
+    }
+}
+
+#[test]
+fn a_continue_in_fewer_cells() {
+    let before = Kept::after(28);
+    let whole = Kept::after(200);
+    let mut cut = before.clone();
+    cut.store.truncate(34);
+    assert_eq!(cut.resume(&FOB, 172), whole.numbers);
+    assert_eq!((&cut.store[..], cut.output), (&whole.store[..34], whole.output));
+    let mut less = before;
+    less.store.truncate(33);
+    less.is_refused(&FOB, 172);
+
+    // before the call that needs 34 cells
+    let mut less = Kept::after(27);
+    less.store.truncate(33);
+    let trapped = less.resume(&FOB, 173);
+    assert_eq!((trapped.refusal, trapped.trap, trapped.mark), (0, 7, 32));
+}
+
+#[test]
 fn lists_and_store_may_change_their_lengths() {
     let mut kept = Kept::after(30);
     kept.store.resize(60, 5);
@@ -224,10 +283,11 @@ fn lists_and_store_may_change_their_lengths() {
 
 #[test]
 fn a_report_in_words() {
-    let report = Report { outcome: Outcome::Finished, row: 12, steps: 43, base: 23, top: 26, read: 2, written: 1 };
-    assert_eq!(report.to_string(), "finished, statement 12, 43 steps, 2 inputs read, 1 output written");
-    let report = Report { outcome: Outcome::Trapped(Trap::Halt(3)), row: 0, steps: 1, read: 1, written: 0, ..report };
-    assert_eq!(report.to_string(), "trapped: HALT(3), statement 0, 1 step, 1 input read, 0 outputs written");
+    let words = "finished, statement 12, 43 steps, 2 inputs read, 1 output written, 34 cells needed";
+    assert_eq!(OPENED.to_string(), words);
+    let report = Report { outcome: Outcome::Trapped(Trap::Halt(3)), row: 0, steps: 1, read: 1, written: 0, ..OPENED };
+    let words = "trapped: HALT(3), statement 0, 1 step, 1 input read, 0 outputs written, 34 cells needed";
+    assert_eq!(report.to_string(), words);
 }
 
 #[test]
@@ -284,8 +344,9 @@ fn the_limits_are_those_of_the_header() {
 #[test]
 fn numbers_are_printed_in_order() {
     let (outcome, trap, halt) = (3, 4, -5);
-    let (row, steps, base, top) = (6, 7, 10, 11);
-    let numbers = Numbers { refusal: 1, fault: 2, outcome, trap, halt, steps, row, base, top, read: 8, written: 9 };
+    let (row, steps, read, written) = (6, 7, 8, 9);
+    let (base, top, mark) = (10, 11, 12);
+    let numbers = Numbers { refusal: 1, fault: 2, outcome, trap, halt, steps, row, base, top, read, written, mark };
     assert_eq!(numbers.in_order(), [1, 2, 3, 4, -5, 6, 7, 8, 9]);
     assert_eq!(numbers.to_string(), "1 2 3 4 -5 6 7 8 9");
     let many = Numbers { read: u64::MAX, written: u64::MAX - 1, ..Numbers::default() };
