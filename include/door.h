@@ -115,7 +115,7 @@ struct door_result {
  * changes no variable and no output; what earlier steps did stays. What the store held before does not matter to the
  * run.
  *
- * `mark` is the largest of G + F0 and the tops that calls asked for and found room for, be it that an argument then
+ * `mark` is the largest of G + F0 and the tops that calls asked for and found room for, also where an argument then
  * traps; a call with DOOR_TRAP_FRAME does not count. So with 0 steps it is G + F0, and always at least `top` and at
  * most `store_length`. With a store of `mark` cells, and all else the same, the run gives the same result, the same
  * cells below `mark` and the same output; with any shorter one it gives DOOR_REFUSED_STORE_BELOW or DOOR_TRAP_FRAME.

@@ -1,5 +1,5 @@
 -- What a step asks for, in words; and that the mark is the largest of what the steps ask for.
-use mathlib.Core.Path.{_≡_, refl, sym, _∙_, ap}
+use mathlib.Core.Path.{_≡_, refl, _∙_}
 use mathlib.Core.Bool.{Bool, true, false}
 use mathlib.Core.List.{List}
 use mathlib.Core.Logic.{_⊎_, inl, inr, ⊎-elim}
@@ -19,7 +19,7 @@ use Rattle.semantics.specs.Memory.{Memory, Cell, tagged}
 use Rattle.semantics.specs.Layout.{Program}
 use Rattle.semantics.specs.Stepping.{State, Next, Next.goes, Next.finished, Next.trapped, Next.stuck, stepOf}
 use Rattle.semantics.specs.Running.{askedBy, raised, Ended, onward, runFrom}
-use Rattle.semantics.specs.After.{Machine, Machine.running, moved, after}
+use Rattle.semantics.specs.After.{Machine.running, moved, after}
 use Rattle.marks.specs.Marks.{Asks, AskedWithin, Largest}
 
 module _ (g : Program) (s : Registers) where

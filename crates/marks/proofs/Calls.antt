@@ -1,6 +1,5 @@
 -- A call in a store, and in one that is longer, where the new frame fits into the shorter one.
 use mathlib.Core.Path.{_≡_, refl, sym, _∙_, ap}
-use mathlib.Core.Bool.{Bool, true, false}
 use mathlib.Core.List.{List, [], _∷_, _++_, map}
 use Prim.Native.Nat.{ℕ, zero, suc, _+_, _≤_, _<_}
 use native.Mathlib.Omega.{arith}
@@ -21,7 +20,7 @@ use Rattle.places.proofs.Owning.{frame-parts}
 use Rattle.checker.proofs.Accepted.{AcceptedTables}
 use Rattle.semantics.specs.Memory.{LINK, Memory, overwrite}
 use Rattle.semantics.specs.Layout.{Program, placeOf, kindsFrom}
-use Rattle.semantics.specs.Stepping.{State, Next, Next.goes, withCells, argumentCells, passed, entered, called}
+use Rattle.semantics.specs.Stepping.{State, Next, withCells, argumentCells, passed, entered, called}
 use Rattle.semantics.proofs.Holding.{put-length}
 use Rattle.semantics.proofs.Kinship.{scalar-layout}
 use Rattle.semantics.proofs.Objects.{kinds-room, claimed-there, claimed-within}

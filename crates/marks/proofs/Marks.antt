@@ -3,12 +3,11 @@
 -- and one with more cells too (`run-wider`, `continue-wider`), that no cell from it on is written
 -- (`run-rest`, `continue-rest`), and that a shorter store is not enough (`run-least`, `continue-least`). The definitions
 -- that they cite stand in specs/Marks.
-use mathlib.Core.Path.{_≡_, refl, sym, _∙_, ap}
+use mathlib.Core.Path.{_≡_, sym, _∙_, ap}
 use mathlib.Core.Bool.{true, false}
-use mathlib.Core.List.{List, _++_}
+use mathlib.Core.List.{List}
 use Prim.Native.Nat.{ℕ, _≤_, _<_}
 use native.Mathlib.Omega.{arith}
-use native.Mathlib.Decide.{decLe}
 use borrow.Author.Tests.{eq-eqb}
 use lib.IntN.{ℤ}
 use lib.ListN.{length, take, drop, length-map, take-append-drop}
@@ -19,14 +18,13 @@ use Rattle.image.specs.Rows.{Bytes}
 use Rattle.checker.specs.declared.CheckAnswer.the-variants.{Accepted}
 use Rattle.checker.specs.Check.{checkOf}
 use Rattle.checker.proofs.Accepted.{AcceptedTables}
-use Rattle.semantics.specs.declared.RunResult.{RunResult}
 use Rattle.semantics.specs.Memory.{Cell, tagged, bare}
 use Rattle.semantics.specs.Layout.{Program}
 use Rattle.semantics.specs.Stepping.{State}
-use Rattle.semantics.specs.Running.{programOf, firstTop, fresh, runFrom, refusal, ranOf, numbersOf, resultOf, storeAfter}
+use Rattle.semantics.specs.Running.{programOf, firstTop, fresh, runFrom, refusal, ranOf, numbersOf, resultOf}
 use Rattle.semantics.specs.Sound.{Sound}
 use Rattle.semantics.proofs.Agreeing.{numbers}
-use Rattle.semantics.proofs.Simulation.{erase, eraseEnded, fresh-erased}
+use Rattle.semantics.proofs.Simulation.{fresh-erased}
 use Rattle.semantics.proofs.Giving.{result-refusal}
 use Rattle.semantics.proofs.Beginning.{fresh-length, sound-least}
 use Rattle.semantics.proofs.Demand3.{program-accepted, program-bytes}

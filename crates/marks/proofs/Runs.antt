@@ -1,9 +1,9 @@
 -- A run in a store, and in one that is longer: where the longer one's mark lies within the shorter store the two are the
 -- same, and where it lies beyond, the shorter one's run ends with trap 7. From any state of any memory.
-use mathlib.Core.Path.{_≡_, refl, sym, _∙_, ap}
+use mathlib.Core.Path.{_≡_, refl, sym, _∙_}
 use mathlib.Core.List.{List, _++_}
 use mathlib.Core.Logic.{⊎-elim}
-use Prim.Native.Nat.{ℕ, zero, suc, _+_, _≤_, _<_, max}
+use Prim.Native.Nat.{ℕ, zero, suc, _+_, _≤_, _<_}
 use native.Mathlib.Omega.{arith}
 use native.Mathlib.Decide.{decLe}
 use borrow.Author.Tests.{lt-ltb, eqb-true, eq-eqb, ne-eqb}
@@ -17,7 +17,7 @@ use Rattle.values.specs.Values.{trapNumber}
 use Rattle.checker.proofs.Accepted.{AcceptedTables}
 use Rattle.semantics.specs.Memory.{Memory}
 use Rattle.semantics.specs.Layout.{Program}
-use Rattle.semantics.specs.Stepping.{State, Next, Next.goes, Next.finished, Next.trapped, Next.stuck, called, perform}
+use Rattle.semantics.specs.Stepping.{State, Next, Next.trapped, called, perform}
 use Rattle.semantics.specs.Stepping.{stepOf}
 use Rattle.semantics.specs.Running.{askedBy, raised, Ended, onward, runFrom}
 use Rattle.marks.proofs.Longer.{longer, Longer, Longer.longer-goes, Longer.longer-end, Longer.longer-trap}

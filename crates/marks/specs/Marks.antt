@@ -23,7 +23,7 @@ pub record Asks (g : Program) (s : State Cell) (top : ℕ) : Type 0 where
       ≡ s .at .top + frameSize (g .types) (g .fields) (g .variables) (g .procedures) (rowAt (g .statements) (s .at .row) .a)
   pub passed : top ≤ length (s .cells)
 
--- one of the first n steps from s does, be it that an argument then traps
+-- one of the first n steps from s does, also where an argument then traps
 pub record AskedWithin (g : Program) (input : List ℤ) (n : ℕ) (s : State Cell) (top : ℕ) : Type 0 where
   pub steps : ℕ
   pub low : steps < n

@@ -59,7 +59,7 @@ fresh m g store output = record {
 
 -- ---- "a mark: the largest of G + F0 and the tops asked for by calls that passed the store check"
 
--- the top that the step from here asks for in a store of so many cells: a call's that passes the store check, be it that
+-- the top that the step from here asks for in a store of so many cells: a call's that passes the store check, also where
 -- an argument then traps; of any other step 0
 unfoldable pub askedBy : Program → Registers → ℕ → ℕ
 askedBy g s cells =
