@@ -6,3 +6,5 @@ pub mod Resuming
 pub mod Variables
 pub mod Continuing
 pub mod Giving
+pub mod Cutting
+pub mod Marks

@@ -3,3 +3,4 @@ pub mod State
 pub mod Passes
 pub mod Resuming
 pub mod Continuing
+pub mod Cutting

@@ -11,9 +11,14 @@ pub mod Calling
 pub mod AnyStep
 pub mod Beginning
 pub mod Demand3
+pub mod Marks
 pub mod Reporting
 pub mod Giving
 pub mod Outcomes
+pub mod Below
+pub mod Longer
+pub mod LongerCalls
+pub mod LongerRuns
 pub mod Opened
 pub mod Images
 pub mod Acceptance

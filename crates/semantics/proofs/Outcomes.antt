@@ -6,7 +6,7 @@ use mathlib.Core.List.{List}
 use mathlib.Core.Logic.{⊎-elim}
 use Prim.Native.Nat.{ℕ, zero, suc, _+_, _≤_, _<_}
 use native.Mathlib.Omega.{arith}
-use borrow.Author.Tests.{ltb-false, leb-true, lt-leb, le-leb, eqb-true, eq-eqb}
+use borrow.Author.Tests.{leb-true, lt-leb, le-leb, eqb-true, eq-eqb}
 use lib.Dec.{leb, eqb}
 use lib.IntN.{ℤ, pos}
 use lib.ListN.{length, getD}
@@ -35,6 +35,7 @@ use Rattle.semantics.proofs.Giving.{result-has}
 use Rattle.semantics.specs.Demand3.{Unchanged, NextOk, NextOk.ok-goes, NextOk.ok-finished, NextOk.ok-trapped}
 use Rattle.semantics.proofs.Beginning.{fresh-sound, fresh-length}
 use Rattle.semantics.proofs.AnyStep.{step-ok}
+use Rattle.semantics.proofs.Marks.{asked-lent}
 use Rattle.semantics.proofs.Reporting.{Keeps, Reports, Reports.reports-goes, Reports.reports-trapped}
 use Rattle.semantics.proofs.Reporting.{Reports.reports-stuck, keeps-all, keeps-on, step-reports}
 use Rattle.semantics.specs.Demand3.{SoundAfter, SoundAfter.sound-running, SoundAfter.sound-over}
@@ -213,12 +214,6 @@ pub record RunOk (g : Program) (mark : ℕ) (s : State Cell) (e : Ended Cell) : 
 record Raised (g : Program) (mark : ℕ) (s : State Cell) : Type 0 where
   kept : mark ≤ raised g s mark
   lent : mark ≤ length (s .cells) → raised g s mark ≤ length (s .cells)
-
-asked-lent : (g : Program) (s : Registers) (cells : ℕ) → askedBy g s cells ≤ cells
-unfolding askedBy
-asked-lent g s cells =
-    choose-has (λ n. n ≤ cells) _
-    (λ e. choose-has (λ n. n ≤ cells) _ (λ f. omega arith) (λ f. ltb-false _ _ f)) (λ e. omega arith)
 
 mark-raised : (g : Program) (mark : ℕ) (s : State Cell) → Raised g mark s
 unfolding raised

@@ -6,3 +6,4 @@ pub mod Running
 pub mod Sound
 pub mod After
 pub mod Demand3
+pub mod Marks

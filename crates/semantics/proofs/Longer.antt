@@ -17,19 +17,19 @@ use Rattle.values.specs.declared.Value.the-variants as Vs
 use Rattle.values.specs.declared.Trap.{Trap}
 use Rattle.values.specs.declared.Answer.{Answer}
 use Rattle.values.specs.declared.Answer.the-variants as As
 use Rattle.semantics.specs.declared.Found.{Found}
 use Rattle.semantics.specs.declared.Found.the-variants as Fs
 use Rattle.semantics.specs.declared.Place.{Place}
 use Rattle.semantics.specs.declared.Mark.{Mark}
 use Rattle.semantics.specs.declared.Mark.the-variants.{Number, Nothing}
 use Rattle.semantics.specs.Memory.{LINK, Memory, cellAt, markAt, partAt, overwrite}
 use Rattle.semantics.specs.Layout.{Program}
 use Rattle.semantics.specs.Finding.{findOf, evalOf}
 use Rattle.semantics.specs.Stepping.{State, Next, Next.goes, Next.finished, Next.trapped, Next.stuck, onPlace, onValue}
 use Rattle.semantics.specs.Stepping.{onInteger, onBoolean, onMark, goTo, following, withCells, written, onPart}
 use Rattle.semantics.specs.Stepping.{afterRead, copied, assigned, jumped, returned, received, sent, halted}
 use Rattle.semantics.proofs.Holding.{put-length}
-use Rattle.marks.proofs.Below.{find-below, eval-below, mark-below}
+use Rattle.semantics.proofs.Below.{find-below, eval-below, mark-below}
 
 -- ---- cells
 

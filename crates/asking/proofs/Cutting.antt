@@ -12,11 +12,11 @@ use Rattle.semantics.specs.Memory.{bare}
 use Rattle.semantics.specs.Layout.{Program}
 use Rattle.semantics.specs.Stepping.{State}
 use Rattle.semantics.specs.Running.{firstTop, freshCells, fresh, runFrom, numbersOf}
 use Rattle.asking.specs.Continuing.{Left}
 use Rattle.asking.proofs.Continuing.{leftBy}
-use Rattle.marks.specs.Marks.{cut, BeyondStore}
-use Rattle.marks.proofs.Longer.{longer}
-use Rattle.marks.proofs.Runs.{longerEnded, RunsLonger, run-longer, run-short}
+use Rattle.asking.specs.Cutting.{cut, BeyondStore}
+use Rattle.semantics.proofs.Longer.{longer}
+use Rattle.semantics.proofs.LongerRuns.{longerEnded, RunsLonger, run-longer, run-short}
 
 -- s is a state in a store of n cells; `short` and `whole` are what a run leaves from there, and from the same state in
 -- the longer store

@@ -23,26 +23,27 @@ use Rattle.semantics.specs.Layout.{Program}
 use Rattle.semantics.specs.Stepping.{State}
 use Rattle.semantics.specs.Running.{programOf, firstTop, fresh, runFrom, refusal, ranOf, numbersOf, resultOf}
 use Rattle.semantics.specs.Sound.{Sound}
+use Rattle.semantics.specs.Marks.{Largest}
 use Rattle.semantics.proofs.Agreeing.{numbers}
 use Rattle.semantics.proofs.Simulation.{fresh-erased}
 use Rattle.semantics.proofs.Giving.{result-refusal}
 use Rattle.semantics.proofs.Beginning.{fresh-length, sound-least}
 use Rattle.semantics.proofs.Demand3.{program-accepted, program-bytes}
 use Rattle.semantics.proofs.Outcomes.{refusal-none, none-refusal, refusal-13, run-ok, ran-bare, ran-marked}
 use Rattle.asking.specs.State.{soundOf}
 use Rattle.asking.specs.Resuming.{resumed}
 use Rattle.asking.specs.Continuing.{Continuable, question14, continueRefusal, continuedOf, continueResult, Left, afterRun}
 use Rattle.asking.specs.Continuing.{afterContinue, refusalOn}
 use Rattle.asking.proofs.Built.{yes-sound}
 use Rattle.asking.proofs.Told.{sound-told}
 use Rattle.asking.proofs.Resuming.{resumed-erased, resumed-cells}
 use Rattle.asking.proofs.Continuing.{question14-exact, continue-none, none-continue, continue-refused, leftBy, run-left}
 use Rattle.asking.proofs.Continuing.{continue-left}
 use Rattle.asking.proofs.Giving.{continued-bare}
-use Rattle.marks.specs.Marks.{Largest, cut, BeyondStore}
-use Rattle.marks.proofs.Longer.{longer}
-use Rattle.marks.proofs.Asked.{largest}
-use Rattle.marks.proofs.Cutting.{same-short, same-rest, too-short, fresh-longer}
+use Rattle.asking.specs.Cutting.{cut, BeyondStore}
+use Rattle.semantics.proofs.Longer.{longer}
+use Rattle.semantics.proofs.Marks.{largest}
+use Rattle.asking.proofs.Cutting.{same-short, same-rest, too-short, fresh-longer}
 
 -- ---- a run
 

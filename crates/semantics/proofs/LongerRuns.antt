@@ -15,16 +15,16 @@ use Rattle.image.specs.Rows.{rowAt}
 use Rattle.values.specs.declared.Trap.the-variants as Ts
 use Rattle.values.specs.Values.{trapNumber}
 use Rattle.checker.proofs.Accepted.{AcceptedTables}
 use Rattle.semantics.specs.Memory.{Memory}
 use Rattle.semantics.specs.Layout.{Program}
 use Rattle.semantics.specs.Stepping.{State, Next, Next.trapped, called, perform}
 use Rattle.semantics.specs.Stepping.{stepOf}
 use Rattle.semantics.specs.Running.{askedBy, raised, Ended, onward, runFrom}
-use Rattle.marks.proofs.Longer.{longer, Longer, Longer.longer-goes, Longer.longer-end, Longer.longer-trap}
-use Rattle.marks.proofs.Longer.{Longer.longer-stuck, choose-longer, assigned-longer, gone-longer, jumped-longer}
-use Rattle.marks.proofs.Longer.{returned-longer, received-longer, sent-longer, halted-longer}
-use Rattle.marks.proofs.Calls.{called-longer}
-use Rattle.marks.proofs.Asked.{newTop, asked-call, asked-cases, asked-below}
+use Rattle.semantics.proofs.Longer.{longer, Longer, Longer.longer-goes, Longer.longer-end, Longer.longer-trap}
+use Rattle.semantics.proofs.Longer.{Longer.longer-stuck, choose-longer, assigned-longer, gone-longer, jumped-longer}
+use Rattle.semantics.proofs.Longer.{returned-longer, received-longer, sent-longer, halted-longer}
+use Rattle.semantics.proofs.LongerCalls.{called-longer}
+use Rattle.semantics.proofs.Marks.{newTop, asked-call, asked-cases, asked-below}
 
 -- where a run ended, in a store with more cells
 unfoldable pub longerEnded : {X : Type 0} → List X → Ended X → Ended X

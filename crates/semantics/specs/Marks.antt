@@ -1,18 +1,17 @@
--- "a mark: the largest of G + F0 and the tops asked for by calls that passed the store check", and a store that is cut.
+-- What a mark is, in the words of request 3: "the largest of G + F0 and the tops asked for by calls that passed the store
+-- check". `Running` has how a run finds it.
 use Prim.Native.Nat.{ℕ, _+_, _≤_, _<_}
 use mathlib.Core.Path.{_≡_}
 use mathlib.Core.List.{List}
 use mathlib.Core.Logic.{_⊎_}
 use lib.IntN.{ℤ}
-use lib.ListN.{length, take}
+use lib.ListN.{length}
 use Rattle.image.specs.Rows.{rowAt}
 use Rattle.places.specs.Places.{frameSize}
-use Rattle.semantics.specs.declared.RunResult.{RunResult}
 use Rattle.semantics.specs.Memory.{Cell, tagged}
 use Rattle.semantics.specs.Layout.{Program}
 use Rattle.semantics.specs.Stepping.{State}
 use Rattle.semantics.specs.After.{Machine.running, after}
-use Rattle.asking.specs.Continuing.{Left}
 
 -- ---- "the tops asked for by calls that passed the store check"
 
@@ -36,15 +35,3 @@ pub record Largest (g : Program) (input : List ℤ) (n : ℕ) (s : State Cell) (
   pub from-first : first ≤ mark
   pub from-calls : {top : ℕ} → AskedWithin g input n s top → top ≤ mark
   pub one-of-them : (mark ≡ first) ⊎ AskedWithin g input n s mark
-
--- ---- "with its store cut"
-
--- the same with the first n cells of the store alone
-unfoldable pub cut : ℕ → Left → Left
-cut n l = record { result = l .result; store = take n (l .store); output = l .output }
-
--- trap "7 frame beyond the store"
-pub record BeyondStore (r : RunResult) : Type 0 where
-  pub refusal : r .refusal ≡ 0
-  pub outcome : r .outcome ≡ 2
-  pub trap : r .trap ≡ 7

@@ -18,14 +18,14 @@ use Rattle.places.specs.Places.{widthOf, roomFrom, frameSize}
 use Rattle.places.proofs.Rooms.{width-var, width-other}
 use Rattle.places.proofs.Owning.{frame-parts}
 use Rattle.checker.proofs.Accepted.{AcceptedTables}
 use Rattle.semantics.specs.Memory.{LINK, Memory, overwrite}
 use Rattle.semantics.specs.Layout.{Program, placeOf, kindsFrom}
 use Rattle.semantics.specs.Stepping.{State, Next, withCells, argumentCells, passed, entered, called}
 use Rattle.semantics.proofs.Holding.{put-length}
 use Rattle.semantics.proofs.Kinship.{scalar-layout}
 use Rattle.semantics.proofs.Objects.{kinds-room, claimed-there, claimed-within}
-use Rattle.marks.proofs.Longer.{longer, Longer, Longer.longer-goes, Longer.longer-trap, overwrite-longer}
-use Rattle.marks.proofs.Longer.{choose-longer, on-find, on-eval, on-part}
+use Rattle.semantics.proofs.Longer.{longer, Longer, Longer.longer-goes, Longer.longer-trap, overwrite-longer}
+use Rattle.semantics.proofs.Longer.{choose-longer, on-find, on-eval, on-part}
 
 module _ {X : Type 0} (m : Memory X) (g : Program)
     (ok : AcceptedTables (g .types) (g .fields) (g .variables) (g .procedures) (g .nodes) (g .statements))

@@ -14,13 +14,13 @@ use Rattle.prelude.specs.Choice.{choose}
 use Rattle.prelude.proofs.Choice.{choose-yes, choose-no}
 use Rattle.image.specs.Rows.{rowAt}
 use Rattle.places.specs.Places.{frameSize}
 use Rattle.semantics.specs.declared.Registers.{Registers}
 use Rattle.semantics.specs.Memory.{Memory, Cell, tagged}
 use Rattle.semantics.specs.Layout.{Program}
 use Rattle.semantics.specs.Stepping.{State, Next, Next.goes, Next.finished, Next.trapped, Next.stuck, stepOf}
 use Rattle.semantics.specs.Running.{askedBy, raised, Ended, onward, runFrom}
 use Rattle.semantics.specs.After.{Machine.running, moved, after}
-use Rattle.marks.specs.Marks.{Asks, AskedWithin, Largest}
+use Rattle.semantics.specs.Marks.{Asks, AskedWithin, Largest}
 
 module _ (g : Program) (s : Registers) where
   -- the top behind a call of the procedure that the statement names
@@ -46,6 +46,10 @@ module _ (g : Program) (s : Registers) where
       go true call true past = inl refl
       go true call false past = inr (eqb-true _ _ call, (refl, ltb-false _ _ past))
       go false call past e = inl refl
+
+  pub asked-lent : (cells : ℕ) → askedBy g s cells ≤ cells
+  asked-lent cells =
+      ⊎-elim (λ none. omega arith) (λ some. let (call, (top, fits)) = some in omega arith) (asked-cases cells)
 
 -- ---- a run's mark does not fall
 
