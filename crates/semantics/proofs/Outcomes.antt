@@ -21,7 +21,6 @@ use Rattle.checker.specs.declared.CheckAnswer.the-variants.{Accepted, Refused}
 use Rattle.checker.specs.Check.{questionOf, checkOf, refusalOf, rowOf}
 use Rattle.checker.proofs.Chain.{refused-first}
 use Rattle.checker.proofs.Accepted.{AcceptedTables}
-use Rattle.semantics.specs.declared.Registers.{Registers}
 use Rattle.semantics.specs.Memory.{Memory, Cell, tagged, bare}
 use Rattle.semantics.specs.Layout.{Program}
 use Rattle.semantics.specs.Stepping.{State, Next, Next.goes, Next.finished, Next.trapped, Next.stuck, stepOf}
