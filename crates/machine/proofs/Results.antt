@@ -130,17 +130,15 @@ module _ (image : List ℕ) (store : List ℤ) {q : ℕ}
 -- ---- a run
 
 -- the tagged machine's, since the code's is the bare one's
-pub gives-run : (image : List ℕ) (input store output : List ℤ) (steps : ℕ) → checkOf image ≡ Accepted → Bytes image
-    → storeQuestion (programOf image) (length store) ≡ 0 → {base top : ℕ} {zeroed : List ℤ}
-    → base ≡ globalRoom (programOf image) → top ≡ firstTop (programOf image)
+pub gives-run : (image : List ℕ) (input store output : List ℤ) (steps : ℕ) → Bytes image → refusal image store ≡ 0
+    → {base top : ℕ} {zeroed : List ℤ} → base ≡ globalRoom (programOf image) → top ≡ firstTop (programOf image)
     → zeroed ≡ overwrite store 0 (replicate top (pos 0)) → {r : RunResult} {cells places : List ℤ}
     → Stops (runFrom bare (programOf image) input steps 0 top
     (stateOf (record { row = 0; base = base; top = top; read = 0; written = 0 }) zeroed output)) r cells places
     → GivesBack (refusal image store) (rowOf (checkOf image)) (ranOf image input store output steps) store output r
     cells places
-gives-run image input store output steps accepted bytes passes base top zeroed stops =
-    let none = store-refuses image store accepted ∙ passes in
-    let (here, few, room) = refusal-none image store none in
+gives-run image input store output steps bytes none base top zeroed stops =
+    let (accepted, few, room) = refusal-none image store none in
     let ran = rw (fresh-is (programOf image) store output base top zeroed, top) at stops in
     gives-ended none (ran-bare image bytes accepted input store output few room steps) (ran .answer) (ran .cells-left)
     (ran .output-left)

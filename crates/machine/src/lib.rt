@@ -53,8 +53,9 @@ fn max_of(a: u32, b: u32) -> u32
     a
 }
 
-// At most n steps more from any state, where `done` were done before, and the mark is so large. A step that goes on
-// leaves the top that it asked for, or a lower one than before it; what the last step asks for is asked once.
+// At most n steps more from any state, where `done` were done before and the mark was `first`. A step that goes on leaves
+// the top that it asked for, or one no higher than before, so that only the last step is asked. Top is read from s: read
+// from q, it costs five instructions a step more.
 pub fn advance(
     image: &&[u8],
     plan: &Plan,
@@ -82,8 +83,8 @@ pub fn advance(
             let asked = calling::asked(image, plan, store.len(), s);
             return stop_by(next, s, count, max_of(mark, asked));
         };
-        mark = max_of(mark, q.top);
         s = q;
+        mark = max_of(mark, s.top);
         k = count;
     }
     ended(0, 0, 0, k, s, mark)

@@ -1,25 +1,66 @@
+-- `machine::resume` meets its contract: the check, questions 12 to 14, and steps from where the earlier result stands.
 use mathlib.Core.Path.{_≡_, sym, _∙_}
+use mathlib.Core.Bool.{true}
+use mathlib.Core.List.{List}
 use native.Mathlib.Omega.{arith}
-use Prim.Native.Nat.{ℕ, _+_, _≤_, _<_}
+use Prim.Native.Nat.{ℕ}
+use borrow.Author.Needs.{needs}
 use borrow.Author.Tests.{not-true, not-false}
 use denote.Ref.{now}
-use Rattle.access.proofs.Opening.{opened-ready}
+use Rattle.image.specs.Rows.{Bytes}
+use Rattle.checker.specs.declared.CheckAnswer.the-variants.{Accepted}
+use Rattle.checker.specs.Check.{checkOf}
+use Rattle.semantics.specs.Running.{programOf, refusal}
 use Rattle.semantics.proofs.Outcomes.{refusal-none}
+use Rattle.access.specs.Ready.{Ready}
+use Rattle.access.proofs.Opening.{opened-ready}
+use Rattle.asking.specs.Continuing.{question14}
 use Rattle.asking.proofs.Continuing.{question14-exact, continue-refused}
-use Rattle.asking.proofs.Giving.{continue-gives, continues-14, continued-ranged, continues-run}
+use Rattle.asking.proofs.Giving.{continue-gives, continues-14, continued-ranged, continued-marked, continues-run}
 use Rattle.machine.proofs.Results.{store-refuses, gives-check, gives-store, continues-kept}
-use borrow.Author.Needs.{needs}
 use Rattle.machine.proofs.resume.Statement.{statement}
 use Rattle.machine.proofs.resume.Tie as tie
-use Rattle.machine.proofs.resume.Reads as reads
-use Rattle.machine.proofs.resume.Lts as lts
-use Rattle.access.proofs.open_image.Reads as open-image-reads
-use Rattle.machine.proofs.advance.Reads as advance-reads
-use Rattle.machine.proofs.kept.Reads as kept-reads
-use Rattle.machine.proofs.refused.Reads as refused-reads
-use Rattle.machine.proofs.refused_by.Reads as refused-by-reads
-use Rattle.machine.proofs.store_question.Reads as store-question-reads
-use Rattle.resuming.proofs.continuable.Reads as continuable-reads
+
+-- ---- place by place: behind the check
+
+module _ (c : tie.After-enum-told) where
+  abbrev opened : tie.After-open-image
+  opened = c .before .before .before
+
+  abbrev start : tie.Start
+  start = opened .before .before .before
+
+  abbrev image : List ℕ
+  image = now (start .args .t1)
+
+  accepted : checkOf image ≡ Accepted
+  accepted = sym (opened .open-image .ensures .0) ∙ c .enum-told .given .1
+
+  bytes : Bytes image
+  bytes = record { each = λ i. omega (arith, opened .before .before .shared-slice-known .given i) }
+
+  ready : Ready image (opened .open-image .last .1 .0)
+  ready =
+      opened-ready _ _ _ _ (omega arith) (c .enum-told .given .1) (sym (opened .open-image .ensures .0))
+      (opened .open-image .ensures .1)
+
+-- behind questions 12 and 13
+module _ (c : tie.Else1) where
+  abbrev checked : tie.After-enum-told
+  checked = c .before .before .before .before
+
+  none : refusal (image checked) (now (start checked .args .store)) ≡ 0
+  none = store-refuses _ _ (accepted checked) ∙ sym (c .before .store-question .ensures) ∙ c .if1 .left
+
+-- behind question 14
+module _ (c : tie.Else3) where
+  abbrev lent : tie.Else1
+  lent = c .before .before .before .before .before .before .before
+
+  passes : let args = start (checked lent) .args in
+      question14 (programOf (image (checked lent))) (now (args .input)) (now (args .store)) (now (args .output))
+      (args .from) (args .steps) ≡ true
+  passes = sym (c .before .continuable2 .ensures) ∙ not-false _ (c .if3 .left)
 
 slice-aggregate-open-image : tie.Need-slice-aggregate-open-image
 slice-aggregate-open-image c = search needs
@@ -38,21 +79,27 @@ refused-by-requires c κs = search needs
 
 returns : tie.Need-returns
 returns c =
-    continue-gives _ _ _ _ _ _ (gives-check _ _ (continue-refused _ _ _ _ _ _) _ _ _ (c .before .enum-told2 .given .1) (c .before .before .before .before .open-image .ensures .0) (c .refused-by .ensures))
+    continue-gives _ _ _ _ _ _
+    (gives-check _ _ (continue-refused _ _ _ _ _ _) _ _ _ (c .before .enum-told2 .given .1)
+    (c .before .before .before .before .open-image .ensures .0) (c .refused-by .ensures))
 
 store-question-requires : tie.Need-store-question-requires
-store-question-requires c κs = opened-ready _ _ _ _ (omega arith) (c .before .before .enum-told .given .1) (sym (c .before .before .before .before .before .open-image .ensures .0)) (c .before .before .before .before .before .open-image .ensures .1)
+store-question-requires c κs = ready (c .before .before)
 
 refused-requires : tie.Need-refused-requires
 refused-requires c κs = search needs
 
 returns-2 : tie.Need-returns-2
 returns-2 c =
-    continue-gives _ _ _ _ _ _ (gives-store _ _ (continue-refused _ _ _ _ _ _) (sym (c .before .before .before .before .before .before .before .before .open-image .ensures .0) ∙ c .before .before .before .before .before .enum-told .given .1) _ (c .before .before .store-question .ensures) (c .before .if1 .taken) (c .refused .ensures))
+    let asked = c .before .before in
+    continue-gives _ _ _ _ _ _
+    (gives-store _ _ (continue-refused _ _ _ _ _ _) (accepted (asked .before .before .before)) _
+    (asked .store-question .ensures) (c .before .if1 .taken) (c .refused .ensures))
 
 continuable-requires : tie.Need-continuable-requires
 continuable-requires c κs =
-    (opened-ready _ _ _ _ (omega arith) (c .before .before .before .before .before .before .before .before .before .enum-told .given .1) (sym (c .before .before .before .before .before .before .before .before .before .before .before .before .open-image .ensures .0)) (c .before .before .before .before .before .before .before .before .before .before .before .before .open-image .ensures .1), refusal-none _ _ (store-refuses _ (now (c .before .before .before .before .before .before .before .before .before .before .before .before .before .before .before .args .store)) (sym (c .before .before .before .before .before .before .before .before .before .before .before .before .open-image .ensures .0) ∙ c .before .before .before .before .before .before .before .before .before .enum-told .given .1) ∙ sym (c .before .before .before .before .before .before .store-question .ensures) ∙ c .before .before .before .before .before .if1 .left) .1)
+    let at = c .before .before .before .before .before in
+    (ready (checked at), refusal-none _ _ (none at) .1)
 
 kept-requires : tie.Need-kept-requires
 kept-requires c κs = search needs
@@ -65,13 +112,15 @@ same-length-2 c = search needs
 
 returns-3 : tie.Need-returns-3
 returns-3 c =
-    let bytes = c .before .before .before .before .before .before .before .before .before .before .before .before .before .before .before .before .shared-slice-known .given in
-    continue-gives _ _ _ _ _ _ (continues-kept _ _ _ _ _ _ (record { each = λ i. omega (arith, bytes i) }) (store-refuses _ (now (c .before .before .before .before .before .before .before .before .before .before .before .before .before .before .before .before .before .args .store)) (sym (c .before .before .before .before .before .before .before .before .before .before .before .before .before .before .open-image .ensures .0) ∙ c .before .before .before .before .before .before .before .before .before .before .before .enum-told .given .1) ∙ sym (c .before .before .before .before .before .before .before .before .store-question .ensures) ∙ c .before .before .before .before .before .before .before .if1 .left)
-    (c .before .before .before .before .before .before .if2 .taken) _ (c .before .continuable .ensures) (c .kept .ensures))
+    let idle = c .before .before .before .before .before .before in
+    continue-gives _ _ _ _ _ _
+    (continues-kept _ _ _ _ _ _ (bytes (checked (idle .before))) (none (idle .before)) (idle .if2 .taken) _
+    (c .before .continuable .ensures) (c .kept .ensures))
 
 continuable-requires-2 : tie.Need-continuable-requires-2
 continuable-requires-2 c κs =
-    (opened-ready _ _ _ _ (omega arith) (c .before .before .before .before .before .before .before .before .before .enum-told .given .1) (sym (c .before .before .before .before .before .before .before .before .before .before .before .before .open-image .ensures .0)) (c .before .before .before .before .before .before .before .before .before .before .before .before .open-image .ensures .1), refusal-none _ _ (store-refuses _ (now (c .before .before .before .before .before .before .before .before .before .before .before .before .before .before .before .args .store)) (sym (c .before .before .before .before .before .before .before .before .before .before .before .before .open-image .ensures .0) ∙ c .before .before .before .before .before .before .before .before .before .enum-told .given .1) ∙ sym (c .before .before .before .before .before .before .store-question .ensures) ∙ c .before .before .before .before .before .if1 .left) .1)
+    let at = c .before .before .before .before .before in
+    (ready (checked at), refusal-none _ _ (none at) .1)
 
 refused-requires-2 : tie.Need-refused-requires-2
 refused-requires-2 c κs = search needs
@@ -84,19 +133,19 @@ same-length-4 c = search needs
 
 returns-4 : tie.Need-returns-4
 returns-4 c =
-    continue-gives _ _ _ _ _ _ (continues-14 _ _ _ _ _ _ (store-refuses _ (now (c .before .before .before .before .before .before .before .before .before .before .before .before .before .before .before .before .before .before .args .store)) (sym (c .before .before .before .before .before .before .before .before .before .before .before .before .before .before .before .open-image .ensures .0) ∙ c .before .before .before .before .before .before .before .before .before .before .before .before .enum-told .given .1) ∙ sym (c .before .before .before .before .before .before .before .before .before .store-question .ensures) ∙ c .before .before .before .before .before .before .before .before .if1 .left)
+    continue-gives _ _ _ _ _ _
+    (continues-14 _ _ _ _ _ _ (none (c .before .before .before .before .before .before .before .before))
     (sym (c .before .before .continuable2 .ensures) ∙ not-true _ (c .before .if3 .taken)) (c .refused2 .ensures))
 
 advance-requires : tie.Need-advance-requires
 advance-requires c κs =
-    let bytes = c .before .before .before .before .before .before .before .before .before .before .before .before .before .before .before .before .before .before .before .before .shared-slice-known .given in
-    let passes = sym (c .before .before .before .before .before .continuable2 .ensures) ∙ not-false _ (c .before .before .before .before .if3 .left) in
-    let may = question14-exact _ (sym (c .before .before .before .before .before .before .before .before .before .before .before .before .before .before .before .before .before .before .open-image .ensures .0) ∙ c .before .before .before .before .before .before .before .before .before .before .before .before .before .before .before .enum-told .given .1) _ _ _ _ _ .0 passes in
-    let ranged = continued-ranged _ _ _ _ _ _ (record { each = λ i. omega (arith, bytes i) }) (store-refuses _ (now (c .before .before .before .before .before .before .before .before .before .before .before .before .before .before .before .before .before .before .before .before .before .args .store)) (sym (c .before .before .before .before .before .before .before .before .before .before .before .before .before .before .before .before .before .before .open-image .ensures .0) ∙ c .before .before .before .before .before .before .before .before .before .before .before .before .before .before .before .enum-told .given .1) ∙ sym (c .before .before .before .before .before .before .before .before .before .before .before .before .store-question .ensures) ∙ c .before .before .before .before .before .before .before .before .before .before .before .if1 .left) passes in (
-      opened-ready _ _ _ _ (omega arith) (c .before .before .before .before .before .before .before .before .before .before .before .before .before .before .before .enum-told .given .1) (sym (c .before .before .before .before .before .before .before .before .before .before .before .before .before .before .before .before .before .before .open-image .ensures .0)) (c .before .before .before .before .before .before .before .before .before .before .before .before .before .before .before .before .before .before .open-image .ensures .1),
-      record { row = omega (arith, ranged .row); base = omega (arith, ranged .base); top = omega (arith, ranged .top); few = ranged .few },
-      omega (arith, may .mark-top),
-      omega (arith, may .steps),
+    let at = c .before .before .before .before in
+    let here = checked (lent at) in
+    let ranged = continued-ranged _ _ _ _ _ _ (bytes here) (none (lent at)) (passes at) in (
+      ready here,
+      record { row = ranged .row; base = ranged .base; top = ranged .top; few = ranged .few },
+      continued-marked _ _ _ _ _ _ (bytes here) (none (lent at)) (passes at),
+      question14-exact _ (accepted here) _ _ _ _ _ .0 (passes at) .steps,
     )
 
 same-length-5 : tie.Need-same-length-5
@@ -107,10 +156,10 @@ same-length-6 c = search needs
 
 returns-5 : tie.Need-returns-5
 returns-5 c =
-    let bytes = c .before .before .before .before .before .before .before .before .before .before .before .before .before .before .before .before .before .before .before .before .before .before .before .shared-slice-known .given in
-    let passes = sym (c .before .before .before .before .before .before .before .before .continuable2 .ensures) ∙ not-false _ (c .before .before .before .before .before .before .before .if3 .left) in
+    let at = c .before .before .before .before .before .before .before in
     let stops = c .before .before .advance .ensures in
-    continue-gives _ _ _ _ _ _ (continues-run _ _ _ _ _ _ (record { each = λ i. omega (arith, bytes i) }) (store-refuses _ (now (c .before .before .before .before .before .before .before .before .before .before .before .before .before .before .before .before .before .before .before .before .before .before .before .before .args .store)) (sym (c .before .before .before .before .before .before .before .before .before .before .before .before .before .before .before .before .before .before .before .before .before .open-image .ensures .0) ∙ c .before .before .before .before .before .before .before .before .before .before .before .before .before .before .before .before .before .before .enum-told .given .1) ∙ sym (c .before .before .before .before .before .before .before .before .before .before .before .before .before .before .before .store-question .ensures) ∙ c .before .before .before .before .before .before .before .before .before .before .before .before .before .before .if1 .left) passes (stops .answer)
+    continue-gives _ _ _ _ _ _
+    (continues-run _ _ _ _ _ _ (bytes (checked (lent at))) (none (lent at)) (passes at) (stops .answer)
     (stops .cells-left) (stops .output-left))
 
 pub resume-spec : {M : Type 1} → statement M

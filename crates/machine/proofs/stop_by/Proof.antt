@@ -5,10 +5,6 @@ use Rattle.machine.proofs.Along.{stop-other}
 use borrow.Author.Needs.{needs}
 use Rattle.machine.proofs.stop_by.Statement.{statement}
 use Rattle.machine.proofs.stop_by.Tie as tie
-use Rattle.machine.proofs.stop_by.Reads as reads
-use Rattle.machine.proofs.stop_by.Lts as lts
-use Rattle.machine.proofs.ended.Reads as ended-reads
-use Rattle.values.proofs.trap_number.Reads as trap-number-reads
 
 enum-told : tie.Need-enum-told
 enum-told c = search needs
