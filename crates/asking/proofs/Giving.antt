@@ -28,7 +28,7 @@ use Rattle.asking.specs.Continuing.{question14, continueRefusal, continu
 use Rattle.asking.specs.Continuing.{continuedOutput}
 use Rattle.asking.proofs.Built.{yes-sound}
 use Rattle.asking.proofs.Resuming.{resumed-cells, resumed-bare}
-use Rattle.asking.proofs.Continuing.{continue-none, none-continue}
+use Rattle.asking.proofs.Continuing.{question14-exact, continue-none, none-continue}
 
 -- the numbers that a sound state has room for
 pub record Ranged (s : Registers) (store : List ℤ) : Type 0 where
@@ -97,6 +97,10 @@ module _ (image : List ℕ) (input store output : List ℤ) (from : RunResult) (
           top = omega arith;
           few = omega arith;
         }
+
+    -- with a mark that is not below top
+    pub continued-marked : from .at .top ≤ from .mark
+    continued-marked = question14-exact image accepted input store output from steps .0 passes .mark-top
 
     -- its outcome is one of the paper's
     pub continued-outcome : continuedOf image input store output from steps .outcome ≤ 2
