@@ -294,11 +294,12 @@ pub fn asked(image: &&[u8], plan: &Plan, cells: usize, s: Registers) -> u32
     requires { ⌜ Ready (now (now image)) (now plan) × (s .top ≤ 65536) ⌝ }
     ensures { λ x. ⌜ x ≡ askedBy (programOf (now (now (image .entry)))) s cells ⌝ }
 {
+    let top = s.top;
     let statement = access::statement_at(image, plan, s.row);
     if statement.kind != 1 {
         return 0;
     }
-    let end = new_top(image, plan, s.top, statement.a);
+    let end = new_top(image, plan, top, statement.a);
     if cells < end as usize {
         return 0;
     }
@@ -316,7 +317,8 @@ pub fn call(image: &&[u8], plan: &Plan, store: &mut [i64], s: Registers, stateme
 {
     let q = statement.a;
     let k = statement.b;
-    let end = new_top(image, plan, s.top, q);
+    let top = s.top;
+    let end = new_top(image, plan, top, q);
     if store.len() < end as usize {
         return Step::Trapped(Trap::Frame, 0);
     }
