@@ -4,14 +4,14 @@ use mathlib.Core.Bool.{true, false}
 use mathlib.Core.List.{List}
 use Prim.Native.Nat.{ℕ, suc, _+_, _≤_, _<_}
 use native.Mathlib.Omega.{arith}
-use borrow.Author.Tests.{lt-leb, le-leb}
+use borrow.Author.Tests.{leb-true, le-leb}
 use lib.Dec.{leb}
 use lib.IntN.{ℤ}
 use lib.ListN.{length}
 use Rattle.prelude.specs.Choice.{_also_}
 use Rattle.prelude.specs.Cells.{Filled}
 use Rattle.prelude.proofs.Cells.{filled-at}
-use Rattle.prelude.proofs.Choice.{also-left, also-right, also-pass, also-yes, also-first}
+use Rattle.prelude.proofs.Choice.{also-true, also-left, also-right, also-pass, also-yes, also-first}
 use Rattle.image.specs.Rows.{rowsOf}
 use Rattle.frames.specs.Variables.{globalsOf}
 use Rattle.frames.specs.Procedures.{firstFrom, firstVariable}
@@ -86,9 +86,6 @@ module _ (image : List ℕ) {plan : List ℕ} (ready : Ready image plan) (s : Re
   unfolding framesSound
   asked = sound-passes g s store ∙ also-pass _ (le-leb _ _ few)
 
-  pub sound-top : length store < s .top → soundOf g s store ≡ false
-  sound-top past = asked ∙ also-left _ (lt-leb _ _ past)
-
   -- a row behind the last lies in no body
   pub sound-row : rowsOf (g .statements) ≤ s .row → soundOf g s store ≡ false
   sound-row past =
@@ -130,3 +127,10 @@ module _ (g : Program) (input store output : List ℤ) (r : RunResult) (n : ℕ)
       → question14 g input store output r n ≡ soundOf g (r .at) store
   unfolding question14
   question-sound first lent marked = also-pass _ first ∙ also-first (soundOf g (r .at) store) (also-yes lent marked)
+
+-- a mark that passes lies between top and the store's end
+pub marked-top : (store : List ℤ) (r : RunResult) → markWithin store r ≡ true → r .at .top ≤ length store
+unfolding markWithin
+marked-top store r marked =
+    let (low, high) = also-true _ _ marked in
+    omega (arith, leb-true (r .at .top) (r .mark) low, leb-true (r .mark) (length store) high)

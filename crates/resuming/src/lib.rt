@@ -188,17 +188,15 @@ fn frames_sound(image: &&[u8], plan: &Plan, store: &[i64], q: u16, base: u32, to
     referents::references(image, plan, &next, store, q, base, top, &blocks)
 }
 
-// Whether the state is sound.
+// Whether the state is sound, where top lies within the store.
 fn sound(image: &&[u8], plan: &Plan, store: &[i64], s: Registers) -> bool
-    requires { ⌜ Ready (now (now image)) (now plan) × (length (now store) ≤ 65536) ⌝ }
+    requires { ⌜ Ready (now (now image)) (now plan) × (s .top ≤ length (now store))
+        × (length (now store) ≤ 65536) ⌝ }
     ensures { λ x. ⌜ x ≡ soundOf (programOf (now (now (image .entry)))) s (now (store .entry)) ⌝ }
 {
     let row = s.row;
     let base = s.base;
     let top = s.top;
-    if store.len() < top as usize {
-        return false;
-    }
     let statements = image::rows_of(access::table(*image, plan, 5));
     if statements <= row as usize {
         return false;

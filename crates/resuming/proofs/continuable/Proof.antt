@@ -1,6 +1,6 @@
 use mathlib.Core.Path.{sym, _∙_}
 use borrow.Author.Tests.{not-true, not-false}
-use Rattle.resuming.proofs.Passing.{question-unfinished, question-within, question-marked, question-sound}
+use Rattle.resuming.proofs.Passing.{question-unfinished, question-within, question-marked, question-sound, marked-top}
 use borrow.Author.Needs.{needs}
 use Rattle.resuming.proofs.continuable.Statement.{statement}
 use Rattle.resuming.proofs.continuable.Tie as tie
@@ -24,7 +24,11 @@ returns-3 : tie.Need-returns-3
 returns-3 c = sym (question-marked _ _ _ _ _ _ (sym (c .before .is-marked .ensures) ∙ not-true _ (c .if3 .taken)))
 
 sound-requires : tie.Need-sound-requires
-sound-requires c κs = search needs
+sound-requires c κs =
+    let marked = c .before in
+    let start = marked .before .before .before .before .before in
+    let within = marked-top _ _ (sym (marked .is-marked .ensures) ∙ not-false _ (c .if3 .left)) in
+    (start .pre .0, within, start .pre .1)
 
 returns-4 : tie.Need-returns-4
 returns-4 c =
