@@ -141,10 +141,11 @@ advance-requires : tie.Need-advance-requires
 advance-requires c κs =
     let at = c .before .before .before .before in
     let here = checked (lent at) in
-    let ranged = continued-ranged _ _ _ _ _ _ (bytes here) (none (lent at)) (passes at) in (
+    let ranged = continued-ranged _ _ _ _ _ _ (bytes here) (none (lent at)) (passes at) in
+    let marked = continued-marked _ _ _ _ _ _ (bytes here) (none (lent at)) (passes at) in (
       ready here,
       record { row = ranged .row; base = ranged .base; top = ranged .top; few = ranged .few },
-      continued-marked _ _ _ _ _ _ (bytes here) (none (lent at)) (passes at),
+      omega (arith, marked),
       question14-exact _ (accepted here) _ _ _ _ _ .0 (passes at) .steps,
     )
 
