@@ -142,11 +142,17 @@ advance-requires c κs =
     let at = c .before .before .before .before in
     let here = checked (lent at) in
     let ranged = continued-ranged _ _ _ _ _ _ (bytes here) (none (lent at)) (passes at) in
-    let marked = continued-marked _ _ _ _ _ _ (bytes here) (none (lent at)) (passes at) in (
+    let marked = continued-marked _ _ _ _ _ _ (bytes here) (none (lent at)) (passes at) in
+    let steps = question14-exact _ (accepted here) _ _ _ _ _ .0 (passes at) .steps in (
       ready here,
-      record { row = ranged .row; base = ranged .base; top = ranged .top; few = ranged .few },
+      record {
+        row = omega (arith, ranged .row);
+        base = omega (arith, ranged .base);
+        top = omega (arith, ranged .top);
+        few = ranged .few;
+      },
       omega (arith, marked),
-      question14-exact _ (accepted here) _ _ _ _ _ .0 (passes at) .steps,
+      omega (arith, steps),
     )
 
 same-length-5 : tie.Need-same-length-5
