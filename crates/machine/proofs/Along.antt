@@ -14,7 +14,7 @@ use Rattle.semantics.specs.Memory.{bare}
 use Rattle.semantics.specs.Layout.{Program}
 use Rattle.semantics.specs.Stepping.{State, Next, Next.goes, stepOf}
 use Rattle.semantics.specs.Running.{askedBy, raised, Ended, onward, runFrom, numbersOf}
-use Rattle.semantics.proofs.Reporting.{Reports, Reports.reports-goes, step-reports}
+use Rattle.semantics.proofs.Reporting.{goes-raised}
 use Rattle.calling.specs.declared.Step.{Step}
 use Rattle.calling.specs.declared.Step.the-variants as Steps
 use Rattle.calling.proofs.Step.{the-type as stepType}
@@ -59,12 +59,6 @@ module _ (g : Program) (input : List ℤ) where
       let more : done + n - k ≡ suc (done + n - (k + 1)) = omega arith in
       h .rest ∙ rw more
 
-  -- a step that goes on: what it asked for raises the mark as the top that it leaves does
-  goes-raised : {s u : State ℤ} (mark : ℕ) → s .at .top ≤ mark
-      → Reports input (askedBy g (s .at) (length (s .cells))) s (goes u) → raised g s mark ≡ max mark (u .at .top)
-  unfolding raised
-  goes-raised mark high (reports-goes kept top) = omega arith
-
   pub along-more : {n done first k mark : ℕ} {s₀ s : State ℤ} {q : Registers} {cells output : List ℤ}
       → Along n done first s₀ s k mark → k < done + n
       → stepOf bare g input s ≡ goes (stateOf q cells output) → OneLater q cells
@@ -72,7 +66,7 @@ module _ (g : Program) (input : List ℤ) where
       → Along n done first s₀ (stateOf q cells output) (k + 1) (max mark (q .top))
   unfolding onward
   along-more {mark = mark} {s = s} h low e later cells output =
-      let new = goes-raised mark (h .top) (rw e at (step-reports input bare g s)) in
+      let new = goes-raised input bare g mark s _ (h .top) e in
       record {
         few = omega arith;
         stands = later-stands (h .stands) later cells;

@@ -24,7 +24,7 @@ use Rattle.checker.proofs.Accepted.{AcceptedTables}
 use Rattle.semantics.specs.Memory.{Memory, Cell, tagged, bare}
 use Rattle.semantics.specs.Layout.{Program}
 use Rattle.semantics.specs.Stepping.{State, Next, Next.goes, Next.finished, Next.trapped, Next.stuck, stepOf}
-use Rattle.semantics.specs.Running.{programOf, firstTop, fresh, askedBy, raised, Ended, onward, runFrom}
+use Rattle.semantics.specs.Running.{programOf, firstTop, fresh, raised, Ended, onward, runFrom}
 use Rattle.semantics.specs.Running.{refusal, ranOf, numbersOf, refusedWith, resultBy, outputBy, resultOf}
 use Rattle.semantics.specs.Running.{outputAfter}
 use Rattle.semantics.specs.Sound.{Sound}
@@ -36,7 +36,7 @@ use Rattle.semantics.proofs.Beginning.{fresh-sound, fresh-length}
 use Rattle.semantics.proofs.AnyStep.{step-ok}
 use Rattle.semantics.proofs.Marks.{asked-lent}
 use Rattle.semantics.proofs.Reporting.{Keeps, Reports, Reports.reports-goes, Reports.reports-trapped}
-use Rattle.semantics.proofs.Reporting.{Reports.reports-stuck, keeps-all, keeps-on, step-reports}
+use Rattle.semantics.proofs.Reporting.{Reports.reports-stuck, keeps-all, keeps-on, step-reports, goes-raised}
 use Rattle.semantics.specs.Demand3.{SoundAfter, SoundAfter.sound-running, SoundAfter.sound-over}
 use Rattle.semantics.specs.Demand3.{SoundAfter.sound-failed}
 use Rattle.semantics.proofs.Demand3.{program-accepted, program-bytes, sound-after}
@@ -222,13 +222,6 @@ mark-raised g mark s =
 module _ (g : Program)
     (ok : AcceptedTables (g .types) (g .fields) (g .variables) (g .procedures) (g .nodes) (g .statements))
     (bytes : Bytes (g .nodes)) (input : List ℤ) where
-  -- a step that goes on leaves no top above the mark behind it
-  goes-below : (mark : ℕ) (s u : State Cell)
-      → Reports input (askedBy g (s .at) (length (s .cells))) s (goes u) → s .at .top ≤ mark
-      → u .at .top ≤ raised g s mark
-  unfolding raised
-  goes-below mark s u (reports-goes kept top) low = omega arith
-
   -- from every sound state
   pub run-ok : (n k mark : ℕ) (s : State Cell) → Sound g s → RunOk g mark s (runFrom tagged g input n k mark s)
   unfolding runFrom onward
@@ -240,30 +233,30 @@ module _ (g : Program)
     marked = λ low. low;
   }
   run-ok (suc n) k mark s sound =
-      go (stepOf tagged g input s) (step-ok g ok bytes s sound input) (step-reports input tagged g s)
-      (raised g s mark) refl (mark-raised g mark s) (run-ok n (k + 1))
+      go (stepOf tagged g input s) refl (step-ok g ok bytes s sound input) (raised g s mark) refl (mark-raised g mark s)
+      (run-ok n (k + 1))
     where
-      go : (x : Next Cell) → NextOk g s x → Reports input (askedBy g (s .at) (length (s .cells))) s x
-          → (new : ℕ) → raised g s mark ≡ new → Raised g mark s
+      go : (x : Next Cell) → stepOf tagged g input s ≡ x → NextOk g s x → (new : ℕ) → raised g s mark ≡ new
+          → Raised g mark s
           → ((mark : ℕ) (u : State Cell) → Sound g u → RunOk g mark u (runFrom tagged g input n (k + 1) mark u))
           → RunOk g mark s (onward x s (k + 1) new (λ u. runFrom tagged g input n (k + 1) new u))
-      go x (ok-goes {s′ = u} next cells output) reports new e up later =
+      go x step (ok-goes {s′ = u} next cells output) new e up later =
           let rest = later new u next in
           record {
             outcome = rest .outcome;
             sound = rest .sound;
             room = rest .room ∙ cells;
-            top = λ low. rest .top (omega (arith, goes-below mark s u reports low));
+            top = λ low. rest .top (omega (arith, goes-raised input tagged g mark s u low step));
             marked = λ low. rw cells at (rest .marked (omega (arith, up .lent low)));
           }
-      go x ok-finished reports new e up later = record {
+      go x step ok-finished new e up later = record {
         outcome = omega arith;
         sound = λ used. absurd (omega arith);
         room = refl;
         top = λ low. omega (arith, up .kept);
         marked = λ low. omega (arith, up .lent low);
       }
-      go x (ok-trapped same) reports new e up later = record {
+      go x step (ok-trapped same) new e up later = record {
         outcome = omega arith;
         sound = λ used. absurd (omega arith);
         room = same .cells;

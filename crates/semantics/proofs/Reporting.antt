@@ -35,7 +35,7 @@ use Rattle.semantics.specs.Stepping.{State, Next, Next.goes, Next.finish
 use Rattle.semantics.specs.Stepping.{onPlace, onValue, onInteger, onBoolean, onMark, goTo, following, withCells}
 use Rattle.semantics.specs.Stepping.{written, onPart, afterRead, copied, assigned, argumentCells, passed, entered}
 use Rattle.semantics.specs.Stepping.{called, jumped, returned, received, sent, halted, perform, stepOf}
-use Rattle.semantics.specs.Running.{askedBy}
+use Rattle.semantics.specs.Running.{askedBy, raised}
 
 -- "output places from written on keep their numbers", and a count within its lent list stays within it: from a state to
 -- a later one
@@ -292,3 +292,13 @@ module _ {X : Type 0} (input : List ℤ) where
     pub step-reports : Reports (askedBy g (s .at) (length (s .cells))) s (stepOf m g input s)
     unfolding stepOf askedBy
     step-reports = perform-reports _ _
+
+  -- a step that goes on: what it asks for raises the mark as the top that it leaves does
+  pub goes-raised : (m : Memory X) (g : Program) (mark : ℕ) (s u : State X) → s .at .top ≤ mark
+      → stepOf m g input s ≡ goes u → raised g s mark ≡ max mark (u .at .top)
+  unfolding raised
+  goes-raised m g mark s u high e = go (rw e at (step-reports m g s))
+    where
+      go : Reports (askedBy g (s .at) (length (s .cells))) s (goes u)
+          → max mark (askedBy g (s .at) (length (s .cells))) ≡ max mark (u .at .top)
+      go (reports-goes kept top) = omega arith
