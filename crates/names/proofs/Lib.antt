@@ -1,3 +1,2 @@
-pub mod Spanning
-pub mod Counting
+pub mod Naming
 pub mod Accepted

@@ -1,2 +1,2 @@
 pub mod Names
-pub mod Spans
+pub mod Often

@@ -1,164 +1,207 @@
-// Names: question 9.
+// Names: question 9, with a byte for each node.
 use image::Row;
 use image::Verdict;
+ghost use mathlib.Core.Bool.{Bool};
+ghost use mathlib.Core.List.{[], _∷_};
 ghost use mathlib.Core.Path.{_≡_};
-ghost use Prim.Native.Nat.{_+_, _≤_, _<_};
+ghost use Prim.Native.Nat.{ℕ, _≤_};
+ghost use lib.Dec.{ltb, eqb};
 ghost use lib.ListN.{length, getD};
+ghost use Rattle.prelude.specs.Choice.{choose};
 ghost use Rattle.image.specs.Faults.{lowestFault};
-ghost use Rattle.image.specs.Rows.{rowsOf};
-ghost use Rattle.names.specs.Names.{question9};
-ghost use Rattle.names.specs.Spans.{nodeReach, statementReach, spanBegins, spanPasts, begins, pasts};
-ghost use Rattle.names.specs.Spans.{nodesBegin, nodesPast, bodiesBegin, bodiesPast};
-ghost use Rattle.names.specs.Spans.{counted, countAll, Within, inOne};
+ghost use Rattle.image.specs.Rows.{rowAt, rowsOf};
+ghost use Rattle.names.specs.Names.{namesOfNode, namesOfStatement, rowsFrom, namesFrom, namesIn, question9};
+ghost use Rattle.names.specs.Often.{NEVER, ONCE, Says, more as moreOf, Named};
+ghost use Rattle.names.specs.Often.{nodeNamesA, nodeNamesB, statementNamesA};
 
-// How many node rows a row names from its a on, and how many from its b on.
-struct Reach {
-    a: u16,
-    b: u16,
+// ---- how often a node is named: one of these numbers
+
+const NEVER: u8 = 0;
+
+const ONCE: u8 = 1;
+
+const MORE: u8 = 2;
+
+// After one name more.
+fn more(byte: u8) -> u8
+    ensures { λ x. ⌜ x ≡ moreOf byte ⌝ }
+{
+    if byte == NEVER { ONCE } else { MORE }
 }
 
-fn node_reach(kind: u8) -> Reach
-    ensures { λ x. ⌜ x ≡ nodeReach kind ⌝ }
-{
-    match kind {
-        2 => Reach { a: 1, b: 0 },
-        3 => Reach { a: 1, b: 1 },
-        5 => Reach { a: 1, b: 1 },
-        6 => Reach { a: 1, b: 0 },
-        8 => Reach { a: 1, b: 0 },
-        _ => Reach { a: 0, b: 0 },
-    }
-}
+// ---- names, each counted in its row's byte, where the table has that row
 
-fn call_reach(p: &[u8], row: Row) -> Reach
-    ensures { λ x. ⌜ x ≡ statementReach (now (p .entry)) 1 row ⌝ }
+// A name of row k, if there is one.
+fn name(often: &mut [u8], named: bool, k: u16)
+    ensures { λ _. ⌜ Named (choose named (k ∷ []) []) (now (often .entry)) (now (often .exit)) ⌝ }
 {
-    let a = row.a as usize;
-    let called = image::row_at(p, a);
-    let parameters = called.b;
-    Reach {
-        a: 0,
-        b: parameters,
-    }
-}
-
-fn statement_reach(p: &[u8], row: Row) -> Reach
-    ensures { λ x. ⌜ x ≡ statementReach (now (p .entry)) (row .kind) row ⌝ }
-{
-    let kind = row.kind;
-    match kind {
-        0 => Reach { a: 1, b: 1 },
-        1 => call_reach(p, row),
-        2 => Reach { a: 1, b: 0 },
-        5 => Reach { a: 1, b: 0 },
-        6 => Reach { a: 1, b: 0 },
-        7 => Reach { a: 1, b: 0 },
-        _ => Reach { a: 0, b: 0 },
-    }
-}
-
-// One more in row k of a table of counts, where it has that row.
-fn count(t: &mut [u16], k: usize)
-    requires { ⌜ getD (now t) k 0 < 65535 ⌝ }
-    ensures { λ _. ⌜ now (t .exit) ≡ counted (now (t .entry)) k ⌝ }
-{
-    if k < t.len() {
-        let c = t[k];
-        t[k] = c + 1;
-    }
-}
-
-// A span of rows more. Empty ones are not counted: most would be counted in row 0, each waiting for the one before.
-fn count_span(starts: &mut [u16], ends: &mut [u16], from: u16, rows: u16)
-    requires { ⌜ (getD (now starts) from 0 < 65535) × (getD (now ends) (from + rows) 0 < 65535) ⌝ }
-    ensures { λ _. ⌜ now (starts .exit) ≡ countAll (now (starts .entry)) (spanBegins from rows) ⌝ }
-    ensures { λ _. ⌜ now (ends .exit) ≡ countAll (now (ends .entry)) (spanPasts from rows) ⌝ }
-{
-    if rows == 0 {
+    if !named {
         return;
     }
+    let row = k as usize;
+    if row < often.len() {
+        let byte = often[row];
+        often[row] = more(byte);
+    }
+}
+
+fn lesser(x: usize, y: usize) -> usize
+    ensures { λ z. ⌜ z ≡ choose (ltb x y) x y ⌝ }
+{
+    if x < y { x } else { y }
+}
+
+// So many rows from `from` on. No test within the loop: so the compiler takes many bytes at a time.
+fn name_rows(often: &mut [u8], from: u16, rows: u16)
+    ensures { λ _. ⌜ Named (rowsFrom from rows) (now (often .entry)) (now (often .exit)) ⌝ }
+{
     let first = from as usize;
     let past = first + rows as usize;
-    count(starts, first);
-    count(ends, past);
+    let end = lesser(often.len(), past);
+    let mut k = first;
+    while k < end {
+        let byte = often[k];
+        often[k] = more(byte);
+        k = k + 1;
+    }
 }
 
-// The two spans that a row names.
-fn count_row(starts: &mut [u16], ends: &mut [u16], row: Row, reach: Reach)
-    requires { ⌜ Within (now starts) 65000 × Within (now ends) 65000 ⌝ }
-    ensures { λ _. ⌜ now (starts .exit) ≡ countAll (now (starts .entry)) (begins row reach) ⌝ }
-    ensures { λ _. ⌜ now (ends .exit) ≡ countAll (now (ends .entry)) (pasts row reach) ⌝ }
+// Whether a is a name in a node of that kind. The kinds are asked for a and b apart, as one match on both would be a jump
+// that the processor cannot foresee.
+fn node_names_a(kind: u8) -> bool
+    ensures { λ x. ⌜ x ≡ nodeNamesA kind ⌝ }
 {
-    count_span(starts, ends, row.a, reach.a);
-    count_span(starts, ends, row.b, reach.b);
+    match kind {
+        2 => true,
+        3 => true,
+        5 => true,
+        6 => true,
+        8 => true,
+        _ => false,
+    }
 }
 
-// The spans of all nodes.
-fn count_nodes(n: &[u8], starts: &mut [u16], ends: &mut [u16])
-    requires { ⌜ (rowsOf (now n) ≤ 2048) × Within (now starts) 8192 × Within (now ends) 8192 ⌝ }
-    ensures { λ _. ⌜ now (starts .exit) ≡ countAll (now (starts .entry)) (nodesBegin (now (n .entry))) ⌝ }
-    ensures { λ _. ⌜ now (ends .exit) ≡ countAll (now (ends .entry)) (nodesPast (now (n .entry))) ⌝ }
+fn node_names_b(kind: u8) -> bool
+    ensures { λ x. ⌜ x ≡ nodeNamesB kind ⌝ }
+{
+    match kind {
+        3 => true,
+        5 => true,
+        _ => false,
+    }
+}
+
+// What a node names.
+fn name_node(often: &mut [u8], row: Row)
+    ensures { λ _. ⌜ Named (namesOfNode row) (now (often .entry)) (now (often .exit)) ⌝ }
+{
+    let kind = row.kind;
+    let a = row.a;
+    let b = row.b;
+    name(often, node_names_a(kind), a);
+    name(often, node_names_b(kind), b);
+}
+
+fn statement_names_a(kind: u8) -> bool
+    ensures { λ x. ⌜ x ≡ statementNamesA kind ⌝ }
+{
+    match kind {
+        0 => true,
+        2 => true,
+        5 => true,
+        6 => true,
+        7 => true,
+        _ => false,
+    }
+}
+
+// The arguments of a call.
+fn name_arguments(p: &[u8], often: &mut [u8], row: Row)
+    ensures { λ _. ⌜ Named (rowsFrom (row .b) (rowAt (now (p .entry)) (row .a) .b)) (now (often .entry))
+        (now (often .exit)) ⌝ }
+{
+    let a = row.a as usize;
+    let b = row.b;
+    let called = image::row_at(p, a);
+    let parameters = called.b;
+    name_rows(often, b, parameters);
+}
+
+// What a statement names.
+fn name_statement(p: &[u8], often: &mut [u8], row: Row)
+    ensures { λ _. ⌜ Named (namesOfStatement (now (p .entry)) row) (now (often .entry)) (now (often .exit)) ⌝ }
+{
+    let kind = row.kind;
+    let a = row.a;
+    let b = row.b;
+    name(often, statement_names_a(kind), a);
+    name(often, kind == 0, b);
+    if kind == 1 {
+        name_arguments(p, often, row);
+    }
+}
+
+fn name_nodes(n: &[u8], often: &mut [u8])
+    ensures { λ _. ⌜ Named (namesFrom (λ i. namesOfNode (rowAt (now (n .entry)) i)) 0 (rowsOf (now (n .entry))))
+        (now (often .entry)) (now (often .exit)) ⌝ }
 {
     let nodes = image::rows_of(n);
     let mut i: usize = 0;
     while i < nodes {
         let row = image::row_at(n, i);
-        let reach = node_reach(row.kind);
-        count_row(starts, ends, row, reach);
+        name_node(often, row);
         i = i + 1;
     }
 }
 
-// The spans of all statements.
-fn count_statements(p: &[u8], s: &[u8], starts: &mut [u16], ends: &mut [u16])
-    requires { ⌜ (rowsOf (now s) ≤ 1024) × Within (now starts) 8192 × Within (now ends) 8192 ⌝ }
-    ensures { λ _. ⌜ now (starts .exit) ≡ countAll (now (starts .entry))
-        (bodiesBegin (now (p .entry)) (now (s .entry))) ⌝ }
-    ensures { λ _. ⌜ now (ends .exit) ≡ countAll (now (ends .entry)) (bodiesPast (now (p .entry)) (now (s .entry))) ⌝ }
+fn name_statements(p: &[u8], s: &[u8], often: &mut [u8])
+    ensures { λ _. ⌜ Named (namesFrom (λ i. namesOfStatement (now (p .entry)) (rowAt (now (s .entry)) i)) 0
+        (rowsOf (now (s .entry)))) (now (often .entry)) (now (often .exit)) ⌝ }
 {
     let statements = image::rows_of(s);
     let mut i: usize = 0;
     while i < statements {
         let row = image::row_at(s, i);
-        let reach = statement_reach(p, row);
-        count_row(starts, ends, row, reach);
+        name_statement(p, often, row);
         i = i + 1;
     }
 }
 
-// Whether each of the rows is in exactly one span.
-fn each_in_one(starts: &[u16], ends: &[u16], rows: usize) -> Verdict
-    requires { ⌜ (rows ≤ 2048) × (rows ≤ length (now starts)) × (rows ≤ length (now ends)) ⌝ }
-    ensures { λ x. ⌜ x ≡ lowestFault (inOne (now (starts .entry)) (now (ends .entry))) rows ⌝ }
+// ---- the question
+
+// How often each node is named, into a table that says never of every row.
+fn count_names(n: &[u8], p: &[u8], s: &[u8], often: &mut [u8])
+    requires { ⌜ ((k : ℕ) → getD (now often) k NEVER ≡ NEVER) ⌝ }
+    ensures { λ _. ⌜ Says (namesIn (now (n .entry)) (now (p .entry)) (now (s .entry))) (now (often .exit)) ⌝ }
 {
-    let mut begun: usize = 0;
-    let mut ended: usize = 0;
+    name_nodes(n, often);
+    name_statements(p, s, often);
+}
+
+// Whether each of the rows is named once.
+fn each_once(often: &[u8], rows: usize) -> Verdict
+    requires { ⌜ (rows ≤ 2048) × (rows ≤ length (now often)) ⌝ }
+    ensures { λ x. ⌜ x ≡ lowestFault (λ k. eqb (getD (now (often .entry)) k NEVER) ONCE) rows ⌝ }
+{
     let mut k: usize = 0;
     while k < rows {
-        let next = k + 1;
-        let begin = starts[k];
-        let end = ends[k];
-        begun = begun + begin as usize;
-        ended = ended + end as usize;
-        let once = ended + 1;
-        if begun != once {
+        let byte = often[k];
+        if byte != ONCE {
             let bad = k as u16;
             return Verdict::Fault(bad);
         }
-        k = next;
+        k = k + 1;
     }
     Verdict::Kept
 }
 
 // Question 9.
 pub fn check_names(n: &[u8], p: &[u8], s: &[u8]) -> Verdict
-    requires { ⌜ (rowsOf (now n) ≤ 2048) × (rowsOf (now s) ≤ 1024) ⌝ }
+    requires { ⌜ rowsOf (now n) ≤ 2048 ⌝ }
     ensures { λ x. ⌜ x ≡ question9 (now (n .entry)) (now (p .entry)) (now (s .entry)) ⌝ }
 {
     let nodes = image::rows_of(n);
-    let mut starts = [0u16; 2048];
-    let mut ends = [0u16; 2048];
-    count_nodes(n, &mut starts, &mut ends);
-    count_statements(p, s, &mut starts, &mut ends);
-    each_in_one(&starts, &ends, nodes)
+    let mut often = [NEVER; 2048];
+    count_names(n, p, s, &mut often);
+    each_once(&often, nodes)
 }
