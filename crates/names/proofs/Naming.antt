@@ -16,7 +16,8 @@ use Rattle.image.specs.declared.Row.{Row}
 use Rattle.image.specs.Rows.{rowAt, rowsOf}
 use Rattle.image.specs.Faults.{lowestFault}
 use Rattle.image.proofs.Faults.{verdict-same}
-use Rattle.names.specs.Names.{namesOfNode, namesOfStatement, rowsFrom, namesFrom, namesIn, countIn, namedOnce, question9}
+use Rattle.names.specs.Names.{namesOfNode, namesOfStatement, rowsFrom, namesFrom, namesIn}
+use Rattle.names.specs.Names.{countIn, namedOnce, question9}
 use Rattle.names.specs.Often.{NEVER, ONCE, MORE, oftenOf, Says, more, after, Named}
 use Rattle.names.specs.Often.{nodeNamesA, nodeNamesB, statementNamesA}
 
@@ -182,8 +183,10 @@ module _ (p : List ℕ) (row : Row) where
       go (no c) (no d) (no e) (no f) (no g) (no h) =
           rw (ne-eqb _ 0 c, ne-eqb _ 1 d, ne-eqb _ 2 e, ne-eqb _ 5 f, ne-eqb _ 6 g, ne-eqb _ 7 h) refl
 
-  module _ {a b : Bool} {old bytes bytes′ : List ℕ} (at-a : a ≡ statementNamesA (row .kind)) (at-b : b ≡ eqb (row .kind) 0)
-      (first : Named (choose a (row .a ∷ []) []) old bytes) (second : Named (choose b (row .b ∷ []) []) bytes bytes′) where
+  module _ {a b : Bool} {old bytes bytes′ : List ℕ}
+      (at-a : a ≡ statementNamesA (row .kind)) (at-b : b ≡ eqb (row .kind) 0)
+      (first : Named (choose a (row .a ∷ []) []) old bytes)
+      (second : Named (choose b (row .b ∷ []) []) bytes bytes′) where
     with-passed : {bytes″ : List ℕ} → Named passed bytes′ bytes″ → Named (namesOfStatement p row) old bytes″
     unfolding operands
     with-passed rest =
@@ -202,6 +205,7 @@ module _ (p : List ℕ) (row : Row) where
 
 -- ---- the loops
 
+-- the lesser of two numbers
 pub lesser-most : (x y : ℕ) → (choose (ltb x y) x y ≤ x) × (choose (ltb x y) x y ≤ y)
 unfolding choose
 lesser-most x y = go (decLt x y)
@@ -239,7 +243,8 @@ module _ (from k : ℕ) (old bytes : List ℕ) (so-far : Named (rowsFrom from (k
       rw (q, rows-both from (k - from) 1, here) (named-both so-far (named-one bytes k room e))
 
   -- those that are left have no byte
-  pub span-end : (rows : ℕ) → from ≤ k → k ≤ from + rows → choose (ltb (length old) (from + rows)) (length old) (from + rows) ≤ k
+  pub span-end : (rows : ℕ) → from ≤ k → k ≤ from + rows
+      → choose (ltb (length old) (from + rows)) (length old) (from + rows) ≤ k
       → Named (rowsFrom from rows) old bytes
   span-end rows low high done = go (ℕ-discrete k (from + rows))
     where
@@ -254,11 +259,13 @@ module _ (from k : ℕ) (old bytes : List ℕ) (so-far : Named (rowsFrom from (k
 
 -- ---- the verdict
 
+-- a table without names
 pub never-yet : (n k : ℕ) → getD (replicate n NEVER) k NEVER ≡ NEVER
 never-yet zero k = refl
 never-yet (suc n) zero = refl
 never-yet (suc n) (suc k) = never-yet n k
 
+-- after names, each byte says how often its row is among them
 pub named-says : {names old bytes : List ℕ} → ((k : ℕ) → getD old k NEVER ≡ NEVER) → Named names old bytes
     → Says names bytes
 named-says {names} never named =

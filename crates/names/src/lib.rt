@@ -1,7 +1,6 @@
 // Names: question 9, with a byte for each node.
 use image::Row;
 use image::Verdict;
-ghost use mathlib.Core.Bool.{Bool};
 ghost use mathlib.Core.List.{[], _∷_};
 ghost use mathlib.Core.Path.{_≡_};
 ghost use Prim.Native.Nat.{ℕ, _≤_};
@@ -29,9 +28,9 @@ fn more(byte: u8) -> u8
     if byte == NEVER { ONCE } else { MORE }
 }
 
-// ---- names, each counted in its row's byte, where the table has that row
+// ---- names: each is counted in the byte of its row, where the table has that row
 
-// A name of row k, if there is one.
+// The number k, where it is a name.
 fn name(often: &mut [u8], named: bool, k: u16)
     ensures { λ _. ⌜ Named (choose named (k ∷ []) []) (now (often .entry)) (now (often .exit)) ⌝ }
 {
@@ -51,7 +50,7 @@ fn lesser(x: usize, y: usize) -> usize
     if x < y { x } else { y }
 }
 
-// So many rows from `from` on. No test within the loop: so the compiler takes many bytes at a time.
+// So many rows from `from` on. The loop stores each byte, without a test, so that the compiler takes many at a time.
 fn name_rows(often: &mut [u8], from: u16, rows: u16)
     ensures { λ _. ⌜ Named (rowsFrom from rows) (now (often .entry)) (now (often .exit)) ⌝ }
 {
@@ -66,8 +65,8 @@ fn name_rows(often: &mut [u8], from: u16, rows: u16)
     }
 }
 
-// Whether a is a name in a node of that kind. The kinds are asked for a and b apart, as one match on both would be a jump
-// that the processor cannot foresee.
+// Whether a, or b, is a name in a node of that kind. They are asked apart: one match for both is a jump to many places,
+// which the processor foresees less often.
 fn node_names_a(kind: u8) -> bool
     ensures { λ x. ⌜ x ≡ nodeNamesA kind ⌝ }
 {

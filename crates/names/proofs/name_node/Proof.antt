@@ -26,8 +26,10 @@ same-length c = search needs
 returns : tie.Need-returns
 returns c =
     let b = c .before .before in
-    let d = b .before .before .before .before .before in
-    node-named _ (d .before .node-names-a .ensures) (b .before .node-names-b .ensures) (d .name .ensures) (b .name2 .ensures)
+    let a = b .before .before .before .before .before in
+    let first = a .before .node-names-a .ensures in
+    let second = b .before .node-names-b .ensures in
+    node-named _ first second (a .name .ensures) (b .name2 .ensures)
 
 pub name-node-spec : {M : Type 1} → statement M
 name-node-spec =

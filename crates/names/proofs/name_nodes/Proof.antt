@@ -16,7 +16,8 @@ use Rattle.image.proofs.rows_of.Reads as rows-of-reads
 use Rattle.names.proofs.name_node.Reads as name-node-reads
 
 abbrev Inv-loop : tie.InvT-loop
-Inv-loop n often₀ nodes i₀ often i = (i ≤ nodes) × Named (namesFrom (λ j. namesOfNode (rowAt n j)) 0 i) often₀ often
+Inv-loop n often₀ nodes i₀ often i =
+    (i ≤ nodes) × Named (namesFrom (λ j. namesOfNode (rowAt n j)) 0 i) often₀ often
 
 abbrev μ-loop : tie.MeasureT-loop
 μ-loop n often₀ nodes i₀ often i = nodes - i

@@ -15,7 +15,8 @@ use Rattle.names.proofs.lesser.Reads as lesser-reads
 use Rattle.names.proofs.more.Reads as more-reads
 
 abbrev Inv-loop : tie.InvT-loop
-Inv-loop often₀ from rows first past end k₀ often k = (from ≤ k) × (k ≤ from + rows) × Named (rowsFrom from (k - from)) often₀ often
+Inv-loop often₀ from rows first past end k₀ often k =
+    (from ≤ k) × (k ≤ from + rows) × Named (rowsFrom from (k - from)) often₀ often
 
 abbrev μ-loop : tie.MeasureT-loop
 μ-loop often₀ from rows first past end k₀ often k = from + rows - k
@@ -29,14 +30,16 @@ lesser-requires c κs = search needs
 loop-holds : tie.Need-loop-holds Inv-loop μ-loop
 loop-holds c = (omega arith, omega arith, span-none _ _)
 
+-- the loop ends in the table, and with the rows that are named
+most : (c : tie.After-lesser Inv-loop μ-loop)
+    → (c .lesser .result ≤ length (now (c .before .before .args .often)))
+    × (c .lesser .result ≤ c .before .before .args .from + c .before .before .args .rows)
+most c = rw (c .lesser .ensures) (lesser-most _ _)
+
 -- the byte that is read and written is there
-room : (c : tie.After-slice-known2 Inv-loop μ-loop) → c .before .before .loop .k < length (c .before .before .loop .often)
-room c =
-    let b = c .before .before in
-    let s = b .before .before .before .args in
-    let end = b .before .lesser .ensures in
-    let most = lesser-most (length (now (s .often))) (s .from + s .rows) in
-    omega (arith, most .0, b .loop .inv .2 .rows)
+room : (c : tie.After-slice-known2 Inv-loop μ-loop)
+    → c .before .before .loop .k < length (c .before .before .loop .often)
+room c = let l = c .before .before in omega (arith, most (l .before) .0, l .loop .inv .2 .rows)
 
 slice-read-byte : tie.Need-slice-read-byte Inv-loop μ-loop
 slice-read-byte c = room c
@@ -51,28 +54,22 @@ add-k : tie.Need-add-k Inv-loop μ-loop
 add-k c = search needs
 
 loop-less : tie.Need-loop-less Inv-loop μ-loop
-loop-less c =
-    let b = c .before .before .before in
-    let end = b .before .lesser .ensures in
-    let most = lesser-most (length (now (b .before .before .before .args .often))) (b .before .before .before .args .from + b .before .before .before .args .rows) in
-    omega (arith, most .1)
+loop-less c = omega (arith, most (c .before .before .before .before) .1)
 
 loop-again : tie.Need-loop-again Inv-loop μ-loop
 loop-again c =
-    let b = c .before .before .before in
-    let s = b .before .before .before .args in
-    let end = b .before .lesser .ensures in
-    let most = lesser-most (length (now (s .often))) (s .from + s .rows) in
-    (omega arith, omega (arith, most .1), span-next _ _ _ _ (b .loop .inv .2) (omega arith) (room (c .before)) (c .more .ensures))
+    let l = c .before .before .before in
+    let next = span-next _ _ _ _ (l .loop .inv .2) (l .loop .inv .0) (room (c .before)) (c .more .ensures) in
+    (omega arith, omega (arith, most (l .before) .1), next)
 
 same-length : tie.Need-same-length Inv-loop μ-loop
 same-length c = c .before .loop .inv .2 .rows
 
 returns : tie.Need-returns Inv-loop μ-loop
 returns c =
-    let b = c .before in
-    let end = b .before .lesser .ensures in
-    span-end _ _ _ _ (b .loop .inv .2) _ (b .loop .inv .0) (b .loop .inv .1) (rw end at (c .loop-test .left))
+    let l = c .before in
+    let done = rw (l .before .lesser .ensures) at (c .loop-test .left) in
+    span-end _ _ _ _ (l .loop .inv .2) _ (l .loop .inv .0) (l .loop .inv .1) done
 
 pub name-rows-spec : {M : Type 1} → statement M
 name-rows-spec =

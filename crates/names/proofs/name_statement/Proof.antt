@@ -26,20 +26,22 @@ same-length c = search needs
 
 returns : tie.Need-returns
 returns c =
-    let b = c .before .before in
-    let d = b .before .before .before .before .before in
-    let e = d .before .before .before .before in
-    call-named _ _ (e .before .statement-names-a .ensures) refl (e .name .ensures) (d .name2 .ensures)
-    (b .before .before .if1 .taken) (b .name-arguments .ensures)
+    let call = c .before .before in
+    let b = call .before .before .before .before .before in
+    let a = b .before .before .before .before in
+    let first = a .before .statement-names-a .ensures in
+    call-named _ _ first refl (a .name .ensures) (b .name2 .ensures)
+    (call .before .before .if1 .taken) (call .name-arguments .ensures)
 
 same-length-2 : tie.Need-same-length-2
 same-length-2 c = search needs
 
 returns-2 : tie.Need-returns-2
 returns-2 c =
-    let d = c .before .before .before in
-    let e = d .before .before .before .before in
-    statement-named _ _ (e .before .statement-names-a .ensures) refl (e .name .ensures) (d .name2 .ensures) (c .if1 .left)
+    let b = c .before .before .before in
+    let a = b .before .before .before .before in
+    let first = a .before .statement-names-a .ensures in
+    statement-named _ _ first refl (a .name .ensures) (b .name2 .ensures) (c .if1 .left)
 
 pub name-statement-spec : {M : Type 1} → statement M
 name-statement-spec =

@@ -16,7 +16,8 @@ use Rattle.image.proofs.rows_of.Reads as rows-of-reads
 use Rattle.names.proofs.name_statement.Reads as name-statement-reads
 
 abbrev Inv-loop : tie.InvT-loop
-Inv-loop p s often₀ statements i₀ often i = (i ≤ statements) × Named (namesFrom (λ j. namesOfStatement p (rowAt s j)) 0 i) often₀ often
+Inv-loop p s often₀ statements i₀ often i =
+    (i ≤ statements) × Named (namesFrom (λ j. namesOfStatement p (rowAt s j)) 0 i) often₀ often
 
 abbrev μ-loop : tie.MeasureT-loop
 μ-loop p s often₀ statements i₀ often i = statements - i

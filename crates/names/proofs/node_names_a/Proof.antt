@@ -28,7 +28,15 @@ returns-5 c = sym (ap nodeNamesA (c .match .keys5))
 
 returns-6 : tie.Need-returns-6
 unfolding nodeNamesA
-returns-6 c = let r = c .match .rest in rw (ne-eqb _ 2 (r .0 .0 .0 .0 .1), ne-eqb _ 3 (r .0 .0 .0 .1), ne-eqb _ 5 (r .0 .0 .1), ne-eqb _ 6 (r .0 .1), ne-eqb _ 8 (r .1)) refl
+returns-6 c =
+    let r = c .match .rest in
+    rw (
+      ne-eqb _ 2 (r .0 .0 .0 .0 .1),
+      ne-eqb _ 3 (r .0 .0 .0 .1),
+      ne-eqb _ 5 (r .0 .0 .1),
+      ne-eqb _ 6 (r .0 .1),
+      ne-eqb _ 8 (r .1),
+    ) refl
 
 pub node-names-a-spec : {M : Type 1} → statement M
 node-names-a-spec = tie.close (tie.spec returns returns-2 returns-3 returns-4 returns-5 returns-6)

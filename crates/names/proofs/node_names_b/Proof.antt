@@ -16,7 +16,9 @@ returns-2 c = sym (ap nodeNamesB (c .match .keys2))
 
 returns-3 : tie.Need-returns-3
 unfolding nodeNamesB
-returns-3 c = let r = c .match .rest in rw (ne-eqb _ 3 (r .0 .1), ne-eqb _ 5 (r .1)) refl
+returns-3 c =
+    let r = c .match .rest in
+    rw (ne-eqb _ 3 (r .0 .1), ne-eqb _ 5 (r .1)) refl
 
 pub node-names-b-spec : {M : Type 1} → statement M
 node-names-b-spec = tie.close (tie.spec returns returns-2 returns-3)

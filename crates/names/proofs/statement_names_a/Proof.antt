@@ -28,7 +28,15 @@ returns-5 c = sym (ap statementNamesA (c .match .keys5))
 
 returns-6 : tie.Need-returns-6
 unfolding statementNamesA
-returns-6 c = let r = c .match .rest in rw (ne-eqb _ 0 (r .0 .0 .0 .0 .1), ne-eqb _ 2 (r .0 .0 .0 .1), ne-eqb _ 5 (r .0 .0 .1), ne-eqb _ 6 (r .0 .1), ne-eqb _ 7 (r .1)) refl
+returns-6 c =
+    let r = c .match .rest in
+    rw (
+      ne-eqb _ 0 (r .0 .0 .0 .0 .1),
+      ne-eqb _ 2 (r .0 .0 .0 .1),
+      ne-eqb _ 5 (r .0 .0 .1),
+      ne-eqb _ 6 (r .0 .1),
+      ne-eqb _ 7 (r .1),
+    ) refl
 
 pub statement-names-a-spec : {M : Type 1} → statement M
 statement-names-a-spec =
