@@ -1,13 +1,15 @@
 -- Laws of the functions that ask the questions.
 use mathlib.Core.Path.{_≡_, refl, _∙_, ap}
 use mathlib.Core.List.{List}
-use Prim.Native.Nat.{ℕ, _+_, _*_, _≤_}
+use Prim.Native.Nat.{ℕ, _+_, _*_, _≤_, _<_}
 use native.Mathlib.Omega.{arith}
-use lib.ListN.{length, take, replicate, length-replicate}
+use native.Mathlib.Decide.{decLt}
+use lib.ListN.{length, getD, take, replicate, length-replicate, getD-replicate, List·getD-eq-default}
 use Rattle.image.specs.declared.Verdict.{Verdict}
 use Rattle.image.specs.declared.Verdict.the-variants.{Kept}
 use Rattle.image.specs.Rows.{rowsOf}
-use Rattle.typing.specs.Typing.{typeOf, typeIn, passed, Typed}
+use Rattle.statements.specs.Runs.{RunsIn}
+use Rattle.typing.specs.Typing.{typeOf, question10, typeIn, passed, Typed}
 use Rattle.typing.proofs.Passing.{types-known}
 use Rattle.rules.specs.Rules.{rulesBy, question11}
 use Rattle.prelude.specs.Choice.{choose}
@@ -33,22 +35,38 @@ use Rattle.checker.specs.Prepared.{CountsFit, Leaves, Leaves.whole, Leav
 use Rattle.checker.specs.Prepared.{boundOf, Prepared, Prepared.refused, Prepared.prepared}
 use Rattle.checker.proofs.Chain.{accepted-all, chain-next, chain-stop}
 
+-- ---- the lent table, a number for each node
+
 pub zeros : (n : ℕ) → length {A = ℕ} (replicate n 0) ≡ n
 zeros n = length-replicate {A = ℕ} n 0
 
--- the table of types that question 10 fills, where it is kept
-module _ (t f v n old types : List ℕ) (x : Verdict) (table : Typed (typeOf t f v n) (passed n x) old types) (long : length old ≡ 2048)
-    (few : rowsOf n ≤ 2048) where
-  pub types-room : rowsOf n ≤ length types
-  types-room = let e = table .cells in omega arith
+pub zero-cell : (n k : ℕ) → _≡_ {A = ℕ} (getD (replicate n 0) k 0) 0
+zero-cell n k = go (decLt k n)
+  where
+    go : Dec (k < n) → _≡_ {A = ℕ} (getD (replicate n 0) k 0) 0
+    go (yes l) = getD-replicate n k 0 0 l
+    go (no l) = List·getD-eq-default (replicate n 0) 0 {n = k} (simp (length-replicate {A = ℕ}) (omega arith))
 
-  pub types-all : x ≡ Kept → typeIn (take (rowsOf n) types) ≡ typeOf t f v n
-  unfolding passed
-  types-all kept = types-known t f v n old types (rw kept at table) types-room
+-- question 8 leaves it as long as it was
+pub runs-room : (n runs : List ℕ) (m : ℕ) → RunsIn n (replicate m 0) runs → rowsOf n ≤ m → rowsOf n ≤ length runs
+runs-room n runs m table few = rw (table .cells ∙ zeros m) few
 
-  pub rules-all : (p s : List ℕ) → x ≡ Kept → rulesBy t v p n s (typeIn (take (rowsOf n) types)) ≡ question11 t f v p n s
-  unfolding question11
-  rules-all p s kept = ap (rulesBy t v p n s) (types-all kept)
+-- question 10 fills it with the types
+module _ (t f v n old types : List ℕ) (x : Verdict) (table : Typed (typeOf t f v n) (passed n x) old types) where
+  pub types-left : x ≡ question10 t f v n → Typed (typeOf t f v n) (passed n (question10 t f v n)) old types
+  types-left asked = rw asked at table
+
+  module _ (room : rowsOf n ≤ length old) where
+    pub types-room : rowsOf n ≤ length types
+    types-room = let e = table .cells in omega arith
+
+    pub types-all : x ≡ Kept → typeIn (take (rowsOf n) types) ≡ typeOf t f v n
+    unfolding passed
+    types-all kept = types-known t f v n old types (rw kept at table) types-room
+
+    pub rules-all : (p s : List ℕ) → x ≡ Kept → rulesBy t v p n s (typeIn (take (rowsOf n) types)) ≡ question11 t f v p n s
+    unfolding question11
+    rules-all p s kept = ap (rulesBy t v p n s) (types-all kept)
 
 -- ---- what is left in the plan
 

@@ -15,6 +15,7 @@ ghost use Rattle.types.specs.Question.{question4};
 ghost use Rattle.types.specs.Plan.{Plan};
 ghost use Rattle.frames.specs.Variables.{question5};
 ghost use Rattle.frames.specs.Procedures.{question6};
+ghost use Rattle.typing.specs.Typing.{question10, typeOf, passed, Typed};
 ghost use Rattle.checker.specs.declared.CheckAnswer.the-variants.{Accepted};
 ghost use Rattle.checker.specs.Check.{tableQuestion, asked, firstNo, checkOf};
 ghost use Rattle.prelude.specs.Cells.{Filled};
@@ -36,7 +37,7 @@ fn answer_of(q: u8, v: Verdict) -> CheckAnswer
     }
 }
 
-// Questions 10 and 11.
+// Questions 10 and 11. The types that question 10 finds go into a lent table, one number a node.
 fn check_meaning(
     t: &[u8],
     f: &[u8],
@@ -45,15 +46,19 @@ fn check_meaning(
     n: &[u8],
     s: &[u8],
     plan: &[u32],
+    types: &mut [u16],
 ) -> CheckAnswer
     requires { ⌜ CountsFit (now t) (now f) (now v) (now p) (now n) (now s) × (question4 (now t) (now f) ≡ Kept) ×
-        (question6 (now v) (now p) (now s) ≡ Kept) × Plan (now t) (now f) (rowsOf (now t)) (now plan) ⌝ }
+        (question6 (now v) (now p) (now s) ≡ Kept) × Plan (now t) (now f) (rowsOf (now t)) (now plan) ×
+        (rowsOf (now n) ≤ length (now types)) ⌝ }
     ensures { λ x. ⌜ x ≡ firstNo (tableQuestion (now (t .entry)) (now (f .entry)) (now (v .entry)) (now (p .entry))
         (now (n .entry)) (now (s .entry))) 10 2 ⌝ }
+    ensures types { λ x. ⌜ Typed (typeOf (now (t .entry)) (now (f .entry)) (now (v .entry)) (now (n .entry)))
+        (passed (now (n .entry)) (question10 (now (t .entry)) (now (f .entry)) (now (v .entry)) (now (n .entry))))
+        (now (types .entry)) (now (types .exit)) ⌝ }
 {
     let nodes = image::rows_of(n);
-    let mut types = [0u16; 2048];
-    let typed = typing::check_typing(t, f, plan, v, n, &mut types);
+    let typed = typing::check_typing(t, f, plan, v, n, types);
     let Verdict::Kept = typed else {
         return answer_of(10, typed);
     };
@@ -88,7 +93,9 @@ fn check_rows(
     let Verdict::Kept = nodes else {
         return answer_of(7, nodes);
     };
-    let statements = statements::check_statements(n, p, s);
+    // A number for each node: question 8's runs of arguments, then the types that questions 10 and 11 need.
+    let mut table = [0u16; 2048];
+    let statements = statements::check_statements(n, p, s, &mut table);
     let Verdict::Kept = statements else {
         return answer_of(8, statements);
     };
@@ -96,7 +103,7 @@ fn check_rows(
     let Verdict::Kept = names else {
         return answer_of(9, names);
     };
-    check_meaning(t, f, v, p, n, s, plan)
+    check_meaning(t, f, v, p, n, s, plan, &mut table)
 }
 
 // Questions 4 to 11. What question 4 finds goes into the plan, and with acceptance the places and frame sizes too.

@@ -7,7 +7,7 @@ use native.Mathlib.Omega.{arith}
 use native.Mathlib.Decide.{decLt, decLe}
 use borrow.Author.Tests.{ne-eqb, le-leb, lt-leb}
 use lib.Dec.{leb, eqb}
-use lib.ListN.{length, getD, set, replicate, length-set, length-replicate, getD-replicate, List·getD-eq-default}
+use lib.ListN.{length, getD, set, length-set}
 use lib.Seq.{getD-set-same, getD-set-other}
 use Rattle.prelude.specs.Choice.{choose}
 use Rattle.prelude.proofs.Choice.{choose-yes, choose-no}
@@ -145,14 +145,12 @@ pub written-all : (n old runs : List ℕ) (i run : ℕ) → Written n old runs i
 written-all n old runs i run w h =
     record { cells = w .cells; run = λ k high. w .filled k (omega arith) high; above = w .above }
 
--- written into zeros, it is the table
-pub zeros-runs : (n runs : List ℕ) (m : ℕ) → RunsIn n (replicate m 0) runs → Runs n runs
-zeros-runs n runs m f = record { each = λ k. go k (decLt k (rowsOf n)) }
+-- where the cells past the rows are 0, it is the table
+pub runs-all : (n old runs : List ℕ) → RunsIn n old runs → ((k : ℕ) → rowsOf n ≤ k → getD old k 0 ≡ 0) → Runs n runs
+runs-all n old runs f zeros = record { each = λ k. go k (decLt k (rowsOf n)) }
   where
-    zeros : (k : ℕ) → Dec (k < m) → _≡_ {A = ℕ} (getD (replicate m 0) k 0) 0
-    zeros k (yes l) = getD-replicate m k 0 0 l
-    zeros k (no l) = List·getD-eq-default (replicate m 0) 0 {n = k} (simp (length-replicate {A = ℕ}) (omega arith))
-
     go : (k : ℕ) → Dec (k < rowsOf n) → getD runs k 0 ≡ argumentRun n k
     go k (yes l) = f .run k l
-    go k (no l) = f .above k (omega arith) ∙ zeros k (decLt k m) ∙ sym (run-none n k (omega arith))
+    go k (no l) =
+        let past : rowsOf n ≤ k = omega arith in
+        f .above k past ∙ zeros k past ∙ sym (run-none n k past)

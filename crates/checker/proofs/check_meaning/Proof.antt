@@ -1,10 +1,8 @@
 use lib.ListN.{length}
 use Prim.Native.Nat.{_≤_}
 use denote.Ref.{now}
-use Rattle.image.specs.Rows.{rowsOf}
-use Rattle.checker.proofs.Asking.{zeros}
 use lib.Seq.{length-take-le}
-use Rattle.checker.proofs.Asking.{types-room, rules-all}
+use Rattle.checker.proofs.Asking.{types-left, types-room, rules-all}
 use Rattle.checker.proofs.Chain.{asked-fault, chain-next, chain-stop, chain-last}
 use Rattle.checker.specs.Check.{tableQuestion}
 use Rattle.prelude.specs.Choice.{choose}
@@ -22,9 +20,6 @@ use Rattle.typing.proofs.check_typing.Reads as check-typing-reads
 rows-of-requires : tie.Need-rows-of-requires
 rows-of-requires c κs = search needs
 
-slice-aggregate-check-typing : tie.Need-slice-aggregate-check-typing
-slice-aggregate-check-typing c = search needs
-
 check-typing-requires : tie.Need-check-typing-requires
 check-typing-requires c κs = search needs
 
@@ -37,19 +32,25 @@ enum-told-2 c = search needs
 answer-of-requires : tie.Need-answer-of-requires
 answer-of-requires c κs = search needs
 
+same-length : tie.Need-same-length
+same-length c = search needs
+
 returns : tie.Need-returns
 unfolding tableQuestion choose
-returns c = c .answer-of .ensures ∙ asked-fault _ _ _ (c .before .enum-told2 .given .1) ∙ sym (chain-stop _ 10 1 (c .before .before .before .before .check-typing .ensures .0) (c .before .enum-told2 .given .1))
+returns c = let k = c .before .before .before .before .before .check-typing .ensures in
+    let fault = c .before .enum-told2 .given .1 in
+    (c .answer-of .ensures ∙ asked-fault _ _ _ fault ∙ sym (chain-stop _ 10 1 (k .0) fault), types-left _ _ _ _ _ _ _ (k .1) (k .0))
 
-array-share-prefix-types : tie.Need-array-share-prefix-types
-array-share-prefix-types c = search needs
+slice-reshare-prefix-check-rules : tie.Need-slice-reshare-prefix-check-rules
+slice-reshare-prefix-check-rules c = search needs
 
 slice-aggregate-check-rules : tie.Need-slice-aggregate-check-rules
-slice-aggregate-check-rules c = let k = c .before .before .before .before .check-typing in
-    let nodes = c .before .before .before .before .before .before .rows-of in
-    let fit = c .before .before .before .before .before .before .before .before .before .before .before .before .before .before .pre .0 in
-    let room : nodes .result ≤ length (k .last .1 .1 .1 .1 .1 .0) = rw (nodes .ensures) (types-room _ _ _ _ _ _ _ (k .ensures .1) (zeros 2048) (fit .nodes)) in
-    sym (length-take-le (nodes .result) (k .last .1 .1 .1 .1 .1 .0) room)
+slice-aggregate-check-rules c = let b = c .before .before .before .before .before in
+    let nodes = b .before .before .rows-of in
+    let types = b .check-typing .last .1 .1 .1 .1 .1 .0 in
+    let pre = b .before .before .before .before .before .before .before .before .before .before .before .pre in
+    let room : nodes .result ≤ length types = rw (nodes .ensures) (types-room _ _ _ _ _ _ _ (b .check-typing .ensures .1) (pre .4)) in
+    sym (length-take-le (nodes .result) types room)
 
 check-rules-requires : tie.Need-check-rules-requires
 check-rules-requires c κs = search needs
@@ -57,30 +58,36 @@ check-rules-requires c κs = search needs
 answer-of-requires-2 : tie.Need-answer-of-requires-2
 answer-of-requires-2 c κs = search needs
 
+same-length-2 : tie.Need-same-length-2
+same-length-2 c = search needs
+
 returns-2 : tie.Need-returns-2
 unfolding tableQuestion choose
-returns-2 c = let k = c .before .before .before .before .before .before .check-typing in
-    let nodes = c .before .before .before .before .before .before .before .before .rows-of in
-    let s = c .before .before .before .before .before .before .before .before .before .before .before .before .before .before .before .before in
+returns-2 c = let b = c .before .before .before .before .before .before .before in
+    let nodes = b .before .before .rows-of in
+    let s = b .before .before .before .before .before .before .before .before .before .before .before in
+    let k = b .check-typing .ensures in
     let kept = c .before .before .before .enum-told .given .1 in
-    let ruled = c .before .check-rules .ensures in
-    let all = rules-all _ _ _ _ _ _ _ (k .ensures .1) (zeros 2048) (s .pre .0 .nodes) (now (s .args .p)) (now (s .args .s)) kept in
-    c .answer-of2 .ensures
-    ∙ sym (chain-next _ 10 1 (k .ensures .0) kept ∙ chain-last _ 11 0 (ruled ∙ rw (nodes .ensures) all) refl)
+    let all = rules-all _ _ _ _ _ _ _ (k .1) (s .pre .4) (now (s .args .p)) (now (s .args .s)) kept in (
+      c .answer-of2 .ensures
+          ∙ sym (chain-next _ 10 1 (k .0) kept ∙ chain-last _ 11 0 (c .before .check-rules .ensures ∙ rw (nodes .ensures) all) refl),
+      types-left _ _ _ _ _ _ _ (k .1) (k .0),
+    )
 
 pub check-meaning-spec : {M : Type 1} → statement M
 check-meaning-spec =
     tie.close
     (tie.spec
     rows-of-requires
-    slice-aggregate-check-typing
     check-typing-requires
     enum-told
     enum-told-2
     answer-of-requires
+    same-length
     returns
-    array-share-prefix-types
+    slice-reshare-prefix-check-rules
     slice-aggregate-check-rules
     check-rules-requires
     answer-of-requires-2
+    same-length-2
     returns-2)

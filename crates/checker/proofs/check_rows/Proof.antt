@@ -1,3 +1,4 @@
+use Rattle.checker.proofs.Asking.{zeros, zero-cell, runs-room}
 use Rattle.checker.proofs.Chain.{asked-fault, chain-next, chain-stop}
 use Rattle.checker.specs.Check.{tableQuestion}
 use Rattle.prelude.specs.Choice.{choose}
@@ -29,8 +30,9 @@ answer-of-requires c κs = search needs
 
 returns : tie.Need-returns
 unfolding tableQuestion choose
-returns c = c .answer-of .ensures ∙ asked-fault _ _ _ (c .before .enum-told2 .given .1)
-    ∙ sym (chain-stop _ 5 6 (c .before .before .before .check-variables .ensures) (c .before .enum-told2 .given .1))
+returns c = let no = c .before .enum-told2 .given .1 in
+    c .answer-of .ensures ∙ asked-fault _ _ _ no
+    ∙ sym (chain-stop _ 5 6 (c .before .before .before .check-variables .ensures) no)
 
 check-procedures-requires : tie.Need-check-procedures-requires
 check-procedures-requires c κs = search needs
@@ -46,9 +48,11 @@ answer-of-requires-2 c κs = search needs
 
 returns-2 : tie.Need-returns-2
 unfolding tableQuestion choose
-returns-2 c = c .answer-of2 .ensures ∙ asked-fault _ _ _ (c .before .enum-told4 .given .1)
-    ∙ sym (chain-next _ 5 6 (c .before .before .before .before .before .before .check-variables .ensures) (c .before .before .before .before .enum-told .given .1)
-    ∙ chain-stop _ 6 5 (c .before .before .before .check-procedures .ensures) (c .before .enum-told4 .given .1))
+returns-2 c = let no = c .before .enum-told4 .given .1 in
+    let q5 = c .before .before .before .before in
+    c .answer-of2 .ensures ∙ asked-fault _ _ _ no
+    ∙ sym (chain-next _ 5 6 (q5 .before .before .check-variables .ensures) (q5 .enum-told .given .1)
+    ∙ chain-stop _ 6 5 (c .before .before .before .check-procedures .ensures) no)
 
 check-nodes-requires : tie.Need-check-nodes-requires
 check-nodes-requires c κs = search needs
@@ -64,13 +68,20 @@ answer-of-requires-3 c κs = search needs
 
 returns-3 : tie.Need-returns-3
 unfolding tableQuestion choose
-returns-3 c = c .answer-of3 .ensures ∙ asked-fault _ _ _ (c .before .enum-told6 .given .1)
-    ∙ sym (chain-next _ 5 6 (c .before .before .before .before .before .before .before .before .before .check-variables .ensures) (c .before .before .before .before .before .before .before .enum-told .given .1)
-    ∙ chain-next _ 6 5 (c .before .before .before .before .before .before .check-procedures .ensures) (c .before .before .before .before .enum-told3 .given .1)
-    ∙ chain-stop _ 7 4 (c .before .before .before .check-nodes .ensures) (c .before .enum-told6 .given .1))
+returns-3 c = let no = c .before .enum-told6 .given .1 in
+    let q6 = c .before .before .before .before in
+    let q5 = q6 .before .before .before in
+    c .answer-of3 .ensures ∙ asked-fault _ _ _ no
+    ∙ sym (chain-next _ 5 6 (q5 .before .before .check-variables .ensures) (q5 .enum-told .given .1)
+    ∙ chain-next _ 6 5 (q6 .before .before .check-procedures .ensures) (q6 .enum-told3 .given .1)
+    ∙ chain-stop _ 7 4 (c .before .before .before .check-nodes .ensures) no)
+
+slice-aggregate-check-statements : tie.Need-slice-aggregate-check-statements
+slice-aggregate-check-statements c = search needs
 
 check-statements-requires : tie.Need-check-statements-requires
-check-statements-requires c κs = search needs
+check-statements-requires c κs = let fit = c .before .before .before .before .before .before .before .before .before .before .before .before .before .before .before .before .before .pre .0 in
+    (fit .nodes, fit .statements, rw (zeros 2048) (fit .nodes), λ k past. zero-cell 2048 k)
 
 enum-told-7 : tie.Need-enum-told-7
 enum-told-7 c = search needs
@@ -83,11 +94,15 @@ answer-of-requires-4 c κs = search needs
 
 returns-4 : tie.Need-returns-4
 unfolding tableQuestion choose
-returns-4 c = c .answer-of4 .ensures ∙ asked-fault _ _ _ (c .before .enum-told8 .given .1)
-    ∙ sym (chain-next _ 5 6 (c .before .before .before .before .before .before .before .before .before .before .before .before .check-variables .ensures) (c .before .before .before .before .before .before .before .before .before .before .enum-told .given .1)
-    ∙ chain-next _ 6 5 (c .before .before .before .before .before .before .before .before .before .check-procedures .ensures) (c .before .before .before .before .before .before .before .enum-told3 .given .1)
-    ∙ chain-next _ 7 4 (c .before .before .before .before .before .before .check-nodes .ensures) (c .before .before .before .before .enum-told5 .given .1)
-    ∙ chain-stop _ 8 3 (c .before .before .before .check-statements .ensures) (c .before .enum-told8 .given .1))
+returns-4 c = let no = c .before .enum-told8 .given .1 in
+    let q7 = c .before .before .before .before .before .before in
+    let q6 = q7 .before .before .before in
+    let q5 = q6 .before .before .before in
+    c .answer-of4 .ensures ∙ asked-fault _ _ _ no
+    ∙ sym (chain-next _ 5 6 (q5 .before .before .check-variables .ensures) (q5 .enum-told .given .1)
+    ∙ chain-next _ 6 5 (q6 .before .before .check-procedures .ensures) (q6 .enum-told3 .given .1)
+    ∙ chain-next _ 7 4 (q7 .before .before .check-nodes .ensures) (q7 .enum-told5 .given .1)
+    ∙ chain-stop _ 8 3 (c .before .before .before .before .check-statements .ensures .0) no)
 
 check-names-requires : tie.Need-check-names-requires
 check-names-requires c κs = search needs
@@ -103,24 +118,40 @@ answer-of-requires-5 c κs = search needs
 
 returns-5 : tie.Need-returns-5
 unfolding tableQuestion choose
-returns-5 c = c .answer-of5 .ensures ∙ asked-fault _ _ _ (c .before .enum-told10 .given .1)
-    ∙ sym (chain-next _ 5 6 (c .before .before .before .before .before .before .before .before .before .before .before .before .before .before .before .check-variables .ensures) (c .before .before .before .before .before .before .before .before .before .before .before .before .before .enum-told .given .1)
-    ∙ chain-next _ 6 5 (c .before .before .before .before .before .before .before .before .before .before .before .before .check-procedures .ensures) (c .before .before .before .before .before .before .before .before .before .before .enum-told3 .given .1)
-    ∙ chain-next _ 7 4 (c .before .before .before .before .before .before .before .before .before .check-nodes .ensures) (c .before .before .before .before .before .before .before .enum-told5 .given .1)
-    ∙ chain-next _ 8 3 (c .before .before .before .before .before .before .check-statements .ensures) (c .before .before .before .before .enum-told7 .given .1)
-    ∙ chain-stop _ 9 2 (c .before .before .before .check-names .ensures) (c .before .enum-told10 .given .1))
+returns-5 c = let no = c .before .enum-told10 .given .1 in
+    let q8 = c .before .before .before .before in
+    let q7 = q8 .before .before .before .before .before in
+    let q6 = q7 .before .before .before in
+    let q5 = q6 .before .before .before in
+    c .answer-of5 .ensures ∙ asked-fault _ _ _ no
+    ∙ sym (chain-next _ 5 6 (q5 .before .before .check-variables .ensures) (q5 .enum-told .given .1)
+    ∙ chain-next _ 6 5 (q6 .before .before .check-procedures .ensures) (q6 .enum-told3 .given .1)
+    ∙ chain-next _ 7 4 (q7 .before .before .check-nodes .ensures) (q7 .enum-told5 .given .1)
+    ∙ chain-next _ 8 3 (q8 .before .before .before .check-statements .ensures .0) (q8 .enum-told7 .given .1)
+    ∙ chain-stop _ 9 2 (c .before .before .before .check-names .ensures) no)
+
+slice-aggregate-check-meaning : tie.Need-slice-aggregate-check-meaning
+slice-aggregate-check-meaning c = search needs
 
 check-meaning-requires : tie.Need-check-meaning-requires
-check-meaning-requires c κs = let (fit, four, plan) = c .before .before .before .before .before .before .before .before .before .before .before .before .before .before .before .before .before .before .before .before .before .before .pre in (fit, four, sym (c .before .before .before .before .before .before .before .before .before .before .before .check-procedures .ensures) ∙ c .before .before .before .before .before .before .before .before .before .enum-told3 .given .1, plan)
+check-meaning-requires c κs = let runs = c .before .before .before .before .before .before .before in
+    let q6 = runs .before .before .before .before .before in
+    let (fit, four, plan) = q6 .before .before .before .before .before .before .before .before .before .before .before .before .before .pre in
+    (fit, four, sym (q6 .before .before .check-procedures .ensures) ∙ q6 .enum-told3 .given .1, plan, runs-room _ _ 2048 (runs .check-statements .ensures .1) (fit .nodes))
 
 returns-6 : tie.Need-returns-6
 unfolding tableQuestion choose
-returns-6 c = c .check-meaning .ensures
-    ∙ sym (chain-next _ 5 6 (c .before .before .before .before .before .before .before .before .before .before .before .before .before .before .before .check-variables .ensures) (c .before .before .before .before .before .before .before .before .before .before .before .before .before .enum-told .given .1)
-    ∙ chain-next _ 6 5 (c .before .before .before .before .before .before .before .before .before .before .before .before .check-procedures .ensures) (c .before .before .before .before .before .before .before .before .before .before .enum-told3 .given .1)
-    ∙ chain-next _ 7 4 (c .before .before .before .before .before .before .before .before .before .check-nodes .ensures) (c .before .before .before .before .before .before .before .enum-told5 .given .1)
-    ∙ chain-next _ 8 3 (c .before .before .before .before .before .before .check-statements .ensures) (c .before .before .before .before .enum-told7 .given .1)
-    ∙ chain-next _ 9 2 (c .before .before .before .check-names .ensures) (c .before .enum-told9 .given .1))
+returns-6 c = let q9 = c .before .before .before in
+    let q8 = q9 .before .before .before in
+    let q7 = q8 .before .before .before .before .before in
+    let q6 = q7 .before .before .before in
+    let q5 = q6 .before .before .before in
+    c .before .check-meaning .ensures .0
+    ∙ sym (chain-next _ 5 6 (q5 .before .before .check-variables .ensures) (q5 .enum-told .given .1)
+    ∙ chain-next _ 6 5 (q6 .before .before .check-procedures .ensures) (q6 .enum-told3 .given .1)
+    ∙ chain-next _ 7 4 (q7 .before .before .check-nodes .ensures) (q7 .enum-told5 .given .1)
+    ∙ chain-next _ 8 3 (q8 .before .before .before .check-statements .ensures .0) (q8 .enum-told7 .given .1)
+    ∙ chain-next _ 9 2 (q9 .before .before .check-names .ensures) (q9 .enum-told9 .given .1))
 
 pub check-rows-spec : {M : Type 1} → statement M
 check-rows-spec =
@@ -141,6 +172,7 @@ check-rows-spec =
     enum-told-6
     answer-of-requires-3
     returns-3
+    slice-aggregate-check-statements
     check-statements-requires
     enum-told-7
     enum-told-8
@@ -151,5 +183,6 @@ check-rows-spec =
     enum-told-10
     answer-of-requires-5
     returns-5
+    slice-aggregate-check-meaning
     check-meaning-requires
     returns-6)
