@@ -1,10 +1,9 @@
 -- Laws of the functions that ask the questions.
 use mathlib.Core.Path.{_≡_, refl, _∙_, ap}
 use mathlib.Core.List.{List}
-use Prim.Native.Nat.{ℕ, _+_, _*_, _≤_, _<_}
+use Prim.Native.Nat.{ℕ, _+_, _*_, _≤_}
 use native.Mathlib.Omega.{arith}
-use native.Mathlib.Decide.{decLt}
-use lib.ListN.{length, getD, take, replicate, length-replicate, getD-replicate, List·getD-eq-default}
+use lib.ListN.{length, take, replicate, length-replicate}
 use Rattle.image.specs.declared.Verdict.{Verdict}
 use Rattle.image.specs.declared.Verdict.the-variants.{Kept}
 use Rattle.image.specs.Rows.{rowsOf}
@@ -39,13 +38,6 @@ use Rattle.checker.proofs.Chain.{accepted-all, chain-next, chain-stop}
 
 pub zeros : (n : ℕ) → length {A = ℕ} (replicate n 0) ≡ n
 zeros n = length-replicate {A = ℕ} n 0
-
-pub zero-cell : (n k : ℕ) → _≡_ {A = ℕ} (getD (replicate n 0) k 0) 0
-zero-cell n k = go (decLt k n)
-  where
-    go : Dec (k < n) → _≡_ {A = ℕ} (getD (replicate n 0) k 0) 0
-    go (yes l) = getD-replicate n k 0 0 l
-    go (no l) = List·getD-eq-default (replicate n 0) 0 {n = k} (simp (length-replicate {A = ℕ}) (omega arith))
 
 -- question 8 leaves it as long as it was
 pub runs-room : (n runs : List ℕ) (m : ℕ) → RunsIn n (replicate m 0) runs → rowsOf n ≤ m → rowsOf n ≤ length runs

@@ -7,8 +7,8 @@ use native.Mathlib.Omega.{arith}
 use native.Mathlib.Decide.{decLt, decLe}
 use borrow.Author.Tests.{ne-eqb, le-leb, lt-leb}
 use lib.Dec.{leb, eqb}
-use lib.ListN.{length, getD, set, length-set}
-use lib.Seq.{getD-set-same, getD-set-other}
+use lib.ListN.{length, getD, set, take, length-set, List·getD-eq-default}
+use lib.Seq.{length-take-le, getD-take, getD-set-same, getD-set-other}
 use Rattle.prelude.specs.Choice.{choose}
 use Rattle.prelude.proofs.Choice.{choose-yes, choose-no}
 use Rattle.image.specs.Rows.{rowAt, rowsOf}
@@ -145,12 +145,14 @@ pub written-all : (n old runs : List ℕ) (i run : ℕ) → Written n old runs i
 written-all n old runs i run w h =
     record { cells = w .cells; run = λ k high. w .filled k (omega arith) high; above = w .above }
 
--- where the cells past the rows are 0, it is the table
-pub runs-all : (n old runs : List ℕ) → RunsIn n old runs → ((k : ℕ) → rowsOf n ≤ k → getD old k 0 ≡ 0) → Runs n runs
-runs-all n old runs f zeros = record { each = λ k. go k (decLt k (rowsOf n)) }
+-- as far as there are rows, it is the table
+pub runs-all : (n old runs : List ℕ) → RunsIn n old runs → rowsOf n ≤ length old → Runs n (take (rowsOf n) runs)
+runs-all n old runs f room = record { each = λ k. go k (decLt k (rowsOf n)) }
   where
-    go : (k : ℕ) → Dec (k < rowsOf n) → getD runs k 0 ≡ argumentRun n k
-    go k (yes l) = f .run k l
+    long : length (take (rowsOf n) runs) ≡ rowsOf n
+    long = length-take-le (rowsOf n) runs (rw (f .cells) room)
+
+    go : (k : ℕ) → Dec (k < rowsOf n) → getD (take (rowsOf n) runs) k 0 ≡ argumentRun n k
+    go k (yes l) = getD-take (rowsOf n) runs k 0 l ∙ f .run k l
     go k (no l) =
-        let past : rowsOf n ≤ k = omega arith in
-        f .above k past ∙ zeros k past ∙ sym (run-none n k past)
+        List·getD-eq-default (take (rowsOf n) runs) 0 {n = k} (rw long (omega arith)) ∙ sym (run-none n k (omega arith))

@@ -296,13 +296,13 @@ fn scan_statements(n: &[u8], runs: &[u16], p: &[u8], s: &[u8]) -> Verdict
     Verdict::Kept
 }
 
-// Question 8, with a lent table for the runs of arguments, which is 0 past the nodes.
+// Question 8. The runs of arguments go into a lent table, one number a node.
 pub fn check_statements(n: &[u8], p: &[u8], s: &[u8], runs: &mut [u16]) -> Verdict
-    requires { ⌜ (rowsOf (now n) ≤ 2048) × (rowsOf (now s) ≤ 1024) × (rowsOf (now n) ≤ length (now runs)) ×
-        ((k : ℕ) → rowsOf (now n) ≤ k → getD (now runs) k 0 ≡ 0) ⌝ }
+    requires { ⌜ (rowsOf (now n) ≤ 2048) × (rowsOf (now s) ≤ 1024) × (rowsOf (now n) ≤ length (now runs)) ⌝ }
     ensures { λ x. ⌜ x ≡ question8 (now (n .entry)) (now (p .entry)) (now (s .entry)) ⌝ }
     ensures runs { λ x. ⌜ RunsIn (now (n .entry)) (now (runs .entry)) (now (runs .exit)) ⌝ }
 {
+    let nodes = image::rows_of(n);
     fill_runs(n, runs);
-    scan_statements(n, runs, p, s)
+    scan_statements(n, &runs[..nodes], p, s)
 }

@@ -1,4 +1,4 @@
-use Rattle.checker.proofs.Asking.{zeros, zero-cell, runs-room}
+use Rattle.checker.proofs.Asking.{zeros, runs-room}
 use Rattle.checker.proofs.Chain.{asked-fault, chain-next, chain-stop}
 use Rattle.checker.specs.Check.{tableQuestion}
 use Rattle.prelude.specs.Choice.{choose}
@@ -81,7 +81,7 @@ slice-aggregate-check-statements c = search needs
 
 check-statements-requires : tie.Need-check-statements-requires
 check-statements-requires c κs = let fit = c .before .before .before .before .before .before .before .before .before .before .before .before .before .before .before .before .before .pre .0 in
-    (fit .nodes, fit .statements, rw (zeros 2048) (fit .nodes), λ k past. zero-cell 2048 k)
+    (fit .nodes, fit .statements, rw (zeros 2048) (fit .nodes))
 
 enum-told-7 : tie.Need-enum-told-7
 enum-told-7 c = search needs
