@@ -1,5 +1,6 @@
 #!/usr/bin/env python3
-"""Large images for the check, the benchmark and the examples, and the answers that document 01 gives.
+"""Large images for the check, the benchmark and the examples, small ones for question 9, and the answers that document
+01 gives.
 
 large.py          write vectors/large/
 large.py --check  compare vectors/large/ with what would be written; exits 1 where it differs
@@ -9,6 +10,16 @@ longest.img  29,713 bytes, every table full, accepted. It has arrays, records wi
 hostile.img  1,022 calls that all name the same 255 arguments. Refused by question 9, at the first of these.
 bases.img    a chain of 61 records; each node asks for the last one's first field, or for a guard from the first
              record to the last. Accepted.
+
+The others are small, and right in all but question 9, which the calls of one body decide. Their arguments follow one
+another behind the constants that they hold.
+named-3.img, named-4.img, named-256.img, named-257.img
+             so many calls that all name the same three arguments. Refused at the first of these.
+overlap.img  two calls of three arguments; the last one of the first is the first one of the second. Refused there.
+ends.img     a call of two arguments and one of three, which begins at the second one of the first. Refused there.
+falling.img  three calls of three arguments, each ending where the one before begins. Refused at the lowest argument
+             that is named twice, whose second name comes last.
+gap.img      two calls of two arguments, and between these one that nothing names. Refused there.
 
 The answers are by construction; answers.txt has them, `NAME REFUSAL ROW` to a line. Nothing here comes from the
 crates.
@@ -216,6 +227,26 @@ def bases():
     return image
 
 
+def calls(*spans):
+    """A body of calls, each with its first argument and how many it has, both by numbers. The row of argument 0 too."""
+    image = Image()
+    counts = sorted({count for _, count in spans})
+    for _ in range(sum(counts)):
+        image.variable(VALUE, INTEGER)
+    arguments = max(first + count for first, count in spans)
+    children = [image.constant(i) for i in range(arguments)]
+    begin = len(image.nodes)
+    for child in children:
+        image.node(ARGUMENT, child)
+    for first, count in spans:
+        image.statement(CALL, 1 + counts.index(count), begin + first)
+    image.add(image.procedures, 0, 0, 0, 0)
+    for count in counts:
+        image.add(image.procedures, 0, image.statement(RETURN) + 1, count, 0)
+    image.statement(RETURN)
+    return image, begin
+
+
 def files():
     """What vectors/large/ is to have: each file's bytes by its name."""
     first, (again, row) = longest(), hostile()
@@ -223,6 +254,16 @@ def files():
     if lengths != [64, 256, 256, 64, 2048, 1024]:
         sys.exit(f'large: the tables of longest.img have {lengths} rows')
     made = [('bases.img', bases(), 0, 0), ('hostile.img', again, 9, row), ('longest.img', first, 0, 0)]
+    for name, at, spans in (
+        ('ends', 1, [(0, 2), (1, 3)]),
+        ('falling', 2, [(4, 3), (2, 3), (0, 3)]),
+        ('gap', 2, [(0, 2), (3, 2)]),
+        ('overlap', 2, [(0, 3), (2, 3)]),
+        *((f'named-{times}', 0, [(0, 3)] * times) for times in (3, 4, 256, 257)),
+    ):
+        image, row = calls(*spans)
+        made.append((f'{name}.img', image, 9, row + at))
+    made.sort(key=lambda row: row[0])
     found = {name: image.bytes() for name, image, _, _ in made}
     found['answers.txt'] = ''.join(f'{name} {no} {row}\n' for name, _, no, row in made).encode('ascii')
     return found

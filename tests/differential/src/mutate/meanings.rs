@@ -6,7 +6,7 @@ use listing::{Row, Tables, FIELDS, NODES, PROCEDURES, STATEMENTS, TYPES, VARIABL
 
 type Mistake = fn(&mut Random, &mut Tables);
 
-const MISTAKES: [Mistake; 30] = [
+const MISTAKES: [Mistake; 34] = [
     other_constant_type,
     other_variable,
     other_variable,
@@ -24,10 +24,14 @@ const MISTAKES: [Mistake; 30] = [
     other_child,
     swap_names,
     swap_names,
+    named_often,
     other_variable_type,
     other_field_type,
     other_call,
     other_call,
+    shared_arguments,
+    shared_arguments,
+    fewer_parameters,
     other_element,
     compared_objects,
     other_target,
@@ -241,6 +245,18 @@ fn swap_names(random: &mut Random, tables: &mut Tables) {
     *named_at(tables, first) = other;
 }
 
+/// A designator is named up to six times, by nodes and statements that named higher ones.
+fn named_often(random: &mut Random, tables: &mut Tables) {
+    let Some(node) = find(random, &tables[NODES], |node| matches!(node.kind, 1..=4)) else { return };
+    let mut names = names(tables);
+    names.retain(|name| *named_at(tables, *name) as usize > node);
+    for _ in 0..random.between(1, 5) {
+        if let Some(name) = random.any(&names) {
+            *named_at(tables, name) = node as u16;
+        }
+    }
+}
+
 fn other_variable_type(random: &mut Random, tables: &mut Tables) {
     let types = tables[TYPES].len();
     change(
@@ -279,6 +295,42 @@ fn other_call(random: &mut Random, tables: &mut Tables) {
             }
         },
     );
+}
+
+/// Calls behind the last statement, of arguments behind the last node: all of the same ones, or each of any, so that
+/// an argument is named never, once, a few times, or so often that a byte would count to 1 again.
+fn shared_arguments(random: &mut Random, tables: &mut Tables) {
+    let procedures = tables[PROCEDURES].clone();
+    let Some(called) = find(random, &procedures, |procedure| (1..=4).contains(&procedure.b)) else { return };
+    let parameters = |called: usize| procedures[called].b as usize;
+    let count = parameters(called) + random.below(4);
+    let children = tables[NODES].len();
+    tables[NODES].extend((0..count).map(|number| row(0, 1, 0, number)));
+    tables[NODES].extend((0..count).map(|number| row(8, children + number, 0, 0)));
+    let first = children + count;
+    let same = random.chance(500);
+    for _ in 0..random.weighted(&[(1, 1), (2, 2), (2, 3), (2, 4), (2, 5), (1, 257)]) {
+        let fits = |procedure: &Row| procedure.b > 0 && procedure.b as usize <= count;
+        let other = if same { None } else { find(random, &procedures, fits) };
+        let called = other.unwrap_or(called);
+        let skipped = if same { 0 } else { random.below(count - parameters(called) + 1) };
+        tables[STATEMENTS].push(row(1, called, first + skipped, 0));
+    }
+    tables[STATEMENTS].push(row(4, 0, 0, 0));
+}
+
+/// A last parameter becomes a local, so that no call names its last argument.
+fn fewer_parameters(random: &mut Random, tables: &mut Tables) {
+    let Some(at) = find(random, &tables[PROCEDURES], |procedure| procedure.b > 1) else { return };
+    let variables = |procedure: &Row| procedure.b as usize + procedure.c as usize;
+    let globals = tables[VARIABLES].iter().filter(|variable| variable.kind == 0).count();
+    let before: usize = tables[PROCEDURES][..at].iter().map(variables).sum();
+    let procedure = &mut tables[PROCEDURES][at];
+    (procedure.b, procedure.c) = (procedure.b - 1, procedure.c.wrapping_add(1));
+    let last = globals + before + procedure.b as usize;
+    if let Some(variable) = tables[VARIABLES].get_mut(last) {
+        variable.kind = 1;
+    }
 }
 
 /// Of an array.
