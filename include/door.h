@@ -24,11 +24,11 @@ extern "C" {
 #define DOOR_STORE_MAX 65536
 
 /* The stack that a call needs, in bytes: measured, by painting the stack, and rounded up. It is no proven bound, and
- * holds for the library that this kit builds. `bash tests/stack` measures it. Check: 20,536 at most, for the longest
+ * holds for the library that this kit builds. `bash tests/stack` measures it. Check: 16,440 at most, for the longest
  * image and all of vectors/; no function of it calls itself. Run and continue: expressions of 2,048 nodes, the deepest
  * that an accepted image can have, in a thread with this stack and four pages more for the thread itself. A continue
  * needs hardly more than a run: what question 14 takes is given back before the first step. */
-#define DOOR_CHECK_STACK 20992
+#define DOOR_CHECK_STACK 16896
 #define DOOR_RUN_STACK 483328
 
 /* Refusals: the first question that is answered "no", and then the lowest row at fault. Rows count from 0. door_check

@@ -57,7 +57,7 @@ pub const IMAGE_MAX: usize = 29_713;
 pub const STORE_MAX: usize = 65_536;
 
 /// The stack that [`check`] needs, in bytes. A thread needs more, see [Stack](crate#stack).
-pub const CHECK_STACK: usize = 20_992;
+pub const CHECK_STACK: usize = 16_896;
 
 /// The stack that [`run`] or [`resume`] needs at most, in bytes. A thread needs more, see [Stack](crate#stack).
 ///
