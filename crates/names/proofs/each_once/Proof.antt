@@ -1,3 +1,4 @@
+use denote.Ref.{now}
 use Prim.Native.Nat.{_-_, _≤_}
 use native.Mathlib.Omega.{arith}
 use borrow.Author.Tests.{eq-eqb, ne-eqb}
@@ -28,8 +29,9 @@ cast-bad c = omega arith
 
 returns : tie.Need-returns Inv-loop μ-loop
 returns c =
-    let b = c .before .before in
-    scan-bad _ _ _ (b .before .loop .inv .1) (b .loop-test .taken) (ne-eqb _ ONCE (c .if1 .taken))
+    let l = c .before .before .before in
+    let byte = getD (now (l .before .args .often)) (l .loop .k) NEVER in
+    scan-bad _ _ _ (l .loop .inv .1) (c .before .before .loop-test .taken) (ne-eqb byte ONCE (omega arith))
 
 add-k : tie.Need-add-k Inv-loop μ-loop
 add-k c = omega arith
@@ -39,8 +41,9 @@ loop-less c = omega arith
 
 loop-again : tie.Need-loop-again Inv-loop μ-loop
 loop-again c =
-    let l = c .before .before .before .loop in
-    (omega arith, kept-next _ _ _ (l .inv .1) (eq-eqb _ ONCE (c .if1 .left)))
+    let l = c .before .before .before in
+    let byte = getD (now (l .before .args .often)) (l .loop .k) NEVER in
+    (omega arith, kept-next _ _ _ (l .loop .inv .1) (eq-eqb byte ONCE (omega arith)))
 
 returns-2 : tie.Need-returns-2 Inv-loop μ-loop
 returns-2 c = scan-end _ _ _ (c .before .loop .inv .1) (c .loop-test .left)
