@@ -1,7 +1,7 @@
 //! Document 01 a second time, written from the paper alone: the check, the tagged machine, and what a sound state is;
-//! and of document 02 the first three requests, to continue a run, IN's trap and the mark. It follows the papers' order
-//! and words, and prefers the direct way to the fast one. It knows nothing of the proved crates; where a paper is open
-//! it takes the readings of `docs/DECISIONS.md`.
+//! and of document 02 the first four requests: to continue a run, IN's trap and the mark; the fourth changes no answer.
+//! It follows the papers' order and words, and prefers the direct way to the fast one. It knows nothing of the proved
+//! crates; where a paper is open it takes the readings of `docs/DECISIONS.md`.
 //!
 //! | module | document 01 |
 //! |---|---|
