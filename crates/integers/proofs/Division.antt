@@ -1,42 +1,120 @@
--- DIV and MOD by a positive divisor: "DIV rounds down and 0 ≤ x MOD y < y."
-use mathlib.Core.Path.{_≡_, sym, ap}
-use mathlib.Core.Bool.{true}
+-- DIV and MOD are known by two sentences: "x = (x DIV y) × y + (x MOD y)", and the range of x MOD y. They hold for every
+-- divisor but 0 (`div-mod`), and no other two numbers meet them (`divided-once`).
+use mathlib.Core.Path.{_≡_, refl, sym, ap, _∙_}
+use mathlib.Core.Bool.{Bool, true, false}
 use Prim.Native.Nat.{ℕ, zero, suc, _+_, _-_, _*_, _/_, _%_, _<_}
 use native.Mathlib.Omega.{arith}
-use native.Mathlib.Nat.{mod-lt, div-add-mod', suc-mul}
-use borrow.Author.Tests.{ltb-true, lt-ltb, le-leb}
-use lib.IntN.{ℤ, pos, negsuc, negℤ, _+ℤ_, _*ℤ_}
+use native.Mathlib.Nat.{mod-lt, div-add-mod', suc-mul, div-eq-of-lt-le}
+use borrow.Author.Tests.{ltb-true, leb-true, eqb-false, lt-ltb, le-ltb, le-leb, lt-leb, eq-eqb}
+use lib.Dec.{eqb, ltb}
+use lib.IntN.{ℤ, pos, negsuc, negℤ, natAbs, _+ℤ_, _-ℤ_, _*ℤ_}
+use lib.IntN.{negℤ-negℤ, negℤ-+ℤ, +ℤ-comm, +ℤ-negℤ-cancel, *ℤ-negsuc}
 use lib.Signed.{ltZ, leZ}
-use Rattle.prelude.proofs.Choice.{clash}
-use Rattle.integers.specs.Integers.{divOf, modOf}
+use Rattle.prelude.specs.Choice.{_also_}
+use Rattle.prelude.proofs.Choice.{clash, also-true, also-yes, also-first, same-truth}
+use Rattle.integers.specs.Integers.{quotientOf, divOf, modOf, isRemainder, Divided}
 
--- the quotient and the remainder make up x, and the remainder is from 0 to y - 1
-pub record Divided (x y : ℤ) : Type 0 where
-  pub whole : x ≡ (divOf x y *ℤ y) +ℤ modOf x y
-  pub low : leZ (pos 0) (modOf x y) ≡ true
-  pub high : ltZ (modOf x y) y ≡ true
+-- ---- by a magnitude
+
+-- what is left of a number by a magnitude
+abbrev rest : ℤ → ℕ → ℕ
+rest (pos a) d = a % d
+rest (negsuc a) d = d - suc (a % d)
+
+rest-below : (x : ℤ) (d : ℕ) → 0 < d → rest x d < d
+rest-below (pos a) d h = mod-lt a h
+rest-below (negsuc a) d h = let r = mod-lt a h in omega arith
 
 -- a negative number, and a natural one that does not reach 0 from there
-pub up-from : (m k a : ℕ) → k + suc a ≡ m → negℤ (pos m) +ℤ pos k ≡ negsuc a
+up-from : (m k a : ℕ) → k + suc a ≡ m → negℤ (pos m) +ℤ pos k ≡ negsuc a
 up-from zero k a e = absurd (omega arith)
 up-from (suc m) k a e = rw (lt-ltb k (suc m) (omega arith)) (ap negsuc (omega arith))
 
-negative-whole : (a n : ℕ) → 0 < n
-    → negsuc a ≡ negℤ (pos (suc (a / n) * n)) +ℤ pos (n - suc (a % n))
-negative-whole a n h =
+quotient-whole : (x : ℤ) (d : ℕ) → 0 < d → x ≡ (quotientOf x d *ℤ pos d) +ℤ pos (rest x d)
+unfolding quotientOf
+quotient-whole (pos a) d h = ap pos (sym (div-add-mod' a d))
+quotient-whole (negsuc a) d h =
     let r = mod-lt a h in
-    sym (up-from (suc (a / n) * n) (n - suc (a % n)) a (omega (arith, suc-mul (a / n) n, div-add-mod' a n)))
+    sym (up-from (suc (a / d) * d) (d - suc (a % d)) a (omega (arith, suc-mul (a / d) d, div-add-mod' a d)))
 
-pub div-mod : (x y : ℤ) → ltZ (pos 0) y ≡ true → Divided x y
-unfolding divOf modOf
-div-mod x (negsuc n) h = clash (sym h)
-div-mod (pos a) (pos n) h = record {
-  whole = ap pos (sym (div-add-mod' a n));
-  low = le-leb 0 (a % n) (omega arith);
-  high = lt-ltb (a % n) n (mod-lt a (ltb-true 0 n h));
+quotient-once : (q : ℤ) (d r : ℕ) → r < d → q ≡ quotientOf ((q *ℤ pos d) +ℤ pos r) d
+unfolding quotientOf
+quotient-once (pos k) d r h = ap pos (sym (div-eq-of-lt-le {k = k} d (omega arith) (omega (arith, suc-mul k d))))
+quotient-once (negsuc k) d r h =
+    let a = k * d + (d - suc r) in
+    let e : a / d ≡ k = div-eq-of-lt-le {k = k} d (omega arith) (omega (arith, suc-mul k d)) in
+    rw (up-from (suc k * d) r a (omega (arith, suc-mul k d))) (ap negsuc (sym e))
+
+-- ---- with the signs turned, but not the quotient's
+
+remains-turned : (n : ℕ) (r : ℤ) → isRemainder (negsuc n) (negℤ r) ≡ isRemainder (pos (suc n)) r
+unfolding isRemainder _also_
+remains-turned n (pos zero) = sym (lt-ltb 0 (suc n) (omega arith))
+remains-turned n (pos (suc k)) =
+    rw (le-leb 0 (suc k) (omega arith))
+    (also-first (ltb k n) refl
+    ∙ same-truth (ltb k n) (ltb (suc k) (suc n))
+    (λ h. let l = ltb-true k n h in lt-ltb (suc k) (suc n) (omega arith))
+    (λ h. let l = ltb-true (suc k) (suc n) h in lt-ltb k n (omega arith)))
+remains-turned n (negsuc k) = lt-leb (suc k) 0 (omega arith)
+
+turned : (x q r : ℤ) (n : ℕ) → Divided x (pos (suc n)) q r → Divided (negℤ x) (negsuc n) q (negℤ r)
+turned x q r n h = record {
+  whole =
+      ap negℤ (h .whole)
+      ∙ negℤ-+ℤ (q *ℤ pos (suc n)) r
+      ∙ ap (λ z. z +ℤ negℤ r) (sym (*ℤ-negsuc q n));
+  remains = remains-turned n r ∙ h .remains;
 }
-div-mod (negsuc a) (pos n) h = record {
-  whole = negative-whole a n (ltb-true 0 n h);
-  low = le-leb 0 (n - suc (a % n)) (omega arith);
-  high = lt-ltb (n - suc (a % n)) n (let r = mod-lt a (ltb-true 0 n h) in omega arith);
+
+turned-back : (x q r : ℤ) (n : ℕ) → Divided x (negsuc n) q r → Divided (negℤ x) (pos (suc n)) q (negℤ r)
+turned-back x q r n h = record {
+  whole =
+      ap negℤ (h .whole)
+      ∙ negℤ-+ℤ (q *ℤ negsuc n) r
+      ∙ ap (λ z. z +ℤ negℤ r) (ap negℤ (*ℤ-negsuc q n) ∙ negℤ-negℤ (q *ℤ pos (suc n)));
+  remains = sym (remains-turned n (negℤ r)) ∙ ap (isRemainder (negsuc n)) (negℤ-negℤ r) ∙ h .remains;
 }
+
+-- ---- by any divisor but 0
+
+-- what the equation says of the remainder
+mod-is : (x y q r : ℤ) → x ≡ (q *ℤ y) +ℤ r → x -ℤ (q *ℤ y) ≡ r
+mod-is x y q r e = ap (λ z. z -ℤ (q *ℤ y)) (e ∙ +ℤ-comm (q *ℤ y) r) ∙ +ℤ-negℤ-cancel r (q *ℤ y)
+
+with-mod : (x y r : ℤ) → Divided x y (divOf x y) r → Divided x y (divOf x y) (modOf x y)
+unfolding modOf
+with-mod x y r h = rw (mod-is x y (divOf x y) r (h .whole)) h
+
+by-rest : (x : ℤ) (d : ℕ) → 0 < d → Divided x (pos d) (quotientOf x d) (pos (rest x d))
+unfolding isRemainder
+by-rest x d h = record {
+  whole = quotient-whole x d h;
+  remains = also-yes (le-leb 0 (rest x d) (omega arith)) (lt-ltb (rest x d) d (rest-below x d h));
+}
+
+pub div-mod : (x y : ℤ) → eqb (natAbs y) 0 ≡ false → Divided x y (divOf x y) (modOf x y)
+unfolding divOf
+div-mod x (pos n) h = with-mod x (pos n) (pos (rest x n)) (by-rest x n (let k = eqb-false n 0 h in omega arith))
+div-mod x (negsuc n) h =
+    let turn = turned (negℤ x) _ _ n (by-rest (negℤ x) (suc n) (omega arith)) in
+    with-mod x (negsuc n) (negℤ (pos (rest (negℤ x) (suc n)))) (rw (negℤ-negℤ x) at turn)
+
+-- ---- nothing else meets the two
+
+quotient-is : (x q r : ℤ) (d : ℕ) → Divided x (pos d) q r → q ≡ quotientOf x d
+unfolding isRemainder
+quotient-is x q (negsuc r) d h = clash (sym (also-true _ _ (h .remains) .0))
+quotient-is x q (pos r) d h =
+    rw (h .whole) (quotient-once q d r (ltb-true r d (also-true _ _ (h .remains) .1)))
+
+div-is : (x y q r : ℤ) → Divided x y q r → q ≡ divOf x y
+unfolding divOf
+div-is x (pos n) q r h = quotient-is x q r n h
+div-is x (negsuc n) q r h = quotient-is (negℤ x) q (negℤ r) (suc n) (turned-back x q r n h)
+
+pub divided-once : (x y q r : ℤ) → Divided x y q r → (q ≡ divOf x y) × (r ≡ modOf x y)
+unfolding modOf
+divided-once x y q r h =
+    let e = div-is x y q r h in
+    (e, sym (mod-is x y (divOf x y) r (rw e at (h .whole))))

@@ -5,7 +5,7 @@ use Prim.Native.Nat.{ℕ, zero, suc, _+_, _*_, _<_, _≤_}
 use native.Mathlib.Omega.{arith}
 use native.Mathlib.Nat.{le-trans, mul-le-mul-left}
 use lib.Dec.{ltb}
-use lib.IntN.{ℤ, pos, negsuc, negℤ, subℕ, _+ℤ_, _-ℤ_, _*ℤ_}
+use lib.IntN.{ℤ, pos, negsuc, negℤ, subℕ, _+ℤ_, _-ℤ_, _*ℤ_, +ℤ-idl}
 use lib.Signed.{mag}
 use mir.Syntax.{w32, w64}
 use mir.Val.{SFits, toZ, ofZ}
@@ -24,19 +24,20 @@ mag-add (pos a) (negsuc b) = omega (arith, mag-sub a (suc b))
 mag-add (negsuc a) (pos b) = omega (arith, mag-sub b (suc a))
 mag-add (negsuc a) (negsuc b) = omega arith
 
-mag-neg : (b : ℤ) → mag (negℤ b) ≤ mag b + 1
+pub mag-neg : (b : ℤ) → mag (negℤ b) ≤ mag b + 1
 mag-neg (pos zero) = omega arith
 mag-neg (pos (suc n)) = omega arith
 mag-neg (negsuc n) = omega arith
 
-mag-prod : (a b : ℕ) → a ≤ 2147483648 → b ≤ 2147483648 → a * b ≤ 4611686018427387904
+mag-prod : (a b : ℕ) → a ≤ 2147483649 → b ≤ 2147483648 → a * b ≤ 4611686020574871552
 mag-prod a b p q = le-trans (mul-le-mul-left a q) (omega arith)
 
-mag-neg-pos : (n : ℕ) → mag (negℤ (pos n)) ≤ n
+pub mag-neg-pos : (n : ℕ) → mag (negℤ (pos n)) ≤ n
 mag-neg-pos zero = omega arith
 mag-neg-pos (suc n) = omega arith
 
-mag-mul : (a b : ℤ) → mag a < 2147483648 → mag b < 2147483648 → mag (a *ℤ b) ≤ 4611686018427387904
+-- a quotient may reach 2147483648
+mag-mul : (a b : ℤ) → mag a ≤ 2147483648 → mag b < 2147483648 → mag (a *ℤ b) ≤ 4611686020574871552
 mag-mul (pos a) (pos b) p q = mag-prod a b (omega arith) (omega arith)
 mag-mul (pos a) (negsuc b) p q =
     le-trans (mag-neg-pos (a * suc b)) (mag-prod a (suc b) (omega arith) (omega arith))
@@ -64,4 +65,21 @@ module _ (a b : ℤ) (p : SFits w32 a) (q : SFits w32 b) where
   difference-holds = holds _-ℤ_ (record { sfits = omega (arith, mag-add a (negℤ b), mag-neg b, p .sfits, q .sfits) })
 
   pub product-holds : Holds _*ℤ_ a b
-  product-holds = holds _*ℤ_ (record { sfits = omega (arith, mag-mul a b (p .sfits) (q .sfits)) })
+  product-holds = holds _*ℤ_ (record { sfits = omega (arith, mag-mul a b (omega (arith, p .sfits)) (q .sfits)) })
+
+-- a quotient by its divisor
+pub multiple-fits : (q y : ℤ) → mag q ≤ 2147483648 → SFits w32 y → SFits w64 (q *ℤ y)
+multiple-fits q y p f = record { sfits = omega (arith, mag-mul q y p (f .sfits)) }
+
+-- -z, of a number as the machine reads it
+pub record Turns (z : ℤ) : Type 0 where
+  pub fits : SFits w64 (pos 0 -ℤ toZ w64 (ofZ w64 (toZ w32 (ofZ w32 z))))
+  pub same : toZ w64 (ofZ w64 (pos 0 -ℤ toZ w64 (ofZ w64 (toZ w32 (ofZ w32 z))))) ≡ negℤ z
+
+pub turns : (z : ℤ) → SFits w32 z → Turns z
+turns z f =
+    let h : SFits w64 (negℤ z) = record { sfits = omega (arith, mag-neg z, f .sfits) } in
+    record {
+      fits = rw (wide z f, +ℤ-idl (negℤ z)) h;
+      same = rw (wide z f, +ℤ-idl (negℤ z)) (plain64 (negℤ z) h);
+    }

@@ -1,46 +1,65 @@
 -- Laws of signed numbers, which the proofs of the functions cite.
 use mathlib.Core.Path.{_≡_, refl}
 use mathlib.Core.Bool.{true, false}
-use Prim.Native.Nat.{suc, _-_, _/_, _%_}
+use Prim.Native.Nat.{ℕ, suc, _/_}
 use native.Mathlib.Omega.{arith}
-use borrow.Author.Tests.{ltb-true}
-use lib.IntN.{ℤ, pos, negsuc, natAbs}
-use lib.Signed.{mag, ltZ}
+use borrow.Author.Tests.{ltb-true, eq-eqb, ne-eqb}
+use lib.Dec.{eqb, T}
+use lib.IntN.{ℤ, pos, negsuc, negℤ, natAbs}
+use lib.Signed.{mag, ltZ, nonNeg}
+use mir.Syntax.{w32}
+use mir.Val.{SFits, Fits, ofZ}
 use Rattle.prelude.specs.Choice.{choose}
 use Rattle.prelude.proofs.Choice.{clash}
-use Rattle.integers.specs.Integers.{divOf, modOf, dividedBy}
-use Rattle.values.specs.declared.Value.the-variants as Vs
+use Rattle.integers.specs.Integers.{quotientOf, divOf, dividedBy}
 use Rattle.values.specs.declared.Trap.the-variants as Ts
+use Rattle.values.specs.declared.Answer.{Answer}
 use Rattle.values.specs.declared.Answer.the-variants as As
 
--- ---- DIV and MOD by the sign of the dividend
+-- ---- a quotient by the sign of the dividend, and DIV by that of the divisor
 
-pub div-neg : (x y : ℤ) → ltZ x (pos 0) ≡ true → divOf x y ≡ negsuc (mag x / natAbs y)
+pub quotient-neg : (x : ℤ) (d : ℕ) → ltZ x (pos 0) ≡ true → quotientOf x d ≡ negsuc (mag x / d)
+unfolding quotientOf
+quotient-neg (pos a) d h = absurd (omega (arith, ltb-true))
+quotient-neg (negsuc a) d h = refl
+
+pub quotient-pos : (x : ℤ) (d : ℕ) → ltZ x (pos 0) ≡ false → quotientOf x d ≡ pos (mag x / d)
+unfolding quotientOf
+quotient-pos (pos a) d h = refl
+quotient-pos (negsuc a) d h = clash h
+
+pub div-neg : (x y : ℤ) → ltZ y (pos 0) ≡ true → divOf x y ≡ quotientOf (negℤ x) (natAbs y)
 unfolding divOf
-div-neg (pos a) y h = absurd (omega (arith, ltb-true))
-div-neg (negsuc a) y h = refl
+div-neg x (pos n) h = absurd (omega (arith, ltb-true))
+div-neg x (negsuc n) h = refl
 
-pub div-pos : (x y : ℤ) → ltZ x (pos 0) ≡ false → divOf x y ≡ pos (mag x / natAbs y)
+pub div-pos : (x y : ℤ) → ltZ y (pos 0) ≡ false → divOf x y ≡ quotientOf x (natAbs y)
 unfolding divOf
-div-pos (pos a) y h = refl
-div-pos (negsuc a) y h = clash h
+div-pos x (pos n) h = refl
+div-pos x (negsuc n) h = clash h
 
-pub mod-neg : (x y : ℤ) → ltZ x (pos 0) ≡ true → modOf x y ≡ pos (natAbs y - suc (mag x % natAbs y))
-unfolding modOf
-mod-neg (pos a) y h = absurd (omega (arith, ltb-true))
-mod-neg (negsuc a) y h = refl
+-- ---- the divisor 0
 
-pub mod-pos : (x y : ℤ) → ltZ x (pos 0) ≡ false → modOf x y ≡ pos (mag x % natAbs y)
-unfolding modOf
-mod-pos (pos a) y h = refl
-mod-pos (negsuc a) y h = clash h
+pub is-zero : (y : ℤ) → SFits w32 y → ofZ w32 y ≡ 0 → eqb (natAbs y) 0 ≡ true
+is-zero (pos n) f e = eq-eqb n 0 e
+is-zero (negsuc n) f e = absurd (omega (arith, f .sfits))
+
+pub is-not-zero : (y : ℤ) → (ofZ w32 y ≡ 0 → ⊥) → eqb (natAbs y) 0 ≡ false
+is-not-zero (pos n) e = ne-eqb n 0 e
+is-not-zero (negsuc n) e = ne-eqb (suc n) 0 (omega arith)
+
+-- a divisor as a magnitude
+pub divisor-turned : (y : ℤ) → ltZ y (pos 0) ≡ true → SFits w32 y
+    → (T (nonNeg (negℤ y)) × Fits w32 (natAbs (negℤ y))) × (natAbs (negℤ y) ≡ natAbs y)
+divisor-turned (pos n) h f = absurd (omega (arith, ltb-true))
+divisor-turned (negsuc n) h f = ((tt, record { fits = omega (arith, f .sfits) }), refl)
 
 -- ---- answers
 
-pub divided : (y z : ℤ) → ltZ (pos 0) y ≡ true → dividedBy y z ≡ As.Val (Vs.Int z)
+pub divided : (y : ℤ) (answer : Answer) → eqb (natAbs y) 0 ≡ false → dividedBy y answer ≡ answer
 unfolding dividedBy choose
-divided y z h = rw h
+divided y answer h = rw h
 
-pub not-divided : (y z : ℤ) → ltZ (pos 0) y ≡ false → dividedBy y z ≡ As.Trap Ts.Divisor
+pub not-divided : (y : ℤ) (answer : Answer) → eqb (natAbs y) 0 ≡ true → dividedBy y answer ≡ As.Trap Ts.Divisor
 unfolding dividedBy choose
-not-divided y z h = rw h
+not-divided y answer h = rw h

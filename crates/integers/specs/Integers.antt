@@ -1,9 +1,11 @@
 -- What the operators 1 to 5 give on INTEGERs.
-use Prim.Native.Nat.{ℕ, suc, _-_, _/_, _%_}
+use Prim.Native.Nat.{ℕ, suc, _/_}
+use mathlib.Core.Path.{_≡_}
+use mathlib.Core.Bool.{Bool, true}
 use lib.Dec.{eqb}
-use lib.IntN.{ℤ, pos, negsuc, natAbs, _+ℤ_, _-ℤ_, _*ℤ_}
-use lib.Signed.{ltZ}
-use Rattle.prelude.specs.Choice.{choose}
+use lib.IntN.{ℤ, pos, negsuc, negℤ, natAbs, _+ℤ_, _-ℤ_, _*ℤ_}
+use lib.Signed.{leZ, ltZ}
+use Rattle.prelude.specs.Choice.{choose, _also_}
 use Rattle.values.specs.Values.{isInteger}
 use Rattle.values.specs.declared.Value.the-variants as Vs
 use Rattle.values.specs.declared.Trap.the-variants as Ts
@@ -14,19 +16,23 @@ use Rattle.values.specs.declared.Answer.the-variants as As
 unfoldable pub integerOf : ℤ → Answer
 integerOf z = choose (isInteger z) (As.Val (Vs.Int z)) (As.Trap Ts.Overflow)
 
--- "DIV rounds down", for a positive divisor
+-- a number by a magnitude, rounded down
+unfoldable pub quotientOf : ℤ → ℕ → ℤ
+quotientOf (pos a) d = pos (a / d)
+quotientOf (negsuc a) d = negsuc (a / d)
+
+-- "DIV rounds down", by a negative divisor too: x by y is -x by -y
 unfoldable pub divOf : ℤ → ℤ → ℤ
-divOf (pos a) y = pos (a / natAbs y)
-divOf (negsuc a) y = negsuc (a / natAbs y)
+divOf x (pos n) = quotientOf x n
+divOf x (negsuc n) = quotientOf (negℤ x) (suc n)
 
--- "0 ≤ x MOD y < y", for a positive divisor
+-- "x = (x DIV y) × y + (x MOD y)"
 unfoldable pub modOf : ℤ → ℤ → ℤ
-modOf (pos a) y = pos (a % natAbs y)
-modOf (negsuc a) y = pos (natAbs y - suc (a % natAbs y))
+modOf x y = x -ℤ (divOf x y *ℤ y)
 
--- a quotient or a remainder; trap 5 "divisor not positive"
-unfoldable pub dividedBy : ℤ → ℤ → Answer
-dividedBy y z = choose (ltZ (pos 0) y) (As.Val (Vs.Int z)) (As.Trap Ts.Divisor)
+-- the answer of a division; trap 5 "divisor zero"
+unfoldable pub dividedBy : ℤ → Answer → Answer
+dividedBy y answer = choose (eqb (natAbs y) 0) (As.Trap Ts.Divisor) answer
 
 -- 1 +, 2 -, 3 *, 4 DIV, 5 MOD
 unfoldable pub arithmeticOf : ℕ → ℤ → ℤ → Answer
@@ -34,4 +40,16 @@ arithmeticOf op x y =
     choose (eqb op 1) (integerOf (x +ℤ y))
     (choose (eqb op 2) (integerOf (x -ℤ y))
     (choose (eqb op 3) (integerOf (x *ℤ y))
-    (choose (eqb op 4) (dividedBy y (divOf x y)) (dividedBy y (modOf x y)))))
+    (choose (eqb op 4) (dividedBy y (integerOf (divOf x y))) (dividedBy y (As.Val (Vs.Int (modOf x y)))))))
+
+-- ---- what DIV and MOD are known by, whatever their definitions
+
+-- "0 ≤ x MOD y < y", and for a negative divisor "y < x MOD y ≤ 0": r is such a remainder
+unfoldable pub isRemainder : ℤ → ℤ → Bool
+isRemainder (pos n) r = leZ (pos 0) r also ltZ r (pos n)
+isRemainder (negsuc n) r = ltZ (negsuc n) r also leZ r (pos 0)
+
+-- "x = (x DIV y) × y + (x MOD y)" of a quotient q and such a remainder r
+pub record Divided (x y q r : ℤ) : Type 0 where
+  pub whole : x ≡ (q *ℤ y) +ℤ r
+  pub remains : isRemainder y r ≡ true

@@ -2,12 +2,15 @@
 use values::Answer;
 use values::Trap;
 use values::Value;
-ghost use mathlib.Core.Bool.{true};
+ghost use mathlib.Core.Bool.{false};
 ghost use mathlib.Core.Path.{_≡_};
-ghost use Prim.Native.Nat.{_<_};
-ghost use lib.IntN.{pos, negsuc, _+ℤ_, _-ℤ_, _*ℤ_};
-ghost use lib.Signed.{ltZ, mag};
-ghost use Rattle.integers.specs.Integers.{integerOf, divOf, modOf, dividedBy, arithmeticOf};
+ghost use Prim.Native.Nat.{_<_, _≤_};
+ghost use lib.Dec.{eqb};
+ghost use lib.IntN.{natAbs, _+ℤ_, _-ℤ_, _*ℤ_};
+ghost use lib.Signed.{mag};
+ghost use Rattle.values.specs.declared.Value.the-variants as Vs;
+ghost use Rattle.values.specs.declared.Answer.the-variants as As;
+ghost use Rattle.integers.specs.Integers.{integerOf, quotientOf, divOf, modOf, dividedBy, arithmeticOf};
 
 // An INTEGER, or trap 4 where it is out of range.
 fn integer(z: i64) -> Answer
@@ -40,55 +43,53 @@ fn multiply(x: i32, y: i32) -> Answer
 }
 
 // n for n, and n for -(n + 1).
-fn magnitude(x: i32) -> u32
+fn magnitude(x: i64) -> u32
+    requires { ⌜ mag x ≤ 2147483648 ⌝ }
     ensures { λ r. ⌜ r ≡ mag x ⌝ }
 {
     if x < 0 { (-1 - x) as u32 } else { x as u32 }
 }
 
-// -(m + 1)
-fn negative(m: u32) -> i32
-    requires { ⌜ m < 2147483648 ⌝ }
-    ensures { λ r. ⌜ r ≡ negsuc m ⌝ }
+// The quotient by a positive divisor, rounded down.
+fn quotient(x: i64, d: u32) -> i64
+    requires { ⌜ (mag x ≤ 2147483648) × (0 < d) ⌝ }
+    ensures { λ r. ⌜ r ≡ quotientOf x d ⌝ }
 {
-    -1 - (m as i32)
+    let q = (magnitude(x) / d) as i64;
+    if x < 0 { -1 - q } else { q }
 }
 
-// The quotient, rounded down.
-fn div_floor(x: i32, y: i32) -> i32
-    requires { ⌜ ltZ (pos 0) y ≡ true ⌝ }
+// The quotient, rounded down: x by y is -x by -y.
+fn div_floor(x: i32, y: i32) -> i64
+    requires { ⌜ eqb (natAbs y) 0 ≡ false ⌝ }
     ensures { λ r. ⌜ r ≡ divOf x y ⌝ }
 {
-    let q = magnitude(x) / (y as u32);
-    if x < 0 { negative(q) } else { q as i32 }
-}
-
-// The remainder, from 0 to y - 1.
-fn mod_floor(x: i32, y: i32) -> i32
-    requires { ⌜ ltZ (pos 0) y ≡ true ⌝ }
-    ensures { λ r. ⌜ r ≡ modOf x y ⌝ }
-{
-    let d = y as u32;
-    let m = magnitude(x) % d;
-    if x < 0 { (d - 1 - m) as i32 } else { m as i32 }
+    let a = x as i64;
+    let b = y as i64;
+    if b < 0 {
+        quotient(-a, (-b) as u32)
+    } else {
+        quotient(a, b as u32)
+    }
 }
 
 fn divide(x: i32, y: i32) -> Answer
-    ensures { λ r. ⌜ r ≡ dividedBy y (divOf x y) ⌝ }
+    ensures { λ r. ⌜ r ≡ dividedBy y (integerOf (divOf x y)) ⌝ }
 {
-    if 0 < y {
-        return Answer::Val(Value::Int(div_floor(x, y)));
+    if y == 0 {
+        return Answer::Trap(Trap::Divisor);
     }
-    Answer::Trap(Trap::Divisor)
+    integer(div_floor(x, y))
 }
 
 fn modulo(x: i32, y: i32) -> Answer
-    ensures { λ r. ⌜ r ≡ dividedBy y (modOf x y) ⌝ }
+    ensures { λ r. ⌜ r ≡ dividedBy y (As.Val (Vs.Int (modOf x y))) ⌝ }
 {
-    if 0 < y {
-        return Answer::Val(Value::Int(mod_floor(x, y)));
+    if y == 0 {
+        return Answer::Trap(Trap::Divisor);
     }
-    Answer::Trap(Trap::Divisor)
+    let m = (x as i64) - div_floor(x, y) * (y as i64);
+    Answer::Val(Value::Int(m as i32))
 }
 
 // Operators 1 to 5 on two INTEGERs.

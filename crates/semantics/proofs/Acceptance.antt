@@ -53,13 +53,21 @@ pub case-2 :
 unfolding rows integers operators
 case-2 = (refl, refl, refl)
 
--- 3. "7 DIV 0, 7 DIV -1: trap 5."
+-- 3. "7 DIV 0: trap 5; 7 DIV -1 = -7."
 pub case-3 :
     (dyadicOf 4 (int 7) (int 0) ≡ As.Trap Ts.Divisor)
-    × (dyadicOf 4 (int 7) (minus 1) ≡ As.Trap Ts.Divisor)
     × (trapNumber Ts.Divisor ≡ 5)
+    × (dyadicOf 4 (int 7) (minus 1) ≡ As.Val (minus 7))
 unfolding rows integers operators
 case-3 = (refl, refl, refl)
+
+-- "-2147483648 DIV -1 gives trap 4, and its MOD is 0."
+pub case-overflow :
+    (dyadicOf 4 (minus 2147483648) (minus 1) ≡ As.Trap Ts.Overflow)
+    × (trapNumber Ts.Overflow ≡ 4)
+    × (dyadicOf 5 (minus 2147483648) (minus 1) ≡ As.Val (int 0))
+unfolding rows integers operators
+case-overflow = (refl, refl, refl)
 
 -- 4. "0..3 is 15, 3..0 is 0, 31..31 is 2147483648, 0..32 trap 6."
 pub case-4 :

@@ -46,7 +46,7 @@ plain32 z h = toZ-ofZ w32 z h
 pub plain64 : (z : ℤ) → SFits w64 z → toZ w64 (ofZ w64 z) ≡ z
 plain64 z h = toZ-ofZ w64 z h
 
-widen : (z : ℤ) → SFits w32 z → SFits w64 z
+pub widen : (z : ℤ) → SFits w32 z → SFits w64 z
 widen z h = record { sfits = omega (arith, h .sfits) }
 
 -- the same through a wider type
@@ -82,19 +82,13 @@ pub neg-is : (z : ℤ) → ltZ z (pos 0) ≡ true → z ≡ negsuc (mag z)
 neg-is (pos n) h = absurd (omega (arith, ltb-true))
 neg-is (negsuc n) h = refl
 
--- a positive number
-pub not-neg : (z : ℤ) → ltZ (pos 0) z ≡ true → ltZ z (pos 0) ≡ false
-not-neg (pos n) h = le-ltb n 0 (omega arith)
-not-neg (negsuc n) h = clash (sym h)
-
-pub abs-pos : (z : ℤ) → ltZ (pos 0) z ≡ true → 0 < natAbs z
-abs-pos (pos n) h = omega (arith, ltb-true)
-abs-pos (negsuc n) h = clash (sym h)
-
 -- what a cast to 32 bits without a sign asks
+pub unsigned : (z : ℤ) → ltZ z (pos 0) ≡ false → mag z < 4294967296 → T (nonNeg z) × Fits w32 (natAbs z)
+unsigned (pos n) h l = (tt, record { fits = l })
+unsigned (negsuc n) h l = clash h
+
 pub to-unsigned : (z : ℤ) → ltZ z (pos 0) ≡ false → SFits w32 z → T (nonNeg z) × Fits w32 (natAbs z)
-to-unsigned (pos n) h f = (tt, record { fits = omega (arith, f .sfits) })
-to-unsigned (negsuc n) h f = clash h
+to-unsigned z h f = unsigned z h (omega (arith, f .sfits))
 
 -- -1 - z, of a natural number and of a negative one
 pub below-zero : (n : ℕ) → negsuc 0 -ℤ pos n ≡ negsuc n
@@ -155,5 +149,5 @@ set-is (pos n) h k = rw (lt-ltb n 4294967296 (omega (arith, ltb-false)))
 set-is (negsuc n) h k = clash h
 
 pub set-fits : (z : ℤ) → ltZ z (pos 0) ≡ false → ltZ (pos 4294967295) z ≡ false → T (nonNeg z) × Fits w32 (natAbs z)
-set-fits (pos n) h k = (tt, record { fits = omega (arith, ltb-false) })
+set-fits (pos n) h k = unsigned (pos n) h (omega (arith, ltb-false))
 set-fits (negsuc n) h k = clash h

@@ -44,7 +44,7 @@ pub data InRange : Value → Type 0 where
   set : {s : ℕ} → isSet s ≡ true → InRange (Vs.Set s)
 
 -- "Traps: 1 index; 2 guard; 3 record target's dynamic type is not its static one; 4 INTEGER overflow;
--- 5 divisor not positive; 6 range bound or element of IN outside 0 to 31; 7 frame beyond the store; 8 input used up;
+-- 5 divisor zero; 6 range bound or element of IN outside 0 to 31; 7 frame beyond the store; 8 input used up;
 -- 9 output full; 10 HALT."
 unfoldable pub trapNumber : Trap → ℕ
 trapNumber Ts.Index = 1
