@@ -1,3 +1,4 @@
+pub mod Answers
 pub mod Signs
 pub mod Holding
 pub mod Division

@@ -12,9 +12,8 @@ use mir.Syntax.{w32}
 use mir.Val.{SFits}
 use Rattle.prelude.proofs.Choice.{clash, also-true}
 use Rattle.values.specs.Values.{INTEGER, isInteger, Gives}
-use Rattle.integers.specs.Integers.{integerOf, quotientOf, divOf, modOf, dividedBy, arithmeticOf, isRemainder}
+use Rattle.integers.specs.Integers.{integerOf, quotientOf, divOf, modOf, divisionOf, arithmeticOf, isRemainder}
 use Rattle.values.specs.Values.Gives.{trapped}
-use Rattle.values.specs.declared.Answer.{Answer}
 use Rattle.values.proofs.Numbers.{integer-fits, fits-integer}
 use Rattle.values.proofs.Giving.{gives-integer, gives-one}
 use Rattle.integers.proofs.Holding.{mag-neg, mag-neg-pos}
@@ -82,16 +81,15 @@ mod-range x y f h = fits-integer (modOf x y) (mod-fits x y h (integer-fits y f))
 
 -- ---- operators 1 to 5
 
-divided-gives : (y : ℤ) (answer : Answer) → (eqb (natAbs y) 0 ≡ false → Gives INTEGER answer)
-    → Gives INTEGER (dividedBy y answer)
-unfolding dividedBy
-divided-gives y answer f = gives-one (eqb (natAbs y) 0) (λ h. trapped) f
+division-gives : (op : ℕ) (x y : ℤ) → SFits w32 y → Gives INTEGER (divisionOf op x y)
+unfolding divisionOf
+division-gives op x y f =
+    gives-one (eqb (natAbs y) 0) (λ h. trapped)
+    (λ h. gives-one (eqb op 4) (λ k. integer-gives (divOf x y)) (λ k. gives-integer (modOf x y) (mod-fits x y h f)))
 
 pub arithmetic-gives : (op : ℕ) (x y : ℤ) → SFits w32 x → SFits w32 y → Gives INTEGER (arithmeticOf op x y)
 unfolding arithmeticOf
 arithmetic-gives op x y p q =
     gives-one (eqb op 1) (λ h. integer-gives (x +ℤ y))
     (λ h. gives-one (eqb op 2) (λ h. integer-gives (x -ℤ y))
-    (λ h. gives-one (eqb op 3) (λ h. integer-gives (x *ℤ y))
-    (λ h. gives-one (eqb op 4) (λ h. divided-gives y _ (λ k. integer-gives (divOf x y)))
-    (λ h. divided-gives y _ (λ k. gives-integer (modOf x y) (mod-fits x y k q))))))
+    (λ h. gives-one (eqb op 3) (λ h. integer-gives (x *ℤ y)) (λ h. division-gives op x y q)))

@@ -9,12 +9,8 @@ use lib.IntN.{ℤ, pos, negsuc, negℤ, natAbs}
 use lib.Signed.{mag, ltZ, nonNeg}
 use mir.Syntax.{w32}
 use mir.Val.{SFits, Fits, ofZ}
-use Rattle.prelude.specs.Choice.{choose}
 use Rattle.prelude.proofs.Choice.{clash}
-use Rattle.integers.specs.Integers.{quotientOf, divOf, dividedBy}
-use Rattle.values.specs.declared.Trap.the-variants as Ts
-use Rattle.values.specs.declared.Answer.{Answer}
-use Rattle.values.specs.declared.Answer.the-variants as As
+use Rattle.integers.specs.Integers.{quotientOf, divOf}
 
 -- ---- a quotient by the sign of the dividend, and DIV by that of the divisor
 
@@ -53,13 +49,3 @@ pub divisor-turned : (y : ℤ) → ltZ y (pos 0) ≡ true → SFits w32 y
     → (T (nonNeg (negℤ y)) × Fits w32 (natAbs (negℤ y))) × (natAbs (negℤ y) ≡ natAbs y)
 divisor-turned (pos n) h f = absurd (omega (arith, ltb-true))
 divisor-turned (negsuc n) h f = ((tt, record { fits = omega (arith, f .sfits) }), refl)
-
--- ---- answers
-
-pub divided : (y : ℤ) (answer : Answer) → eqb (natAbs y) 0 ≡ false → dividedBy y answer ≡ answer
-unfolding dividedBy choose
-divided y answer h = rw h
-
-pub not-divided : (y : ℤ) (answer : Answer) → eqb (natAbs y) 0 ≡ true → dividedBy y answer ≡ As.Trap Ts.Divisor
-unfolding dividedBy choose
-not-divided y answer h = rw h

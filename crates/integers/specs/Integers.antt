@@ -30,17 +30,18 @@ divOf x (negsuc n) = quotientOf (negℤ x) (suc n)
 unfoldable pub modOf : ℤ → ℤ → ℤ
 modOf x y = x -ℤ (divOf x y *ℤ y)
 
--- the answer of a division; trap 5 "divisor zero"
-unfoldable pub dividedBy : ℤ → Answer → Answer
-dividedBy y answer = choose (eqb (natAbs y) 0) (As.Trap Ts.Divisor) answer
+-- 4 DIV, 5 MOD; trap 5 "divisor zero"
+unfoldable pub divisionOf : ℕ → ℤ → ℤ → Answer
+divisionOf op x y =
+    choose (eqb (natAbs y) 0) (As.Trap Ts.Divisor)
+    (choose (eqb op 4) (integerOf (divOf x y)) (As.Val (Vs.Int (modOf x y))))
 
 -- 1 +, 2 -, 3 *, 4 DIV, 5 MOD
 unfoldable pub arithmeticOf : ℕ → ℤ → ℤ → Answer
 arithmeticOf op x y =
     choose (eqb op 1) (integerOf (x +ℤ y))
     (choose (eqb op 2) (integerOf (x -ℤ y))
-    (choose (eqb op 3) (integerOf (x *ℤ y))
-    (choose (eqb op 4) (dividedBy y (integerOf (divOf x y))) (dividedBy y (As.Val (Vs.Int (modOf x y)))))))
+    (choose (eqb op 3) (integerOf (x *ℤ y)) (divisionOf op x y)))
 
 -- ---- what DIV and MOD are known by, whatever their definitions
 

@@ -8,9 +8,7 @@ ghost use Prim.Native.Nat.{_<_, _≤_};
 ghost use lib.Dec.{eqb};
 ghost use lib.IntN.{natAbs, _+ℤ_, _-ℤ_, _*ℤ_};
 ghost use lib.Signed.{mag};
-ghost use Rattle.values.specs.declared.Value.the-variants as Vs;
-ghost use Rattle.values.specs.declared.Answer.the-variants as As;
-ghost use Rattle.integers.specs.Integers.{integerOf, quotientOf, divOf, modOf, dividedBy, arithmeticOf};
+ghost use Rattle.integers.specs.Integers.{integerOf, quotientOf, divOf, modOf, divisionOf, arithmeticOf};
 
 // An INTEGER, or trap 4 where it is out of range.
 fn integer(z: i64) -> Answer
@@ -73,23 +71,27 @@ fn div_floor(x: i32, y: i32) -> i64
     }
 }
 
-fn divide(x: i32, y: i32) -> Answer
-    ensures { λ r. ⌜ r ≡ dividedBy y (integerOf (divOf x y)) ⌝ }
+// What the quotient leaves of x: it has the sign of y.
+fn mod_floor(x: i32, y: i32) -> i32
+    requires { ⌜ eqb (natAbs y) 0 ≡ false ⌝ }
+    ensures { λ r. ⌜ r ≡ modOf x y ⌝ }
 {
-    if y == 0 {
-        return Answer::Trap(Trap::Divisor);
-    }
-    integer(div_floor(x, y))
+    let m = (x as i64) - div_floor(x, y) * (y as i64);
+    m as i32
 }
 
-fn modulo(x: i32, y: i32) -> Answer
-    ensures { λ r. ⌜ r ≡ dividedBy y (As.Val (Vs.Int (modOf x y))) ⌝ }
+// Operators 4 and 5, or trap 5.
+fn divide(op: u16, x: i32, y: i32) -> Answer
+    ensures { λ r. ⌜ r ≡ divisionOf op x y ⌝ }
 {
     if y == 0 {
         return Answer::Trap(Trap::Divisor);
     }
-    let m = (x as i64) - div_floor(x, y) * (y as i64);
-    Answer::Val(Value::Int(m as i32))
+    if op == 4 {
+        integer(div_floor(x, y))
+    } else {
+        Answer::Val(Value::Int(mod_floor(x, y)))
+    }
 }
 
 // Operators 1 to 5 on two INTEGERs.
@@ -100,7 +102,6 @@ pub fn arithmetic(op: u16, x: i32, y: i32) -> Answer
         1 => add(x, y),
         2 => subtract(x, y),
         3 => multiply(x, y),
-        4 => divide(x, y),
-        _ => modulo(x, y),
+        _ => divide(op, x, y),
     }
 }

@@ -8,7 +8,7 @@ use Rattle.image.specs.Faults.{firstFrom, lowestFault, ruleUpTo, allFrom}
 use Rattle.values.specs.Values.{kindOf, isInteger, isSet, trapNumber, numberOf as cellNumber, booleanCell}
 use Rattle.values.specs.Values.{integerCell, setCell, cellOf, signedOf, constantOf, bind}
 use Rattle.kinds.specs.Kinds.{integersKind, setsKind, booleansKind, dyadicKind, monadicKind}
-use Rattle.integers.specs.Integers.{integerOf, quotientOf, divOf, modOf, dividedBy, arithmeticOf}
+use Rattle.integers.specs.Integers.{integerOf, quotientOf, divOf, modOf, divisionOf, arithmeticOf}
 use Rattle.sets.specs.Sets.{isElement, containsOf, elementsOf, rangeOf, complementOf}
 use Rattle.operators.specs.Operators.{compareOf, equalZ, integersOf, setsOf, booleansOf, membershipOf, dyadicOf}
 use Rattle.operators.specs.Operators.{monadicOf, decides, appliedTo}
@@ -72,7 +72,7 @@ sizes = tt
 
 -- values
 unfoldable pub integers : Unit {0}
-unfolding isInteger trapNumber integerOf quotientOf divOf modOf dividedBy arithmeticOf compareOf equalZ isElement rangeOf
+unfolding isInteger trapNumber integerOf quotientOf divOf modOf divisionOf arithmeticOf compareOf equalZ isElement rangeOf
     integersOf
 integers = tt
 

@@ -20,9 +20,6 @@ multiply-requires c κs = search needs
 divide-requires : tie.Need-divide-requires
 divide-requires c κs = search needs
 
-modulo-requires : tie.Need-modulo-requires
-modulo-requires c κs = search needs
-
 returns : tie.Need-returns
 unfolding arithmeticOf choose
 returns c =
@@ -45,15 +42,9 @@ returns-4 : tie.Need-returns-4
 unfolding arithmeticOf choose
 returns-4 c =
     let s = c .before .before in
-    c .divide .ensures ∙ rw (plain32 _ (s .fits .x), plain32 _ (s .fits .y), c .before .match .keys4)
-
-returns-5 : tie.Need-returns-5
-unfolding arithmeticOf choose
-returns-5 c =
-    let s = c .before .before in
     let m = c .before .match .rest in
-    c .modulo .ensures ∙ rw (plain32 _ (s .fits .x), plain32 _ (s .fits .y))
-    (rw (ne-eqb _ 1 (m .0 .0 .0 .1), ne-eqb _ 2 (m .0 .0 .1), ne-eqb _ 3 (m .0 .1), ne-eqb _ 4 (m .1)))
+    c .divide .ensures ∙ rw (plain32 _ (s .fits .x), plain32 _ (s .fits .y))
+    (rw (ne-eqb _ 1 (m .0 .0 .1), ne-eqb _ 2 (m .0 .1), ne-eqb _ 3 (m .1)))
 
 pub arithmetic-spec : {M : Type 1} → statement M
 arithmetic-spec =
@@ -63,9 +54,7 @@ arithmetic-spec =
     subtract-requires
     multiply-requires
     divide-requires
-    modulo-requires
     returns
     returns-2
     returns-3
-    returns-4
-    returns-5)
+    returns-4)
