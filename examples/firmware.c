@@ -122,7 +122,7 @@ static const char *trap_text(uint32_t trap) {
     case DOOR_TRAP_OVERFLOW:
         return "an INTEGER overflow";
     case DOOR_TRAP_DIVISOR:
-        return "a divisor not positive";
+        return "a divisor that is zero";
     case DOOR_TRAP_BOUND:
         return "a set's element outside 0 to 31";
     case DOOR_TRAP_FRAME:

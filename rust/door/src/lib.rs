@@ -197,7 +197,7 @@ pub enum Trap {
     Target,
     /// An INTEGER beyond 32 bits.
     Overflow,
-    /// A divisor that is not positive.
+    /// A divisor that is zero.
     Divisor,
     /// A set's element, in a range or before IN, outside 0 to 31.
     Bound,
@@ -253,7 +253,7 @@ impl fmt::Display for Trap {
             Trap::Guard => "a guard that does not hold",
             Trap::Target => "a record assigned to one of another dynamic type",
             Trap::Overflow => "an INTEGER beyond 32 bits",
-            Trap::Divisor => "a divisor that is not positive",
+            Trap::Divisor => "a divisor that is zero",
             Trap::Bound => "a set's element outside 0 to 31",
             Trap::Frame => "a call whose frame goes beyond the store",
             Trap::Input => "a read when the input is used up",
@@ -271,7 +271,7 @@ impl std::error::Error for Trap {}
 /// use door::{Outcome, Trap};
 ///
 /// assert_eq!(Outcome::Finished.to_string(), "finished");
-/// assert_eq!(Outcome::Trapped(Trap::Divisor).to_string(), "trapped: a divisor that is not positive");
+/// assert_eq!(Outcome::Trapped(Trap::Divisor).to_string(), "trapped: a divisor that is zero");
 /// ```
 #[derive(Clone, Copy, Debug, PartialEq, Eq, Hash)]
 pub enum Outcome {

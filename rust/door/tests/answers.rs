@@ -95,6 +95,30 @@ fn each_trap() {
     }
 }
 
+/// 7 DIV -1, and runs of examples/report/quotient.lst: (x - s) DIV d[i], then MOD; the inputs are x, s, d[0] and i.
+#[test]
+fn a_negative_divisor() {
+    let (mut store, mut output) = ([-9; 4], [7; 2]);
+    let report = door::run(&image("special/7_DIV_-1.img"), &[], &mut store, &mut output, STEPS);
+    let outcome = Outcome::Finished;
+    let finished = Report { outcome, row: 1, steps: 2, base: 0, top: 3, read: 0, written: 1, mark: 3 };
+    assert_eq!((report, output), (Ok(finished), [-7, 7]));
+
+    let trapped = |trap| (Outcome::Trapped(trap), 4, [7; 3]);
+    let runs = [
+        ([50, 100, -24, 0], (outcome, 6, [2, -2, 7])),
+        ([i32::MIN + 1, 0, -1, 0], (outcome, 6, [i32::MAX, 0, 7])),
+        ([i32::MIN, 0, -1, 0], trapped(Trap::Overflow)),
+        ([7, 0, 0, 0], trapped(Trap::Divisor)),
+    ];
+    for (input, expected) in runs {
+        let mut output = [7; 3];
+        let report = door::run(&image("input/quotient-1.img"), &input, &mut [0; 8], &mut output, STEPS);
+        let got = report.map(|report| (report.outcome, report.row, output));
+        assert_eq!(got, Ok(expected), "{input:?}");
+    }
+}
+
 #[test]
 fn the_other_outcomes() {
     let outcome = Outcome::Finished;
