@@ -10,8 +10,8 @@ nothing is compared, and a line says so.
 The answers stand in the first comments of each listing. Outputs, traps and HALT numbers were found by hand from the
 Oberon-2 report and documents 01 and 02; statement rows, steps and cells by an interpreter that is not kept here, which
 was written from these documents and their readings, shares nothing with the crates, and gives the answers of all
-accepted images of vectors/special, doorrun, in and runs. A listing of examples/ without inputs has the answer of
-`doorrun`, in vectors/report/expect.txt:
+accepted images of vectors/special, doorrun, in, division and runs. A listing of examples/ without inputs has the answer
+of `doorrun`, in vectors/report/expect.txt:
 
     -- expect: the nine numbers
     -- output: the numbers written
