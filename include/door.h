@@ -65,7 +65,7 @@ extern "C" {
 #define DOOR_TRAP_INDEX 1u    /* an index outside its array */
 #define DOOR_TRAP_GUARD 2u    /* a guard that does not hold */
 #define DOOR_TRAP_TARGET 3u   /* a record assigned to one of another dynamic type */
-#define DOOR_TRAP_OVERFLOW 4u /* an INTEGER beyond 32 bits */
+#define DOOR_TRAP_OVERFLOW 4u /* an INTEGER beyond 32 bits, also by -2147483648 DIV -1 */
 #define DOOR_TRAP_DIVISOR 5u  /* a divisor that is zero */
 #define DOOR_TRAP_BOUND 6u    /* a set's element, in a range or before IN, outside 0 to 31 */
 #define DOOR_TRAP_FRAME 7u    /* a call whose frame goes beyond the store */

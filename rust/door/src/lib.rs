@@ -195,7 +195,7 @@ pub enum Trap {
     Guard,
     /// A record assigned to one of another dynamic type.
     Target,
-    /// An INTEGER beyond 32 bits.
+    /// An INTEGER beyond 32 bits, also by -2147483648 DIV -1.
     Overflow,
     /// A divisor that is zero.
     Divisor,
