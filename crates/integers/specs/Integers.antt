@@ -50,7 +50,8 @@ unfoldable pub isRemainder : ℤ → ℤ → Bool
 isRemainder (pos n) r = leZ (pos 0) r also ltZ r (pos n)
 isRemainder (negsuc n) r = ltZ (negsuc n) r also leZ r (pos 0)
 
--- "x = (x DIV y) × y + (x MOD y)" of a quotient q and such a remainder r
+-- "x = (x DIV y) × y + (x MOD y)" of a quotient q and such a remainder r: as r / y is from 0 to below 1, q is x / y
+-- rounded down
 pub record Divided (x y q r : ℤ) : Type 0 where
   pub whole : x ≡ (q *ℤ y) +ℤ r
   pub remains : isRemainder y r ≡ true
