@@ -83,10 +83,11 @@ pub(crate) fn dyadic(operator: u16, x: Value, y: Value) -> Answer<Value> {
         (1, Integer(x), Integer(y)) => in_range(i64::from(x) + i64::from(y)),
         (2, Integer(x), Integer(y)) => in_range(i64::from(x) - i64::from(y)),
         (3, Integer(x), Integer(y)) => in_range(i64::from(x) * i64::from(y)),
-        (4 | 5, Integer(_), Integer(..=0)) => trapped(trap::DIVISOR),
-        // "DIV rounds down and 0 ≤ x MOD y < y." With a positive divisor that is Euclid's division.
-        (4, Integer(x), Integer(y)) => in_range(i64::from(x).div_euclid(i64::from(y))),
-        (5, Integer(x), Integer(y)) => in_range(i64::from(x).rem_euclid(i64::from(y))),
+        // "5 divisor zero"
+        (4 | 5, Integer(_), Integer(0)) => trapped(trap::DIVISOR),
+        // "−2147483648 DIV −1 gives trap 4, and its MOD is 0."
+        (4, Integer(x), Integer(y)) => in_range(quotient(x.into(), y.into())),
+        (5, Integer(x), Integer(y)) => in_range(remainder(x.into(), y.into())),
         // "union, difference, intersection, symmetric difference"
         (1, Set(x), Set(y)) => Ok(Set(x | y)),
         (2, Set(x), Set(y)) => Ok(Set(x & !y)),
@@ -121,6 +122,17 @@ pub(crate) fn monadic(operator: u16, x: Value) -> Answer<Value> {
 /// "4 INTEGER overflow"
 fn in_range(x: i64) -> Answer<Value> {
     i32::try_from(x).map_or_else(|_| trapped(trap::OVERFLOW), |x| Ok(Value::Integer(x)))
+}
+
+/// "DIV rounds down". `/` rounds toward zero: that is up where something remains and the signs differ.
+fn quotient(x: i64, y: i64) -> i64 {
+    let rounded_up = x % y != 0 && (x < 0) != (y < 0);
+    x / y - i64::from(rounded_up)
+}
+
+/// "x = (x DIV y) × y + (x MOD y) with 0 ≤ x MOD y < y, for a negative divisor y < x MOD y ≤ 0."
+fn remainder(x: i64, y: i64) -> i64 {
+    x - quotient(x, y) * y
 }
 
 /// "Range a..b with a > b, both bounds in 0 to 31, is empty."

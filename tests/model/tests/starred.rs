@@ -1,5 +1,4 @@
-//! The starred cases of document 01, case 5 as document 02 has it, the mistakes to shut out, and the edges of the
-//! operators.
+//! The starred cases of document 01, the mistakes to shut out, and the edges of the operators.
 
 mod common;
 
@@ -89,7 +88,7 @@ fn expressions() {
         ("2: -(-2147483648)", expression(INTEGER, &[integer(lowest), row(6, 0, 0, 1)]), Trap(4)),
         ("2: that DIV 1", integers(lowest, DIV, 1), To(lowest)),
         ("3: 7 DIV 0", integers(7, DIV, 0), Trap(5)),
-        ("3: 7 DIV -1", integers(7, DIV, -1), Trap(5)),
+        ("3: 7 DIV -1", integers(7, DIV, -1), To(-7)),
         ("4: 0..3", range(0, 3), To(15)),
         ("4: 3..0", range(3, 0), To(0)),
         ("4: 31..31", range(31, 31), To(2147483648)),
@@ -146,12 +145,9 @@ fn edges_of_integer_operators() {
         ((least, 3, least), Trap(4)),
         ((least, DIV, 2), To(-1073741824)),
         ((least, DIV, most), To(-2)),
-        ((least, DIV, -1), Trap(5)),
         ((-1, DIV, most), To(-1)),
         ((least, MOD, most), To(2147483646)),
         ((-6, MOD, 3), To(0)),
-        ((7, MOD, 0), Trap(5)),
-        ((7, MOD, -1), Trap(5)),
     ];
     for ((x, operator, y), expected) in cases {
         assert_eq!(integers(x, operator, y), expected, "{x} {operator} {y}");
@@ -160,6 +156,69 @@ fn edges_of_integer_operators() {
         [((31, 0), To(0)), ((0, 31), To(4294967295)), ((-1, 0), Trap(6)), ((32, 0), Trap(6)), ((5, -1), Trap(6))]
     {
         assert_eq!(range(a, b), expected, "{a}..{b}");
+    }
+}
+
+#[test]
+fn negative_divisors_and_zero() {
+    let (least, most) = (-2147483648, 2147483647);
+    // x, y, x DIV y, x MOD y
+    let cases = [
+        (5, -3, To(-2), To(-1)),
+        (-5, -3, To(1), To(-2)),
+        (6, -3, To(-2), To(0)),
+        (-6, -3, To(2), To(0)),
+        (0, -7, To(0), To(0)),
+        (-1, -1, To(1), To(0)),
+        (least, -1, Trap(4), To(0)),
+        (least + 1, -1, To(most), To(0)),
+        (most, -1, To(least + 1), To(0)),
+        (least, -2, To(1073741824), To(0)),
+        (most, -2, To(-1073741824), To(-1)),
+        (least, least, To(1), To(0)),
+        (least + 1, least, To(0), To(least + 1)),
+        (1, least, To(-1), To(least + 1)),
+        (most, least, To(-1), To(-1)),
+        (7, 0, Trap(5), Trap(5)),
+        (-7, 0, Trap(5), Trap(5)),
+        (0, 0, Trap(5), Trap(5)),
+        (least, 0, Trap(5), Trap(5)),
+    ];
+    for (x, y, quotient, remainder) in cases {
+        assert_eq!((integers(x, DIV, y), integers(x, MOD, y)), (quotient, remainder), "{x} by {y}");
+    }
+}
+
+/// "x = (x DIV y) × y + (x MOD y) with 0 ≤ x MOD y < y, for a negative divisor y < x MOD y ≤ 0."
+fn keeps_the_rule(x: i64, y: i64, quotient: i64, remainder: i64) -> bool {
+    let in_range = if y > 0 { 0 <= remainder && remainder < y } else { y < remainder && remainder <= 0 };
+    x == quotient * y + remainder && in_range
+}
+
+#[test]
+fn division_at_the_edges_keeps_the_rule() {
+    let (least, most) = (-2147483648, 2147483647);
+    let near = [0, 10, 46341, 65536, 1 << 30, 1 << 31].map(|edge| edge - 2..=edge + 2);
+    let near = near.into_iter().flatten().flat_map(|number| [number, -number]);
+    let edges: Vec<i64> = near.filter(|number| (least..=most).contains(number)).collect();
+    for (x, y) in edges.iter().flat_map(|x| edges.iter().map(move |y| (*x, *y))).filter(|(_, y)| *y != 0) {
+        match (integers(x, DIV, y), integers(x, MOD, y)) {
+            (To(quotient), To(remainder)) => {
+                assert!(keeps_the_rule(x, y, quotient, remainder), "{x} by {y}: {quotient}, {remainder}");
+            }
+            other => assert_eq!((x, y, other), (least, -1, (Trap(4), To(0)))),
+        }
+    }
+}
+
+/// Of small numbers one quotient and one remainder keep the rule, and these are DIV and MOD.
+#[test]
+fn the_rule_determines_division() {
+    for (x, y) in (-20..=20).flat_map(|x| (-20..=20).map(move |y| (x, y))).filter(|(_, y)| *y != 0) {
+        let all = (-25..=25).flat_map(|quotient| (-25..=25).map(move |remainder| (quotient, remainder)));
+        let kept: Vec<_> = all.filter(|(quotient, remainder)| keeps_the_rule(x, y, *quotient, *remainder)).collect();
+        let [(quotient, remainder)] = kept[..] else { panic!("{x} by {y}: {kept:?}") };
+        assert_eq!((integers(x, DIV, y), integers(x, MOD, y)), (To(quotient), To(remainder)), "{x} by {y}");
     }
 }
 
@@ -230,6 +289,65 @@ fn both_operands_come_before_the_operator() {
     let nodes = |y| [integer(1), integer(y), dyadic(0, DIV, 1), integer(0), integer(32), dyadic(3, RANGE, 4)];
     let left = |y| expression(BOOLEAN, &[&nodes(y)[..], &[dyadic(2, IN, 5)]].concat());
     assert_eq!([left(0), left(1)], [Trap(5), Trap(6)]);
+}
+
+/// Trap 5 of a zero divisor, and trap 4 of -2147483648 DIV -1, come after both operands.
+#[test]
+fn both_operands_come_before_a_division() {
+    let least = -2147483648;
+    // (u DIV v) operator (x DIV y)
+    let divisions = |[u, v]: [i64; 2], operator, [x, y]: [i64; 2]| {
+        let left = [integer(u), integer(v), dyadic(0, DIV, 1)];
+        let right = [integer(x), integer(y), dyadic(3, DIV, 4)];
+        expression(INTEGER, &[&left[..], &right, &[dyadic(2, operator, 5)]].concat())
+    };
+    for operator in [DIV, MOD] {
+        let cases = [
+            ([least, -1], [0, 1], Trap(4)),
+            ([7, 0], [0, 1], Trap(5)),
+            ([7, 1], [0, 1], Trap(5)),
+            ([7, 1], [least, -1], Trap(4)),
+            ([least, 1], [7, 0], Trap(5)),
+            ([least, 1], [least, -1], Trap(4)),
+            ([7, 0], [least, -1], Trap(5)),
+            ([least, -1], [7, 0], Trap(4)),
+            ([least, 1], [1, -1], if operator == DIV { Trap(4) } else { To(0) }),
+        ];
+        for (left, right, expected) in cases {
+            assert_eq!(divisions(left, operator, right), expected, "{left:?} {operator} {right:?}");
+        }
+    }
+}
+
+/// 7 DIV s[9] is trap 1, and 7 DIV s[3] trap 5, where s has 4 elements, all 0; s[9] DIV 0 is trap 1.
+#[test]
+fn an_index_in_an_operand_comes_before_the_divisor() {
+    let divides = |index, operator, element_first| {
+        let mut tables = draft(vec![row(ASSIGN, 0, 5, 0), RETURN]);
+        tables.types.push(row(3, INTEGER, 4, 0));
+        tables.variables.extend([row(0, INTEGER, 0, 0), row(0, 3, 0, 0)]);
+        let number = if element_first { 0 } else { 7 };
+        tables.nodes = vec![variable(0), integer(number), variable(1), integer(index), row(3, 2, 3, 0)];
+        tables.nodes.push(if element_first { dyadic(4, operator, 1) } else { dyadic(1, operator, 4) });
+        comes(&tables)
+    };
+    for operator in [DIV, MOD] {
+        assert_eq!([divides(9, operator, false), divides(3, operator, false)], [Trap(1), Trap(5)]);
+        assert_eq!([divides(9, operator, true), divides(3, operator, true)], [Trap(1), Trap(5)]);
+    }
+}
+
+/// FALSE & (x operator y = 0) and TRUE OR (x operator y = 0) do not come to the division.
+#[test]
+fn a_division_that_is_skipped() {
+    for (x, operator, y, trap) in [(7, DIV, 0, 5), (7, MOD, 0, 5), (-2147483648, DIV, -1, 4)] {
+        let after = |left, skips| {
+            let division = [integer(x), integer(y), dyadic(1, operator, 2), integer(0), dyadic(3, 7, 4)];
+            expression(BOOLEAN, &[&[constant(BOOLEAN, left)][..], &division, &[dyadic(0, skips, 5)]].concat())
+        };
+        assert_eq!([after(0, AND), after(1, OR)], [To(0), To(1)], "{x} {operator} {y}");
+        assert_eq!([after(1, AND), after(0, OR)], [Trap(trap), Trap(trap)], "{x} {operator} {y}");
+    }
 }
 
 /// 40 IN s[9] is trap 1, and 40 IN s[3] trap 6, where s has 4 elements.
