@@ -58,16 +58,27 @@ def truth(b):
     return answer((BOOLEAN, b))
 
 
+def division(op, x, y):
+    """DIV, operator 4, and MOD, 5. "5 divisor zero"; "-2147483648 DIV -1 gives trap 4, and its MOD is 0." """
+    if y == 0:
+        return TRAP, 5
+    # "DIV rounds down, and x = (x DIV y) * y + (x MOD y) with 0 <= x MOD y < y, for a negative divisor
+    # y < x MOD y <= 0."
+    quotient = x // y
+    remainder = x - quotient * y
+    assert 0 <= remainder < y or y < remainder <= 0
+    return integer(quotient if op == 4 else remainder)
+
+
 def dyadic(op, left, right):
     (j, x), (k, y) = left, right
     if j == INTEGER and k == INTEGER:
-        if op in (4, 5) and y <= 0:
-            return TRAP, 5
+        if op in (4, 5):
+            return division(op, x, y)
         if op == 16 and not (0 <= x <= 31 and 0 <= y <= 31):
             return TRAP, 6
         return {
             1: lambda: integer(x + y), 2: lambda: integer(x - y), 3: lambda: integer(x * y),
-            4: lambda: integer(x // y), 5: lambda: integer(x % y),
             7: lambda: truth(x == y), 8: lambda: truth(x != y), 9: lambda: truth(x < y),
             10: lambda: truth(x <= y), 11: lambda: truth(x > y), 12: lambda: truth(x >= y),
             16: lambda: answer((SET, frozenset(i for i in ALL if x <= i <= y))),
