@@ -9,8 +9,8 @@ None where it has nothing to report. The answers are by hand. All else in an ima
 one procedure, no nodes, one RETURN. So an image is either refused by question 4 or accepted, and run.
 
 Both ways also compare the answers with `refusal` below, a second reading of document 01, and `refusal` with the
-answers in vectors/special/, vectors/doorrun/, vectors/in/ and vectors/runs/, as far as questions 1 to 4 decide them.
-Nothing here comes from the crates.
+answers in vectors/special/, vectors/doorrun/, vectors/in/, vectors/division/ and vectors/runs/, as far as questions 1
+to 4 decide them. Nothing here comes from the crates.
 """
 import pathlib
 import re
@@ -343,7 +343,7 @@ def disagreements():
         by_hand, second = (0, 0) if row is None else (4, row), refusal(image(types, fields))
         if by_hand != second:
             wrong.append(f'{name}: by hand {by_hand}, by the second reading {second}')
-    for folder in (VECTORS / name for name in ('special', 'doorrun', 'in', 'runs')):
+    for folder in (VECTORS / name for name in ('special', 'doorrun', 'in', 'division', 'runs')):
         for name, first, row in answers(folder):
             others += 1
             given, second = (first, row) if first <= 4 else (0, 0), refusal((folder / name).read_bytes()[:LENT])

@@ -70,6 +70,11 @@ fn in_images() {
 }
 
 #[test]
+fn division_images() {
+    doorrun_folder("division");
+}
+
+#[test]
 fn types() {
     doorrun_folder("types");
 }
