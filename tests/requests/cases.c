@@ -12,7 +12,6 @@
 #include "result.h"
 
 enum { MOST_CELLS = 70000, MOST_NUMBERS = 70000, FIELDS_OF_RESULT = 12, LONGEST_LINE = 1 << 20 };
-enum { WITH_MARK = 3 }; /* the level from which on a result has its last number, the mark */
 
 /* What is lent, as the last call left it. */
 static struct {
@@ -35,7 +34,8 @@ static struct {
 static struct guarded image_area, input_area, store_area, output_area;
 static const char *file_name;
 static char name[256];
-static unsigned level, line_number, same, different;
+static unsigned line_number, same, different;
+static size_t fields; /* of each result in the file, as its first one has; 0 before that */
 
 static void broken(const char *what) {
     fprintf(stderr, "cases: %s: line %u: %s\n", file_name, line_number, what);
@@ -102,13 +102,14 @@ static uint32_t word(long long number) {
     return (uint32_t)number;
 }
 
-/* In the order of the file. A result without a mark gets the lowest that it may have. */
+/* In the order of the file. A result without its last number, the mark, gets the lowest that it may have. */
 static struct door_result result_of(const char *at) {
-    const size_t there = level < WITH_MARK ? FIELDS_OF_RESULT - 1 : FIELDS_OF_RESULT;
     long long n[FIELDS_OF_RESULT];
-    if (list_of(at, n, FIELDS_OF_RESULT) != there)
+    const size_t there = list_of(at, n, FIELDS_OF_RESULT);
+    if (there < FIELDS_OF_RESULT - 1 || (fields > 0 && there != fields))
         broken("another number of fields");
-    if (level < WITH_MARK)
+    fields = there;
+    if (fields < FIELDS_OF_RESULT)
         n[11] = n[10];
     return (struct door_result){.refusal = word(n[0]),
                                 .fault = word(n[1]),
@@ -222,7 +223,7 @@ static void answer(const char *line) {
         broken("an answer without a call");
     if ((rest = after(line, "result"))) {
         expected.result = result_of(rest);
-        if (level < WITH_MARK)
+        if (fields < FIELDS_OF_RESULT)
             expected.result.mark = expected.got.mark;
     } else if ((rest = after(line, "store"))) {
         if (cells_of(rest, expected.store) != lent.cells)
@@ -244,8 +245,7 @@ static void take(const char *line) {
     if (line[0] == '\0' || line[0] == '#')
         return;
     if ((rest = after(line, "level"))) {
-        level = word(number_of(&rest));
-        if (level != 2 && level != 3)
+        if (strcmp(rest, "5") != 0)
             broken("a level that is not known");
     } else if ((rest = after(line, "image")))
         take_image(rest);
@@ -274,6 +274,7 @@ static void take_file(void) {
         perror(file_name);
         exit(2);
     }
+    fields = 0;
     for (line_number = 1; fgets(line, sizeof line, file); line_number++) {
         if (!strchr(line, '\n'))
             broken("too long a line");
