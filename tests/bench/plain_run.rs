@@ -1,7 +1,7 @@
-//! Document 01's run in plain Rust, IN as document 02 has it, with the mark, and with no proof. It is written from the
-//! papers alone, in the forms that document 01 names: rows are read from the image at each visit, `find` and `eval` call
-//! each other on lower node rows, answers are enums. Sizes, places and frames are found once, after the check of
-//! plain.rs. The benchmark holds the proved run to its speed, and to its answers.
+//! Document 01's run in plain Rust, IN and division as document 02 has them, with the mark, and with no proof. It is
+//! written from the papers alone, in the forms that document 01 names: rows are read from the image at each visit, `find`
+//! and `eval` call each other on lower node rows, answers are enums. Sizes, places and frames are found once, after the
+//! check of plain.rs. The benchmark holds the proved run to its speed, and to its answers.
 //!
 //! What the check has shown is not asked again at each step: an arm that no accepted image reaches is `unreachable!`,
 //! and a cell is taken as the kind that its type gives.
@@ -369,9 +369,9 @@ fn integers(operator: usize, x: i32, y: i32) -> Answer {
         1 => x.checked_add(y),
         2 => x.checked_sub(y),
         3 => x.checked_mul(y),
-        4 | 5 if y <= 0 => return Answer::Trap(Trap::Divisor),
-        4 => Some(x.div_euclid(y)),
-        5 => Some(x.rem_euclid(y)),
+        4 | 5 if y == 0 => return Answer::Trap(Trap::Divisor),
+        4 => quotient(x, y),
+        5 => Some(remainder(x, y)),
         7 => return boolean(x == y),
         8 => return boolean(x != y),
         9 => return boolean(x < y),
@@ -383,6 +383,28 @@ fn integers(operator: usize, x: i32, y: i32) -> Answer {
     };
     let Some(number) = number else { return Answer::Trap(Trap::Overflow) };
     Answer::Val(Value::Int(number))
+}
+
+/// Rounded down. -2147483648 by -1 has none.
+fn quotient(x: i32, y: i32) -> Option<i32> {
+    let toward_zero = x.checked_div(y)?;
+    Some(toward_zero - below(x % y, y) as i32)
+}
+
+/// Between 0 and y, or 0.
+fn remainder(x: i32, y: i32) -> i32 {
+    let toward_zero = x.wrapping_rem(y);
+    if below(toward_zero, y) {
+        toward_zero + y
+    } else {
+        toward_zero
+    }
+}
+
+/// Whether a division with this remainder, rounded toward zero, is to be rounded down: the remainder has another sign
+/// than the divisor.
+fn below(remainder: i32, y: i32) -> bool {
+    remainder != 0 && (remainder ^ y) < 0
 }
 
 fn boolean(x: bool) -> Answer {
