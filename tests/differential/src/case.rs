@@ -11,16 +11,17 @@ use crate::mutate;
 use crate::random::Random;
 use crate::surroundings::{other_steps, Surroundings};
 use listing::image_of;
-use model::Program;
+use model::{Machine, Program, Step};
 
 /// Is told of each run and continuation that both sides agree on: what was lent, the earlier result, and what came back.
 pub type Watcher<'a> = &'a mut dyn FnMut(&Surroundings, Option<&door::Numbers>, &door::Numbers);
 
-/// In thousandths: how many accepted images get states that no run left, how many runs that ended are cut, and how
-/// many refused images are continued.
+/// In thousandths: how many accepted images get states that no run left, how many runs that ended are cut, how many
+/// refused images are continued, and how many accepted ones are followed step by step.
 const FOREIGN: usize = 500;
 const ENDED: usize = 60;
 const REFUSED: usize = 300;
+const FOLLOWED: usize = 200;
 /// How often a state gets damage.
 const DAMAGED: [(usize, usize); 3] = [(1, 1), (1, 2), (1, 3)];
 /// What the seed of `marks` differs by.
@@ -89,7 +90,7 @@ impl Case {
         if self.random.chance(FOREIGN) {
             self.continue_foreign(&sight, counts, watcher)?;
         }
-        if self.random.chance(60) {
+        if self.random.chance(FOLLOWED) {
             self.follow(program, needed, counts);
         }
         Ok(())
@@ -257,16 +258,16 @@ impl Case {
         Ok(())
     }
 
-    /// Counts the statements that the first steps execute.
+    /// Counts the statements that the first steps execute, and the divisions in them, by the model.
     fn follow(&mut self, program: &Program, needed: usize, counts: &mut Counts) {
-        let lent = Surroundings::pick(&mut self.random, needed);
-        let mut store = vec![0; needed + 100];
-        for steps in 0..40 {
-            let numbers = door::run_numbers(&self.image, &lent.input, &mut store, &mut lent.output.clone(), steps);
-            if numbers.refusal > 0 || numbers.outcome > 0 {
+        let Surroundings { input, mut output, .. } = Surroundings::pick(&mut self.random, needed);
+        let store = vec![0; needed + 100];
+        let Ok(mut machine) = Machine::fresh(program, &input, &store, &mut output) else { return };
+        for _ in 0..40 {
+            counts.executed(program, &machine);
+            if machine.step() != Step::GoesOn {
                 return;
             }
-            counts.add(Group::Executed, program.statements[numbers.row as usize].kind as usize);
         }
     }
 }

@@ -1,11 +1,12 @@
 //! What the images and runs reached, and how often.
 
 use crate::compare::After;
+use crate::divisions::{self, DIV, MOD};
 use crate::frames::{Given, Sight};
 use crate::traps::{self, Origin};
 use listing::SCALARS;
 use model::program::{Program, CALL, DYADIC, ELEMENT, GUARD, MONADIC};
-use model::{rules, Fault};
+use model::{rules, Fault, Machine};
 
 #[derive(Clone, Copy, Debug, PartialEq, Eq)]
 pub enum Group {
@@ -19,6 +20,7 @@ pub enum Group {
     Monadic,
     Statement,
     Executed,
+    Division,
     Parameter,
     Extension,
     Rule,
@@ -37,7 +39,7 @@ pub enum Group {
     ContinuedShorter,
 }
 
-const GROUPS: [(Group, &str); 26] = [
+const GROUPS: [(Group, &str); 27] = [
     (Group::Refusal, "refusals of runs"),
     (Group::Outcome, "outcomes of runs"),
     (Group::Steps, "unrefused runs by their steps"),
@@ -48,6 +50,7 @@ const GROUPS: [(Group, &str); 26] = [
     (Group::Monadic, "monadic operators by their operand"),
     (Group::Statement, "statements in accepted images"),
     (Group::Executed, "statements executed, in the first steps of some runs"),
+    (Group::Division, "divisions in these statements"),
     (Group::Parameter, "parameters"),
     (Group::Extension, "extensions of a record"),
     (Group::Rule, "rules broken, of the model's list"),
@@ -88,18 +91,19 @@ const DYADIC_OPERATORS: [(&str, &[usize]); 16] = [
     ("..", &[1]),
 ];
 const MONADIC_OPERATORS: [(&str, &[usize]); 2] = [("-", &[1, 2]), ("~", &[0])];
-/// Nodes that can trap, by kind and operator.
-const TRAPPING: [(&str, u8, u16); 10] = [
-    ("element", ELEMENT, 0),
-    ("guard", GUARD, 0),
-    ("monadic -", MONADIC, 1),
-    ("+", DYADIC, 1),
-    ("-", DYADIC, 2),
-    ("*", DYADIC, 3),
-    ("DIV", DYADIC, 4),
-    ("MOD", DYADIC, 5),
-    ("IN", DYADIC, traps::IN),
-    ("..", DYADIC, 16),
+/// Nodes that can trap, by kind, operator and trap.
+const TRAPPING: [(&str, u8, u16, u32); 11] = [
+    ("element", ELEMENT, 0, 1),
+    ("guard", GUARD, 0, 2),
+    ("monadic -", MONADIC, 1, 4),
+    ("+", DYADIC, 1, 4),
+    ("-", DYADIC, 2, 4),
+    ("*", DYADIC, 3, 4),
+    ("DIV that overflows", DYADIC, DIV, 4),
+    ("DIV by 0", DYADIC, DIV, 5),
+    ("MOD by 0", DYADIC, MOD, 5),
+    ("IN", DYADIC, traps::IN, 6),
+    ("..", DYADIC, 16, 6),
 ];
 /// Counted besides the node itself.
 const BEFORE_IN: &str = "in the right operand of an IN whose element is outside";
@@ -130,6 +134,10 @@ fn names(group: Group) -> Vec<Option<String>> {
         Group::Dyadic => operators(&DYADIC_OPERATORS),
         Group::Monadic => operators(&MONADIC_OPERATORS),
         Group::Statement | Group::Executed => all(&STATEMENTS),
+        Group::Division => {
+            let of = |operator: &str| divisions::NAMES.map(|name| Some(format!("{operator} {name}")));
+            [of("DIV"), of("MOD")].concat()
+        }
         Group::Parameter => {
             let of = |kind: &str| FORMS.map(|form| Some(format!("{kind} {form}")));
             [of("value"), of("VAR")].concat()
@@ -211,11 +219,21 @@ impl Counts {
     /// What trapped in a run of an accepted image.
     pub fn trapped(&mut self, program: &Program, after: &After) {
         let Some(Origin { node, before_in }) = traps::origin(program, after) else { return };
-        let row = program.nodes[node];
-        let number = TRAPPING.iter().position(|(_, kind, c)| (row.kind, row.c) == (*kind, *c));
+        let trapped = (program.nodes[node].kind, program.nodes[node].c, after.numbers.trap);
+        let number = TRAPPING.iter().position(|(_, kind, c, trap)| (*kind, *c, *trap) == trapped);
         self.add(Group::Trapping, number.expect("a node of the list"));
         if before_in {
             self.add(Group::Trapping, TRAPPING.len());
+        }
+    }
+
+    /// The statement that a machine comes to next, and the divisions in it.
+    pub fn executed(&mut self, program: &Program, machine: &Machine) {
+        self.add(Group::Executed, program.statements[machine.state.row].kind as usize);
+        for division in divisions::next(program, machine) {
+            let first = if division.operator == DIV { 0 } else { divisions::NAMES.len() };
+            let is = division.is();
+            (0..is.len()).filter(|i| is[*i]).for_each(|i| self.add(Group::Division, first + i));
         }
     }
 

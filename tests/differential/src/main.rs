@@ -12,6 +12,7 @@ mod case;
 mod compare;
 mod counts;
 mod damage;
+mod divisions;
 mod foreign;
 mod frames;
 mod generate;

@@ -1,6 +1,7 @@
 //! Random bodies: statements, branches, loops and calls.
 
 use super::types::{BOOLEAN, INTEGER};
+use super::values::MOD;
 use super::Maker;
 use crate::image::{most_rows, row};
 use listing::{Row, NODES, STATEMENTS};
@@ -132,9 +133,9 @@ impl Maker<'_> {
         if kind != INTEGER || fuel < 2 || self.random.chance(400) {
             return value;
         }
-        let bound = *self.random.pick(&[7, 32, 100, 1000]);
-        let right = self.number(bound);
-        self.dyadic(value, 5, right)
+        let bound = *self.random.pick(&[7, 32, 100, 1000, -9, -100]);
+        let right = self.signed(bound);
+        self.dyadic(value, MOD, right)
     }
 
     fn read(&mut self, fuel: usize) -> Option<Row> {

@@ -8,6 +8,9 @@ use crate::image::row;
 const EDGES: [i32; 14] =
     [i32::MIN, i32::MAX, i32::MIN + 1, i32::MAX - 1, -1, 0, 1, 31, 32, 33, 65535, 65536, -65536, 46341];
 
+const DIV: usize = 4;
+pub const MOD: usize = 5;
+
 impl Maker<'_> {
     /// An expression of the kind, with about as many operators as fuel says.
     pub fn value(&mut self, kind: usize, fuel: usize) -> usize {
@@ -69,6 +72,10 @@ impl Maker<'_> {
         self.constant(INTEGER, value as u32)
     }
 
+    pub fn signed(&mut self, value: i32) -> usize {
+        self.constant(INTEGER, value as u32)
+    }
+
     pub fn dyadic(&mut self, left: usize, operator: usize, right: usize) -> usize {
         self.push(row(5, left, right, operator))
     }
@@ -85,16 +92,21 @@ impl Maker<'_> {
         self.dyadic(left, operator, right)
     }
 
-    /// 7 DIV 0, 7 MOD -1, or a sum or a negation that overflows.
+    fn numbers(&mut self, x: i32, operator: usize, y: i32) -> usize {
+        let left = self.signed(x);
+        let right = self.signed(y);
+        self.dyadic(left, operator, right)
+    }
+
+    /// 7 DIV 0, 7 MOD 0, or a quotient, a sum or a negation that overflows.
     fn trapping(&mut self) -> usize {
         if self.random.chance(100) {
-            let least = self.constant(INTEGER, i32::MIN as u32);
+            let least = self.signed(i32::MIN);
             return self.monadic(1, least);
         }
-        let (x, operator, y) = *self.random.pick(&[(7, 4, 0), (7, 5, -1), (i32::MAX, 1, 1), (i32::MIN, 2, 1)]);
-        let left = self.constant(INTEGER, x as u32);
-        let right = self.constant(INTEGER, y as u32);
-        self.dyadic(left, operator, right)
+        let traps = [(7, DIV, 0), (7, MOD, 0), (i32::MIN, DIV, -1), (i32::MAX, 1, 1), (i32::MIN, 2, 1)];
+        let (x, operator, y) = *self.random.pick(&traps);
+        self.numbers(x, operator, y)
     }
 
     fn integer(&mut self, fuel: usize) -> usize {
@@ -104,7 +116,7 @@ impl Maker<'_> {
                 self.monadic(1, node)
             }
             3 => self.product(fuel),
-            operator @ (4 | 5) => self.division(operator, fuel),
+            operator @ (DIV | MOD) => self.division(operator, fuel),
             operator => self.both(INTEGER, operator, fuel),
         }
     }
@@ -116,22 +128,59 @@ impl Maker<'_> {
         }
         let left = self.value(INTEGER, fuel - 1);
         let factor = self.random.between(0, 6) as i32 - 3;
-        let right = self.constant(INTEGER, factor as u32);
+        let right = self.signed(factor);
         self.dyadic(left, 3, right)
     }
 
+    /// Mostly by a number that is not 0, as often negative as positive, so that it seldom traps.
     fn division(&mut self, operator: usize, fuel: usize) -> usize {
         if self.risky() {
-            return self.both(INTEGER, operator, fuel);
+            return match self.random.chance(250) {
+                true => self.numbers(i32::MIN, operator, -1),
+                false => self.both(INTEGER, operator, fuel),
+            };
         }
-        let left = self.value(INTEGER, fuel - 1);
-        let divisor = match self.random.below(10) {
-            0 => self.random.between(1, 1 << 31) - usize::from(self.random.chance(500)),
-            1 => 1,
-            _ => self.random.between(1, 30),
+        if operator == MOD && self.random.chance(30) {
+            return self.numbers(i32::MIN, MOD, -1);
+        }
+        let left = match self.random.chance(100) {
+            true => {
+                let edge = *self.random.pick(&EDGES);
+                self.signed(edge)
+            }
+            false => self.value(INTEGER, fuel - 1),
         };
-        let right = self.number(divisor.clamp(1, i32::MAX as usize));
+        let right = match fuel > 1 && self.random.chance(200) {
+            true => self.found_divisor(fuel / 2),
+            false => {
+                let divisor = self.some_divisor();
+                self.signed(divisor)
+            }
+        };
         self.dyadic(left, operator, right)
+    }
+
+    /// Any number but 0, mostly a small one.
+    fn some_divisor(&mut self) -> i32 {
+        let size = match self.random.below(10) {
+            0 => self.random.between(1, 1 << 31) as i64,
+            1 => 1,
+            2 => *self.random.pick(&[1 << 31, (1 << 31) - 1, 1 << 30, 65_536, 46_341]),
+            _ => self.random.between(1, 30) as i64,
+        };
+        let divisor = if self.random.chance(500) { -size } else { size };
+        i32::try_from(divisor).unwrap_or(i32::MAX)
+    }
+
+    /// A divisor that the run finds: v MOD -k - 1, from -k to -1, or v MOD k + 1, from 1 to k.
+    fn found_divisor(&mut self, fuel: usize) -> usize {
+        let most = self.random.between(1, 9) as i32;
+        let value = self.value(INTEGER, fuel);
+        let (bound, operator) = *self.random.pick(&[(-most, 2), (most, 1)]);
+        let right = self.signed(bound);
+        let remainder = self.dyadic(value, MOD, right);
+        let one = self.signed(1);
+        self.dyadic(remainder, operator, one)
     }
 
     /// An INTEGER of 0 to bound - 1, but for a seldom mistake.
@@ -144,7 +193,7 @@ impl Maker<'_> {
             let near = [(3, bound), (1, bound - 1), (2, -1), (1, bound + 1), (1, i32::MAX), (1, i32::MIN), (1, 0)];
             let edge = self.random.weighted(&near);
             return match self.random.chance(600) {
-                true => self.constant(INTEGER, edge as u32),
+                true => self.signed(edge),
                 false => self.value(INTEGER, fuel / 2),
             };
         }
@@ -152,9 +201,16 @@ impl Maker<'_> {
             let place = self.random.below(bound);
             return self.number(place);
         }
-        let left = self.value(INTEGER, fuel / 2);
-        let right = self.number(bound);
-        self.dyadic(left, 5, right)
+        let value = self.value(INTEGER, fuel / 2);
+        if self.random.chance(700) {
+            let right = self.number(bound);
+            return self.dyadic(value, MOD, right);
+        }
+        // From bound - 1 on down.
+        let right = self.signed(-(bound as i32));
+        let remainder = self.dyadic(value, MOD, right);
+        let last = self.number(bound - 1);
+        self.dyadic(remainder, 1, last)
     }
 
     pub fn index(&mut self, length: usize, fuel: usize) -> usize {
