@@ -200,21 +200,39 @@ static unsigned new_designator(unsigned type, unsigned p, unsigned depth) {
     return NONE;
 }
 
+static unsigned new_number(uint32_t n) { return add(&b, NODES, CONSTANT, INTEGER, n >> 16, n & 0xffff); }
+
 /* A constant for IN: mostly an element, 0 to 31. */
 static unsigned new_element(void) {
     static const uint32_t outside[] = {32, 33, INT32_MAX, 0x80000000, UINT32_MAX};
-    const uint32_t n = below(8) ? below(32) : outside[below(sizeof outside / sizeof outside[0])];
-    return add(&b, NODES, CONSTANT, INTEGER, n >> 16, n & 0xffff);
+    return new_number(below(8) ? below(32) : outside[below(sizeof outside / sizeof outside[0])]);
 }
+
+/* A constant for a divisor: mostly small, and as often negative as positive; else -1, 0 or one at the edges. */
+static unsigned new_divisor(void) {
+    static const uint32_t others[] = {UINT32_MAX, 0, 0x80000000, 0x80000001, INT32_MAX};
+    const uint32_t small = 1 + below(9);
+    return new_number(below(4) == 0 ? others[below(sizeof others / sizeof others[0])] : below(2) ? small : 0 - small);
+}
+
+/* A constant for a dividend: the least INTEGER, whose quotient by -1 overflows. */
+static unsigned new_dividend(void) { return new_number(0x80000000); }
+
+/* DIV or MOD. */
+static bool divides(unsigned type, unsigned op) { return type == INTEGER && (op == 4 || op == 5); }
 
 static unsigned new_dyadic(unsigned type, unsigned p, unsigned depth) {
     const unsigned choice = below(8);
     const bool compares = type == BOOLEAN && choice < 4, in = type == BOOLEAN && choice == 4;
     const bool range = type == SET && choice == 0;
+    const unsigned op = range ? 16 : in ? 15 : compares ? 7 + below(6) : operator_for(type, true);
     const unsigned left = compares || range || in ? INTEGER : type;
-    const unsigned x = in && below(4) ? new_element() : new_expression(left, p, depth - 1);
-    const unsigned y = new_expression(compares || range ? INTEGER : in ? SET : type, p, depth - 1);
-    return add(&b, NODES, DYADIC, x, y, range ? 16 : in ? 15 : compares ? 7 + below(6) : operator_for(type, true));
+    const unsigned right = compares || range ? INTEGER : in ? SET : type;
+    const unsigned x = in && below(4)                       ? new_element()
+                       : divides(type, op) && below(8) == 0 ? new_dividend()
+                                                            : new_expression(left, p, depth - 1);
+    const unsigned y = divides(type, op) && below(4) ? new_divisor() : new_expression(right, p, depth - 1);
+    return add(&b, NODES, DYADIC, x, y, op);
 }
 
 static unsigned new_expression(unsigned type, unsigned p, unsigned depth) {
@@ -291,11 +309,14 @@ static unsigned procedure_of(unsigned statement) {
 static void wrap(unsigned node) {
     const unsigned type = type_of(node);
     const bool dyadic = below(4) != 0, first = below(2);
+    const unsigned op = operator_for(type, dyadic);
     uint8_t row[8];
     if (kind_at(NODES, node) == ARGUMENT || type > SET || b.count[NODES] + 3 > room[NODES])
         return;
     if (dyadic) {
-        memcpy(row, row_at(NODES, new_constant(type)), 8);
+        const bool other = divides(type, op) && below(4);
+        const unsigned constant = !other ? new_constant(type) : first ? new_dividend() : new_divisor();
+        memcpy(row, row_at(NODES, constant), 8);
         b.count[NODES]--;
         insert_row(NODES, node, row);
         node++;
@@ -303,9 +324,9 @@ static void wrap(unsigned node) {
     memcpy(row, row_at(NODES, node), 8);
     insert_row(NODES, node, row); /* what named the node names the row behind this copy of it: the operator */
     if (dyadic)
-        set_row(row, DYADIC, first ? node - 1 : node, first ? node : node - 1, operator_for(type, true));
+        set_row(row, DYADIC, first ? node - 1 : node, first ? node : node - 1, op);
     else
-        set_row(row, MONADIC, node, 0, operator_for(type, false));
+        set_row(row, MONADIC, node, 0, op);
     memcpy(row_at(NODES, node + 1), row, 8);
 }
 
