@@ -26,7 +26,7 @@ rest-below (pos a) d h = mod-lt a h
 rest-below (negsuc a) d h = let r = mod-lt a h in omega arith
 
 -- a negative number, and a natural one that does not reach 0 from there
-up-from : (m k a : ℕ) → k + suc a ≡ m → negℤ (pos m) +ℤ pos k ≡ negsuc a
+pub up-from : (m k a : ℕ) → k + suc a ≡ m → negℤ (pos m) +ℤ pos k ≡ negsuc a
 up-from zero k a e = absurd (omega arith)
 up-from (suc m) k a e = rw (lt-ltb k (suc m) (omega arith)) (ap negsuc (omega arith))
 
