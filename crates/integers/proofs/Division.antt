@@ -1,17 +1,15 @@
 -- DIV and MOD are known by two sentences: "x = (x DIV y) × y + (x MOD y)", and the range of x MOD y. They hold for every
 -- divisor but 0 (`div-mod`), and no other two numbers meet them (`divided-once`).
 use mathlib.Core.Path.{_≡_, refl, sym, ap, _∙_}
-use mathlib.Core.Bool.{Bool, true, false}
+use mathlib.Core.Bool.{true, false}
 use Prim.Native.Nat.{ℕ, zero, suc, _+_, _-_, _*_, _/_, _%_, _<_}
 use native.Mathlib.Omega.{arith}
 use native.Mathlib.Nat.{mod-lt, div-add-mod', suc-mul, div-eq-of-lt-le}
-use borrow.Author.Tests.{ltb-true, leb-true, eqb-false, lt-ltb, le-ltb, le-leb, lt-leb, eq-eqb}
-use lib.Dec.{eqb, ltb}
+use borrow.Author.Tests.{ltb-true, leb-true, eqb-false, lt-ltb, le-leb}
+use lib.Dec.{eqb}
 use lib.IntN.{ℤ, pos, negsuc, negℤ, natAbs, _+ℤ_, _-ℤ_, _*ℤ_}
-use lib.IntN.{negℤ-negℤ, negℤ-+ℤ, +ℤ-comm, +ℤ-negℤ-cancel, *ℤ-negsuc}
-use lib.Signed.{ltZ, leZ}
-use Rattle.prelude.specs.Choice.{_also_}
-use Rattle.prelude.proofs.Choice.{clash, also-true, also-yes, also-first, same-truth}
+use lib.IntN.{negℤ-negℤ, negℤ-+ℤ, +ℤ-comm, +ℤ-negℤ-cancel, *ℤ-zero, *ℤ-negsuc}
+use Rattle.prelude.proofs.Choice.{clash, also-true, also-yes}
 use Rattle.integers.specs.Integers.{quotientOf, divOf, modOf, isRemainder, Divided}
 
 -- ---- by a magnitude
@@ -45,35 +43,30 @@ quotient-once (negsuc k) d r h =
     let e : a / d ≡ k = div-eq-of-lt-le {k = k} d (omega arith) (omega (arith, suc-mul k d)) in
     rw (up-from (suc k * d) r a (omega (arith, suc-mul k d))) (ap negsuc (sym e))
 
--- ---- with the signs turned, but not the quotient's
+-- ---- with all signs turned but the quotient's
 
-remains-turned : (n : ℕ) (r : ℤ) → isRemainder (negsuc n) (negℤ r) ≡ isRemainder (pos (suc n)) r
-unfolding isRemainder _also_
-remains-turned n (pos zero) = sym (lt-ltb 0 (suc n) (omega arith))
-remains-turned n (pos (suc k)) =
-    rw (le-leb 0 (suc k) (omega arith))
-    (also-first (ltb k n) refl
-    ∙ same-truth (ltb k n) (ltb (suc k) (suc n))
-    (λ h. let l = ltb-true k n h in lt-ltb (suc k) (suc n) (omega arith))
-    (λ h. let l = ltb-true (suc k) (suc n) h in lt-ltb k n (omega arith)))
-remains-turned n (negsuc k) = lt-leb (suc k) 0 (omega arith)
+product-turned : (q y : ℤ) → negℤ (q *ℤ y) ≡ q *ℤ negℤ y
+product-turned q (pos zero) = ap negℤ (*ℤ-zero q) ∙ sym (*ℤ-zero q)
+product-turned q (pos (suc n)) = sym (*ℤ-negsuc q n)
+product-turned q (negsuc n) = ap negℤ (*ℤ-negsuc q n) ∙ negℤ-negℤ (q *ℤ pos (suc n))
 
-turned : (x q r : ℤ) (n : ℕ) → Divided x (pos (suc n)) q r → Divided (negℤ x) (negsuc n) q (negℤ r)
-turned x q r n h = record {
-  whole =
-      ap negℤ (h .whole)
-      ∙ negℤ-+ℤ (q *ℤ pos (suc n)) r
-      ∙ ap (λ z. z +ℤ negℤ r) (sym (*ℤ-negsuc q n));
-  remains = remains-turned n r ∙ h .remains;
-}
+remains-turned : (y r : ℤ) → isRemainder y r ≡ true → isRemainder (negℤ y) (negℤ r) ≡ true
+unfolding isRemainder
+remains-turned (pos n) (negsuc k) h = clash (sym (also-true _ _ h .0))
+remains-turned (pos zero) (pos k) h = absurd (let l = ltb-true k 0 (also-true _ _ h .1) in omega arith)
+remains-turned (pos (suc n)) (pos zero) h = also-yes refl (le-leb 0 0 (omega arith))
+remains-turned (pos (suc n)) (pos (suc k)) h =
+    also-yes (lt-ltb k n (let l = ltb-true (suc k) (suc n) (also-true _ _ h .1) in omega arith)) refl
+remains-turned (negsuc n) (pos zero) h = also-yes (le-leb 0 0 (omega arith)) (lt-ltb 0 (suc n) (omega arith))
+remains-turned (negsuc n) (pos (suc k)) h = absurd (let l = leb-true (suc k) 0 (also-true _ _ h .1) in omega arith)
+remains-turned (negsuc n) (negsuc k) h =
+    let l = ltb-true k n (also-true _ _ h .0) in
+    also-yes (le-leb 0 (suc k) (omega arith)) (lt-ltb (suc k) (suc n) (omega arith))
 
-turned-back : (x q r : ℤ) (n : ℕ) → Divided x (negsuc n) q r → Divided (negℤ x) (pos (suc n)) q (negℤ r)
-turned-back x q r n h = record {
-  whole =
-      ap negℤ (h .whole)
-      ∙ negℤ-+ℤ (q *ℤ negsuc n) r
-      ∙ ap (λ z. z +ℤ negℤ r) (ap negℤ (*ℤ-negsuc q n) ∙ negℤ-negℤ (q *ℤ pos (suc n)));
-  remains = sym (remains-turned n (negℤ r)) ∙ ap (isRemainder (negsuc n)) (negℤ-negℤ r) ∙ h .remains;
+turned : (x y q r : ℤ) → Divided x y q r → Divided (negℤ x) (negℤ y) q (negℤ r)
+turned x y q r h = record {
+  whole = ap negℤ (h .whole) ∙ negℤ-+ℤ (q *ℤ y) r ∙ ap (λ z. z +ℤ negℤ r) (product-turned q y);
+  remains = remains-turned y r (h .remains);
 }
 
 -- ---- by any divisor but 0
@@ -97,7 +90,7 @@ pub div-mod : (x y : ℤ) → eqb (natAbs y) 0 ≡ false → Divided x y (divOf 
 unfolding divOf
 div-mod x (pos n) h = with-mod x (pos n) (pos (rest x n)) (by-rest x n (let k = eqb-false n 0 h in omega arith))
 div-mod x (negsuc n) h =
-    let turn = turned (negℤ x) _ _ n (by-rest (negℤ x) (suc n) (omega arith)) in
+    let turn = turned (negℤ x) (pos (suc n)) _ _ (by-rest (negℤ x) (suc n) (omega arith)) in
     with-mod x (negsuc n) (negℤ (pos (rest (negℤ x) (suc n)))) (rw (negℤ-negℤ x) at turn)
 
 -- ---- nothing else meets the two
@@ -111,7 +104,7 @@ quotient-is x q (pos r) d h =
 div-is : (x y q r : ℤ) → Divided x y q r → q ≡ divOf x y
 unfolding divOf
 div-is x (pos n) q r h = quotient-is x q r n h
-div-is x (negsuc n) q r h = quotient-is (negℤ x) q (negℤ r) (suc n) (turned-back x q r n h)
+div-is x (negsuc n) q r h = quotient-is (negℤ x) q (negℤ r) (suc n) (turned x (negsuc n) q r h)
 
 pub divided-once : (x y q r : ℤ) → Divided x y q r → (q ≡ divOf x y) × (r ≡ modOf x y)
 unfolding modOf
