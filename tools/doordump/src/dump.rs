@@ -1,8 +1,8 @@
 //! The tables of an image in words. It asks nothing of their rows: a row that has no words stands with its numbers, as
 //! in a listing.
 use listing::{
-    children, fields_before, named, row_line, row_text, type_words, Row, Tables, Words, FIELDS, KINDS_OF_VARIABLES,
-    NODES, PROCEDURES, STATEMENTS, TYPES, VARIABLES,
+    children, fields_before, named, row_line, row_text, Names, Row, Tables, Words, FIELDS, KINDS_OF_VARIABLES, NODES,
+    PROCEDURES, STATEMENTS, TYPES, VARIABLES,
 };
 use model::words::counted;
 use model::Program;
@@ -38,9 +38,9 @@ pub fn head(image: &[u8], tables: &Tables) -> String {
 }
 
 /// The tables, with sizes and places where the image is accepted.
-pub fn of(tables: &Tables, program: Option<&Program>, mark: Option<Mark>) -> String {
+pub fn of(tables: &Tables, names: &Names, program: Option<&Program>, mark: Option<Mark>) -> String {
     let said = tables.each_ref().map(|table| vec![false; table.len()]);
-    let mut dump = Dump { tables, program, mark, said, has_nodes: false, text: String::new() };
+    let mut dump = Dump { tables, names, program, mark, said, has_nodes: false, text: String::new() };
     dump.types();
     dump.globals();
     dump.procedures();
@@ -74,14 +74,14 @@ pub fn names(tables: &Tables) -> String {
 }
 
 /// A statement in words.
-pub fn statement(tables: &Tables, at: usize) -> String {
-    statement_words(tables, at).0
+pub fn statement(tables: &Tables, names: &Names, at: usize) -> String {
+    statement_words(tables, names, at).0
 }
 
 /// A statement in words, and the nodes that are in these words.
-fn statement_words(tables: &Tables, at: usize) -> (String, Vec<usize>) {
+fn statement_words(tables: &Tables, names: &Names, at: usize) -> (String, Vec<usize>) {
     let row = tables[STATEMENTS][at];
-    let mut words = Words::new(tables, NODES_IN_WORDS);
+    let mut words = Words::new(tables, names, NODES_IN_WORDS);
     let text = match row_text(STATEMENTS, at, row) {
         Some(form) => words.statement(row).unwrap_or(form),
         None => format!("row {} {} {} {} {}", row.kind, row.zero, row.a, row.b, row.c),
@@ -91,6 +91,7 @@ fn statement_words(tables: &Tables, at: usize) -> (String, Vec<usize>) {
 
 struct Dump<'a> {
     tables: &'a Tables,
+    names: &'a Names,
     program: Option<&'a Program>,
     mark: Option<Mark>,
     /// The rows of each table that are in the text.
@@ -135,34 +136,41 @@ impl Dump<'_> {
 
     fn type_text(&mut self, at: usize, row: Row) -> String {
         match row.kind {
-            3 if row_text(TYPES, at, row).is_some() => format!("T{at} = ARRAY {} OF {}", row.b, type_words(row.a)),
+            3 if row_text(TYPES, at, row).is_some() => {
+                format!("{} = ARRAY {} OF {}", self.names.declared_type(at), row.b, self.type_name(row.a as usize))
+            }
             4 if row.zero == 0 => self.record_text(at, row),
             _ => row_line(TYPES, at, row),
         }
     }
 
+    fn type_name(&self, row: usize) -> String {
+        self.names.type_row(row)
+    }
+
     /// A record with its own fields, as far as these are there.
     fn record_text(&mut self, at: usize, row: Row) -> String {
-        let base = if row.a == 0 { String::new() } else { format!(" ({})", type_words(row.a - 1)) };
+        let base = if row.a == 0 { String::new() } else { format!(" ({})", self.type_name(row.a as usize - 1)) };
         let (first, end) = (row.b as usize, row.b as usize + row.c as usize);
         let there = first.min(self.tables[FIELDS].len())..end.min(self.tables[FIELDS].len());
         let missing = end - first - there.len();
         let before = fields_before(self.tables, at);
         let mut fields: Vec<String> = Vec::new();
         for (k, field) in there.enumerate() {
-            fields.push(format!(" f{}: {}", before + k, self.field_text(field)));
+            let name = self.names.field(self.tables, Some(at), before + k);
+            fields.push(format!(" {name}: {}", self.field_text(field)));
             self.said[FIELDS][field] = true;
         }
         if missing > 0 {
             fields.push(format!(" {missing} field rows that are not there"));
         }
-        format!("T{at} = RECORD{base}{} END", fields.join(";"))
+        format!("{} = RECORD{base}{} END", self.names.declared_type(at), fields.join(";"))
     }
 
     fn field_text(&self, at: usize) -> String {
         let row = self.tables[FIELDS][at];
         match row_text(FIELDS, at, row) {
-            Some(_) => type_words(row.a),
+            Some(_) => self.type_name(row.a as usize),
             None => format!("({})", row_line(FIELDS, at, row)),
         }
     }
@@ -179,10 +187,11 @@ impl Dump<'_> {
 
     fn variable(&mut self, at: usize, note: impl Fn(&Program) -> String) {
         let row = self.tables[VARIABLES][at];
+        let declared = format!("{}: {}", self.names.variable(at), self.type_name(row.a as usize));
         let text = match (row_text(VARIABLES, at, row), row.kind) {
             (None, _) => row_line(VARIABLES, at, row),
-            (Some(_), 0) => format!("v{at}: {}", type_words(row.a)),
-            (Some(_), kind) => format!("{} v{at}: {}", KINDS_OF_VARIABLES[kind as usize], type_words(row.a)),
+            (Some(_), 0) => declared,
+            (Some(_), kind) => format!("{} {declared}", KINDS_OF_VARIABLES[kind as usize]),
         };
         self.noted(VARIABLES, at, &format!("  {text}"), note);
     }
@@ -218,7 +227,7 @@ impl Dump<'_> {
             if start == next_statement && start < end { String::new() } else { format!(", from statement {start}") };
         let text = match row_text(PROCEDURES, at, row) {
             None => row_line(PROCEDURES, at, row),
-            Some(_) => format!("PROCEDURE p{at}{module}{from}"),
+            Some(_) => format!("PROCEDURE {}{module}{from}", self.names.procedure(at)),
         };
         self.text.push('\n');
         self.noted(PROCEDURES, at, &text, |program| format!("a frame of {}", counted(program.frame(at), "cell")));
@@ -228,7 +237,7 @@ impl Dump<'_> {
     }
 
     fn statement(&mut self, at: usize) {
-        let (text, nodes) = statement_words(self.tables, at);
+        let (text, nodes) = statement_words(self.tables, self.names, at);
         for node in nodes {
             self.said[NODES][node] = true;
         }

@@ -1,5 +1,5 @@
 //! What the bytes of an image without six tables say of it.
-use crate::dump::NAMES;
+use doordump::dump::NAMES;
 use listing::ROWS;
 use model::words::counted;
 use std::path::Path;

@@ -3,12 +3,11 @@
 //! Number and row of a refusal are the proved check's. Which rule is broken, and by what, is said by the model
 //! (tests/model); where the two differ, that is said, and the exit status is 3.
 
-mod dump;
 mod header;
 mod verdict;
 
-use dump::Mark;
-use listing::{Tables, STATEMENTS};
+use doordump::dump::{self, Mark};
+use listing::{Names, Tables, STATEMENTS};
 use std::ffi::OsString;
 use std::path::Path;
 use std::process::ExitCode;
@@ -97,13 +96,14 @@ fn dump_tables(verdict: &Verdict, tables: &Tables, row: Option<usize>) -> Result
         return Err(format!("has statement rows 0 to {}, and no {row}", statements - 1));
     }
     let mark = verdict.mark(tables).or(stopped.map(|(_, row)| Mark { table: STATEMENTS, row }));
-    let mut text = format!("{}\n{}", verdict.line(), dump::of(tables, verdict.program(), mark));
+    let names = Names::default();
+    let mut text = format!("{}\n{}", verdict.line(), dump::of(tables, &names, verdict.program(), mark));
     if verdict.is_about_names() {
         text += &dump::names(tables);
     }
     text += &verdict.explained();
     if let Some((program, row)) = stopped {
-        let (procedure, words) = (program.procedure_at(row), dump::statement(tables, row));
+        let (procedure, words) = (program.procedure_at(row), dump::statement(tables, &names, row));
         text += &format!("\nstatement row {row} is in p{procedure}: {words}\n");
     }
     Ok(text)

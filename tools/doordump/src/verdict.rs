@@ -1,5 +1,5 @@
 //! What the check says of an image, and why.
-use crate::dump::{Mark, NAMES};
+use doordump::dump::{Mark, NAMES};
 use listing::{Tables, FIELDS, NODES, PROCEDURES, STATEMENTS, TYPES, VARIABLES};
 use model::{rules, Fault, Program};
 
@@ -176,7 +176,7 @@ mod tests {
     fn smallest() -> Vec<u8> {
         let listing = "type 0 = BOOLEAN\ntype 1 = INTEGER\ntype 2 = SET\nprocedure 0 at 0 parameters 0 locals 0\n\
                        statement 0: RETURN\n";
-        listing::image_of(&listing::read_listing(listing.as_bytes()).unwrap())
+        listing::image_of(&listing::read_listing(listing.as_bytes()).unwrap().tables)
     }
 
     #[test]

@@ -35,13 +35,15 @@
 //!
 //! So every image that passes questions 1 to 3 has a listing, whatever the other questions say of it.
 
+mod names;
 mod print;
 mod read;
 mod words;
 
-pub use print::{fields_before, listing_of, row_line, row_text};
-pub use read::{read_listing, Wrong};
-pub use words::{children, named, type_words, Words};
+pub use names::{designated, field_row, fields_before, Names};
+pub use print::{listing_of, row_line, row_text};
+pub use read::{read_listing, Listing, Wrong};
+pub use words::{children, named, set_words, Words};
 
 /// A row of a table, with the byte that is to be zero.
 #[derive(Clone, Copy, Debug, PartialEq, Eq)]

@@ -36,8 +36,8 @@ fn read(file: &Path) -> Result<Vec<u8>, Failed> {
 
 fn assemble(listing: &Path, image: &Path) -> Result<(), Failed> {
     let wrong = |(line, message)| (1, format!("{}:{line}: {message}", listing.display()));
-    let tables = read_listing(&read(listing)?).map_err(wrong)?;
-    std::fs::write(image, image_of(&tables)).map_err(|error| (2, format!("{}: {error}", image.display())))
+    let read = read_listing(&read(listing)?).map_err(wrong)?;
+    std::fs::write(image, image_of(&read.tables)).map_err(|error| (2, format!("{}: {error}", image.display())))
 }
 
 fn print(image: &Path) -> Result<(), Failed> {
@@ -52,7 +52,7 @@ fn again(images: &[&Path]) -> Result<(), Failed> {
         let bytes = read(image)?;
         match tables_of(&bytes).map(|tables| read_listing(listing_of(&tables).as_bytes())) {
             Err(_) => without += 1,
-            Ok(Ok(tables)) if image_of(&tables) == bytes => same += 1,
+            Ok(Ok(read)) if image_of(&read.tables) == bytes => same += 1,
             Ok(Ok(_)) => {
                 println!("{}: other bytes come back", image.display());
                 differing += 1;

@@ -1,4 +1,5 @@
 //! From tables to a listing.
+use crate::names::{fields_before, Names};
 use crate::words::{constant_words, named, Words};
 use crate::VARIABLES;
 use crate::{Row, Tables, FIELDS, KINDS_OF_VARIABLES, NODES, OPERATORS, PROCEDURES, ROWS, SCALARS, STATEMENTS, TYPES};
@@ -68,7 +69,8 @@ impl Printer<'_> {
 
     /// What a statement does, where that says more than its row and is short.
     fn comment(&self, row: Row) -> Option<String> {
-        let mut words = Words::new(self.tables, NODES_IN_COMMENT);
+        let names = Names::default();
+        let mut words = Words::new(self.tables, &names, NODES_IN_COMMENT);
         let text = words.statement(row)?;
         words.whole.then_some(text)
     }
@@ -125,15 +127,6 @@ fn record_text(tables: &Tables, at: usize, row: Row) -> Option<String> {
         text.push_str(&format!("f{}: {}", first + k, type_text(field.a)));
     }
     Some(text + " END")
-}
-
-/// How many fields a record has from its base.
-pub fn fields_before(tables: &Tables, record: usize) -> usize {
-    let base = tables[TYPES][record].a as usize;
-    match tables[TYPES][..record].get(base.wrapping_sub(1)) {
-        Some(row) if row.kind == 4 => fields_before(tables, base - 1) + row.c as usize,
-        _ => 0,
-    }
 }
 
 /// The line of a row by itself: in the form of its kind, or with its numbers where it has no such form. A record has

@@ -1,13 +1,21 @@
 //! From a listing to tables.
+use crate::names::Names;
 use crate::VARIABLES;
 use crate::{Row, Tables, FIELDS, KINDS_OF_VARIABLES, NODES, OPERATORS, PROCEDURES, ROWS, SCALARS, STATEMENTS, TYPES};
+
+/// What a listing gives: the tables, and the names of their rows.
+#[derive(Clone, Debug, Default, PartialEq, Eq)]
+pub struct Listing {
+    pub tables: Tables,
+    pub names: Names,
+}
 
 /// A line's number and what is wrong with it.
 pub type Wrong = (usize, String);
 
-/// The tables that a listing gives.
-pub fn read_listing(text: &[u8]) -> Result<Tables, Wrong> {
-    let mut tables: Tables = Default::default();
+/// What a listing gives, or its first mistake.
+pub fn read_listing(text: &[u8]) -> Result<Listing, Wrong> {
+    let mut listing = Listing::default();
     let mut line = Line { symbols: Vec::new(), at: 0 };
     let mut last = 0;
     for (at, bytes) in text.split(|byte| *byte == b'\n').enumerate() {
@@ -19,15 +27,15 @@ pub fn read_listing(text: &[u8]) -> Result<Tables, Wrong> {
         }
         line.symbols.extend(found.into_iter().map(|symbol| (at + 1, symbol)));
         if line.is_complete() {
-            read_row(&mut line, &mut tables).map_err(|message| (line.number_of_line(), message))?;
+            read_row(&mut line, &mut listing).map_err(|message| (line.number_of_line(), message))?;
             line = Line { symbols: Vec::new(), at: 0 };
         }
     }
     if let Some((at, _)) = line.symbols.first() {
         return Err((*at, "this record has no END".to_string()));
     }
-    all_there(&tables).map_err(|message| (last, message))?;
-    Ok(tables)
+    all_there(&listing.tables).map_err(|message| (last, message))?;
+    Ok(listing)
 }
 
 /// Whether each table has its fewest rows.
@@ -124,10 +132,11 @@ impl<'a> Line<'a> {
         self.number_to(65535).map(|number| number as u16)
     }
 
-    fn name(&mut self) -> Result<(), String> {
-        if self.peek().starts_with(|c: char| c.is_ascii_alphabetic()) {
+    fn name(&mut self) -> Result<&'a str, String> {
+        let name = self.peek();
+        if name.starts_with(|c: char| c.is_ascii_alphabetic()) {
             self.at += 1;
-            return Ok(());
+            return Ok(name);
         }
         Err(self.expected("a name"))
     }
@@ -149,11 +158,11 @@ fn row(kind: usize, a: u16, b: u16, c: u16) -> Row {
     Row { kind: kind as u8, zero: 0, a, b, c }
 }
 
-fn read_row(line: &mut Line, tables: &mut Tables) -> Result<(), String> {
+fn read_row(line: &mut Line, listing: &mut Listing) -> Result<(), String> {
     let Some(table) = ROWS.iter().position(|(name, _, _)| line.takes(name)) else {
         return Err(line.expected("type, field, var, procedure, node or statement"));
     };
-    let (name, count) = (ROWS[table].0, tables[table].len());
+    let (name, count) = (ROWS[table].0, listing.tables[table].len());
     let number = line.number()?;
     if number as usize != count {
         return Err(format!("the next one is {name} {count}, not {number}"));
@@ -162,11 +171,11 @@ fn read_row(line: &mut Line, tables: &mut Tables) -> Result<(), String> {
     if has_mark {
         line.take(if table == STATEMENTS { ":" } else { "=" })?;
     }
-    let found = if has_mark && line.takes("row") { read_numbers(line)? } else { read_form(table, line, tables)? };
+    let found = if has_mark && line.takes("row") { read_numbers(line)? } else { read_form(table, line, listing)? };
     if !line.peek().is_empty() {
         return Err(line.expected("the end of the line"));
     }
-    add(tables, table, found)
+    add(&mut listing.tables, table, found)
 }
 
 /// A row of any bytes.
@@ -175,11 +184,11 @@ fn read_numbers(line: &mut Line) -> Result<Row, String> {
     Ok(Row { kind, zero, a: line.number()?, b: line.number()?, c: line.number()? })
 }
 
-fn read_form(table: usize, line: &mut Line, tables: &mut Tables) -> Result<Row, String> {
+fn read_form(table: usize, line: &mut Line, listing: &mut Listing) -> Result<Row, String> {
     match table {
-        TYPES => read_type(line, tables),
+        TYPES => read_type(line, listing),
         FIELDS => Ok(row(0, line.type_row()?, 0, 0)),
-        VARIABLES => read_variable(line),
+        VARIABLES => read_variable(line, listing),
         PROCEDURES => read_procedure(line),
         NODES => read_node(line),
         _ => read_statement(line),
@@ -195,7 +204,7 @@ fn add(tables: &mut Tables, table: usize, row: Row) -> Result<(), String> {
     Ok(())
 }
 
-fn read_type(line: &mut Line, tables: &mut Tables) -> Result<Row, String> {
+fn read_type(line: &mut Line, listing: &mut Listing) -> Result<Row, String> {
     if let Some(scalar) = SCALARS.iter().position(|scalar| line.takes(scalar)) {
         return Ok(row(scalar, 0, 0, 0));
     }
@@ -205,36 +214,37 @@ fn read_type(line: &mut Line, tables: &mut Tables) -> Result<Row, String> {
         return Ok(row(3, line.type_row()?, length, 0));
     }
     if line.takes("RECORD") {
-        return read_record(line, tables);
+        return read_record(line, listing);
     }
     Err(line.expected("BOOLEAN, INTEGER, SET, ARRAY, RECORD or row"))
 }
 
 /// What follows RECORD; the fields become the next field rows.
-fn read_record(line: &mut Line, tables: &mut Tables) -> Result<Row, String> {
+fn read_record(line: &mut Line, listing: &mut Listing) -> Result<Row, String> {
     let mut base = 0;
     if line.takes("(") {
         base = line.number_to(65534)? as u16 + 1;
         line.take(")")?;
     }
-    let first = tables[FIELDS].len();
+    let first = listing.tables[FIELDS].len();
     while !line.takes("END") {
-        if tables[FIELDS].len() > first {
+        let next = listing.tables[FIELDS].len();
+        if next > first {
             line.take(";")?;
         }
-        line.name()?;
+        listing.names.give(FIELDS, next, line.name()?);
         line.take(":")?;
         let field = row(0, line.type_row()?, 0, 0);
-        add(tables, FIELDS, field)?;
+        add(&mut listing.tables, FIELDS, field)?;
     }
-    Ok(row(4, base, first as u16, (tables[FIELDS].len() - first) as u16))
+    Ok(row(4, base, first as u16, (listing.tables[FIELDS].len() - first) as u16))
 }
 
-fn read_variable(line: &mut Line) -> Result<Row, String> {
+fn read_variable(line: &mut Line, listing: &mut Listing) -> Result<Row, String> {
     let Some(kind) = KINDS_OF_VARIABLES.iter().position(|kind| line.takes(kind)) else {
         return Err(line.expected("global, local, value, VAR or row"));
     };
-    line.name()?;
+    listing.names.give(VARIABLES, listing.tables[VARIABLES].len(), line.name()?);
     line.take(":")?;
     Ok(row(kind, line.type_row()?, 0, 0))
 }

@@ -1,13 +1,16 @@
 //! Statements and expressions in the words of Oberon-2.
+use crate::names::{designated, Names};
 use crate::print::row_text;
-use crate::{Row, Tables, NODES, OPERATORS, PROCEDURES, SCALARS};
+use crate::{Row, Tables, NODES, OPERATORS, PROCEDURES};
 use std::ops::Range;
 
-/// Puts statements and expressions in words: v3 is variable 3, f2 field 2 of a record, the base's fields counted first,
-/// T4 type 4. A node that is not put in words stands as `(node 12)`: one that is not there, has no form of its own, is
-/// not lower than the node that names it, or comes after too many others.
+/// Puts statements and expressions in words, with the names that the rows have; without names v3 is variable 3, f2
+/// field 2 of a record, the base's fields counted first, T4 type 4. A node that is not put in words stands as
+/// `(node 12)`: one that is not there, has no form of its own, is not lower than the node that names it, or comes after
+/// too many others.
 pub struct Words<'a> {
     tables: &'a Tables,
+    names: &'a Names,
     most: usize,
     /// The nodes put in words so far.
     pub nodes: Vec<usize>,
@@ -17,8 +20,8 @@ pub struct Words<'a> {
 
 impl<'a> Words<'a> {
     /// For at most so many nodes: rows that are named more than once could go on for ever.
-    pub fn new(tables: &'a Tables, most: usize) -> Words<'a> {
-        Words { tables, most, nodes: Vec::new(), whole: true }
+    pub fn new(tables: &'a Tables, names: &'a Names, most: usize) -> Words<'a> {
+        Words { tables, names, most, nodes: Vec::new(), whole: true }
     }
 
     /// A statement; nothing where it says no more than its row, calls what is not there, or has too many arguments.
@@ -29,7 +32,7 @@ impl<'a> Words<'a> {
                 let parameters = self.tables[PROCEDURES].get(row.a as usize)?.b;
                 let end = row.b.checked_add(parameters).filter(|_| parameters as usize <= self.most)?;
                 let arguments: Vec<String> = (row.b..end).map(|node| self.node(node)).collect();
-                Some(format!("p{}({})", row.a, arguments.join(", ")))
+                Some(format!("{}({})", self.names.procedure(row.a as usize), arguments.join(", ")))
             }
             2 => Some(format!("IF NOT ({}) GOTO {}", self.node(row.a), row.b)),
             5 => Some(format!("READ {}", self.node(row.a))),
@@ -40,7 +43,7 @@ impl<'a> Words<'a> {
     }
 
     /// The expression in a node row.
-    fn node(&mut self, node: u16) -> String {
+    pub fn node(&mut self, node: u16) -> String {
         let node = node as usize;
         match self.tables[NODES].get(node) {
             Some(row) if self.nodes.len() < self.most && row_text(NODES, node, *row).is_some() => {
@@ -57,10 +60,13 @@ impl<'a> Words<'a> {
     fn expression(&mut self, node: usize, row: Row) -> String {
         let Row { kind, a, b, c, .. } = row;
         match (kind, c) {
-            (1, _) => format!("v{a}"),
-            (2, _) => format!("{}.f{b}", self.operand(node, a)),
+            (1, _) => self.names.variable(a as usize),
+            (2, _) => {
+                let field = self.names.field(self.tables, designated(self.tables, a as usize), b as usize);
+                format!("{}.{field}", self.operand(node, a))
+            }
             (3, _) => format!("{}[{}]", self.operand(node, a), self.child(node, b)),
-            (4, _) => format!("v{a}({})", type_words(b)),
+            (4, _) => format!("{}({})", self.names.variable(a as usize), self.names.type_row(b as usize)),
             (5, 16) => format!("{{{}..{}}}", self.operand(node, a), self.operand(node, b)),
             (5, _) => {
                 let operator = OPERATORS[c as usize - 1];
@@ -68,7 +74,7 @@ impl<'a> Words<'a> {
             }
             (6, 1) => format!("-{}", self.operand(node, a)),
             (6, _) => format!("~{}", self.operand(node, a)),
-            (7, _) => format!("v{a} IS {}", type_words(b)),
+            (7, _) => format!("{} IS {}", self.names.variable(a as usize), self.names.type_row(b as usize)),
             (8, _) => self.child(node, a),
             _ => constant_words(row).unwrap_or_default(),
         }
@@ -118,11 +124,6 @@ pub fn children(row: Row) -> Vec<usize> {
     }
 }
 
-/// The name of a type row.
-pub fn type_words(row: u16) -> String {
-    SCALARS.get(row as usize).map_or_else(|| format!("T{row}"), |scalar| scalar.to_string())
-}
-
 /// A constant's value, where it has one.
 pub fn constant_words(row: Row) -> Option<String> {
     let value = (row.b as u32) << 16 | row.c as u32;
@@ -135,7 +136,8 @@ pub fn constant_words(row: Row) -> Option<String> {
     }
 }
 
-fn set_words(set: u32) -> String {
+/// A SET by its elements, runs of three or more as a range.
+pub fn set_words(set: u32) -> String {
     let there = |element: u32| element < 32 && set >> element & 1 == 1;
     let mut parts = Vec::new();
     let mut element = 0;

@@ -1,0 +1,2 @@
+//! Images in words, for the tools that print them.
+pub mod dump;
