@@ -112,7 +112,7 @@ rules! {
     GUARDED_PARAMETER 10 "The variable of a guard or type test is a VAR parameter."
     GUARDED_RECORD 10 "The variable of a guard or type test is of record type."
     GUARD_EXTENDS 10 "The type of a guard or type test extends the variable's type."
-    PLUS_MINUS_TIMES 10 "+, − and * take two INTEGERs or two SETs."
+    PLUS_MINUS_TIMES 10 "+, - and * take two INTEGERs or two SETs."
     DIV_MOD 10 "DIV and MOD take two INTEGERs."
     SLASH 10 "/ takes two SETs."
     EQUALITY 10 "= and # take two operands of one scalar type."
@@ -120,7 +120,7 @@ rules! {
     AND_OR 10 "& and OR take two BOOLEANs."
     IN 10 "IN takes an INTEGER and a SET."
     RANGE 10 "A range takes two INTEGERs."
-    MONADIC_MINUS 10 "Monadic − takes an INTEGER or a SET."
+    MONADIC_MINUS 10 "Monadic - takes an INTEGER or a SET."
     NOT 10 "~ takes a BOOLEAN."
 
     OWN_VARIABLES 11 "The variables that a statement uses are global or its procedure's own."

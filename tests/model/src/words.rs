@@ -5,8 +5,8 @@ const VARIABLES: [&str; 4] = ["global", "local", "value parameter", "VAR paramet
 const NODES: [&str; 9] =
     ["constant", "variable", "field", "element", "guard", "dyadic", "monadic", "type test", "argument"];
 const STATEMENTS: [&str; 8] = ["assign", "call", "jump if FALSE", "jump", "RETURN", "read", "write", "HALT"];
-const DYADIC: [&str; 16] = ["+", "−", "*", "DIV", "MOD", "/", "=", "#", "<", "<=", ">", ">=", "&", "OR", "IN", ".."];
-const MONADIC: [&str; 2] = ["−", "~"];
+const DYADIC: [&str; 16] = ["+", "-", "*", "DIV", "MOD", "/", "=", "#", "<", "<=", ">", ">=", "&", "OR", "IN", ".."];
+const MONADIC: [&str; 2] = ["-", "~"];
 
 /// "1 row", "2 rows".
 pub fn counted(count: usize, noun: &str) -> String {
