@@ -1,8 +1,9 @@
 //! The tables of an image in words. It asks nothing of their rows: a row that has no words stands with its numbers, as
 //! in a listing.
+use crate::text::{leading, node_line, Text};
 use listing::{
     children, fields_before, named, row_line, row_text, Names, Row, Tables, Words, FIELDS, KINDS_OF_VARIABLES, NODES,
-    PROCEDURES, STATEMENTS, TYPES, VARIABLES,
+    PROCEDURES, ROWS, STATEMENTS, TYPES, VARIABLES,
 };
 use model::words::counted;
 use model::Program;
@@ -20,7 +21,7 @@ const NOTE: usize = 48;
 pub const NAMES: [&str; 6] = ["type", "field", "variable", "procedure", "node", "statement"];
 
 /// The row that is marked.
-#[derive(Clone, Copy, PartialEq, Eq)]
+#[derive(Clone, Copy, Debug, PartialEq, Eq, Hash)]
 pub struct Mark {
     pub table: usize,
     pub row: usize,
@@ -29,28 +30,105 @@ pub struct Mark {
 impl Mark {
     /// In place of a row: all rows of the table that nothing claims.
     pub const UNCLAIMED: usize = usize::MAX;
+
+    /// The row, where these tables have it.
+    pub fn row_in(&self, tables: &Tables) -> Option<Row> {
+        tables[self.table].get(self.row).copied()
+    }
+}
+
+/// What stands before a line.
+#[derive(Clone, Copy, Debug, PartialEq, Eq)]
+pub enum Sign {
+    None,
+    /// The refused row, or the statement that a run stopped at.
+    Marked,
+    /// The row of a reader's report that is not this image's.
+    Reported,
+    /// A row that differs from the good image's.
+    Differs,
+}
+
+impl Sign {
+    pub fn text(self) -> &'static str {
+        match self {
+            Sign::None => "  ",
+            Sign::Marked => ">>",
+            Sign::Reported => "->",
+            Sign::Differs => "<>",
+        }
+    }
+}
+
+/// A line, and the row that it is of; without text it parts those before and after it.
+#[derive(Clone, Debug, PartialEq, Eq)]
+pub struct Line {
+    pub sign: Sign,
+    pub place: Option<Mark>,
+    pub text: Text,
+}
+
+impl Line {
+    /// A line that is of no row.
+    pub fn new(text: &str) -> Line {
+        Line { sign: Sign::None, place: None, text: Text::of(text) }
+    }
+
+    pub fn plain(&self) -> String {
+        let text = self.text.plain();
+        if text.is_empty() {
+            text
+        } else {
+            format!("{} {text}", self.sign.text())
+        }
+    }
+}
+
+/// The tables of an image with the names of their rows.
+#[derive(Clone, Copy)]
+pub struct Named<'a> {
+    pub tables: &'a Tables,
+    pub names: &'a Names,
+}
+
+/// What is to be dumped, with sizes and places where there is a program.
+pub struct Wanted<'a> {
+    pub image: Named<'a>,
+    pub program: Option<&'a Program>,
+    pub mark: Option<Mark>,
+    pub reported: Option<Mark>,
+    pub good: Option<Named<'a>>,
 }
 
 /// Version, length and counts in a line.
 pub fn head(image: &[u8], tables: &Tables) -> String {
-    let counts: Vec<String> = tables.iter().zip(NAMES).map(|(table, name)| format!("{} {name}", table.len())).collect();
-    format!("version {}, {} bytes; rows: {}", image[0], image.len(), counts.join(", "))
+    format!("version {}, {} bytes; rows: {}", image[0], image.len(), counts(tables.each_ref().map(Vec::len)))
 }
 
-/// The tables, with sizes and places where the image is accepted.
-pub fn of(tables: &Tables, names: &Names, program: Option<&Program>, mark: Option<Mark>) -> String {
+/// A number for each table: "4 type, 0 field, ..".
+pub fn counts(counts: [usize; 6]) -> String {
+    let counts: Vec<String> = counts.iter().zip(NAMES).map(|(count, name)| format!("{count} {name}")).collect();
+    counts.join(", ")
+}
+
+/// The tables.
+pub fn of(wanted: &Wanted) -> Vec<Line> {
+    let tables = wanted.image.tables;
+    let names = leading(tables, wanted.image.names);
     let said = tables.each_ref().map(|table| vec![false; table.len()]);
-    let mut dump = Dump { tables, names, program, mark, said, has_nodes: false, text: String::new() };
+    let listed = vec![false; tables[NODES].len()];
+    let mut dump = Dump { wanted, tables, names, said, listed, lines: Vec::new() };
     dump.types();
     dump.globals();
     dump.procedures();
     dump.rest(VARIABLES, "variables of no procedure");
     dump.rest(NODES, "nodes that no statement above has in words");
-    dump.text
+    dump.missing();
+    dump.lines
 }
 
 /// The nodes that are not named exactly once, each with what names it.
-pub fn names(tables: &Tables) -> String {
+pub fn names(tables: &Tables) -> Vec<Line> {
     let mut names = vec![Vec::new(); tables[NODES].len()];
     let mut add = |node: usize, by: &str, row: usize| match names.get_mut(node) {
         Some(names) if names.len() <= NAMES_SHOWN => names.push(format!("{by} {row}")),
@@ -62,15 +140,27 @@ pub fn names(tables: &Tables) -> String {
     for (at, row) in tables[STATEMENTS].iter().enumerate() {
         named(tables, *row).into_iter().flatten().for_each(|node| add(node, "statement", at));
     }
-    let mut text = "\n   nodes that are not named exactly once\n".to_string();
+    let mut lines = vec![Line::new(""), Line::new("nodes that are not named exactly once")];
     for (node, names) in names.iter().enumerate().filter(|(_, names)| names.len() != 1) {
-        text += &match names.len() {
-            0 => format!("     node {node}: named by nothing\n"),
-            1..=NAMES_SHOWN => format!("     node {node}: named by {}\n", names.join(", ")),
-            _ => format!("     node {node}: named by {} and more\n", names[..NAMES_SHOWN].join(", ")),
-        };
+        lines.push(Line::new(&match names.len() {
+            0 => format!("  node {node}: named by nothing"),
+            1..=NAMES_SHOWN => format!("  node {node}: named by {}", names.join(", ")),
+            _ => format!("  node {node}: named by {} and more", names[..NAMES_SHOWN].join(", ")),
+        }));
     }
-    text
+    lines
+}
+
+/// The rows of each table that are not the same in both, those included that one of them has not.
+pub fn differing(tables: &Tables, others: &Tables) -> [usize; 6] {
+    std::array::from_fn(|table| {
+        let rows = tables[table].len().max(others[table].len());
+        (0..rows).filter(|row| differs(tables, others, Mark { table, row: *row })).count()
+    })
+}
+
+fn differs(tables: &Tables, others: &Tables, place: Mark) -> bool {
+    place.row_in(tables) != place.row_in(others)
 }
 
 /// A statement in words.
@@ -86,44 +176,92 @@ fn statement_words(tables: &Tables, names: &Names, at: usize) -> (String, Vec<us
         Some(form) => words.statement(row).unwrap_or(form),
         None => format!("row {} {} {} {} {}", row.kind, row.zero, row.a, row.b, row.c),
     };
-    (text, words.nodes)
+    (with_label(text, names, row), words.nodes)
+}
+
+/// A jump to a row that has a name, with this name.
+fn with_label(text: String, names: &Names, row: Row) -> String {
+    let target = names.of(STATEMENTS, row.b as usize).filter(|_| matches!(row.kind, 2 | 3));
+    match (target, text.strip_suffix(&format!("GOTO {}", row.b))) {
+        (Some(label), Some(before)) => format!("{before}GOTO {label}"),
+        _ => text,
+    }
 }
 
 struct Dump<'a> {
+    wanted: &'a Wanted<'a>,
     tables: &'a Tables,
-    names: &'a Names,
-    program: Option<&'a Program>,
-    mark: Option<Mark>,
+    /// The names, which lead to their rows.
+    names: Names,
     /// The rows of each table that are in the text.
     said: [Vec<bool>; 6],
-    /// Whether the text has the node rows of a statement with the marked node.
-    has_nodes: bool,
-    text: String,
+    /// The nodes that have a line of their own.
+    listed: Vec<bool>,
+    lines: Vec<Line>,
 }
 
 impl Dump<'_> {
     fn heading(&mut self, text: &str) {
-        self.text += &format!("\n   {text}\n");
+        self.lines.extend([Line::new(""), Line::new(text)]);
     }
 
-    /// A line of a row.
-    fn line(&mut self, table: usize, row: usize, text: &str) {
-        let marked = self.mark == Some(Mark { table, row });
-        self.text += &format!("{} {text}\n", if marked { ">>" } else { "  " });
+    /// A line of a row, and below it how the good image differs.
+    fn line(&mut self, table: usize, row: usize, text: Text) {
+        let place = Mark { table, row };
+        let differing = self.differing_at(place);
+        let sign = match Some(place) {
+            mark if mark == self.wanted.mark => Sign::Marked,
+            mark if mark == self.wanted.reported => Sign::Reported,
+            _ if !differing.is_empty() => Sign::Differs,
+            _ => Sign::None,
+        };
+        let plain = text.plain();
+        self.lines.push(Line { sign, place: Some(place), text });
         if let Some(said) = self.said[table].get_mut(row) {
             *said = true;
         }
+        for place in differing {
+            self.difference(place, &plain);
+        }
+    }
+
+    /// The row and, of a record, its own fields, as far as they differ from the good image's.
+    fn differing_at(&self, place: Mark) -> Vec<Mark> {
+        let (Some(good), Some(row)) = (self.wanted.good, place.row_in(self.tables)) else { return Vec::new() };
+        let mut places = vec![place];
+        if (place.table, row.kind) == (TYPES, 4) {
+            places.extend(self.own_fields(row).map(|row| Mark { table: FIELDS, row }));
+        }
+        places.retain(|place| differs(self.tables, good.tables, *place));
+        places
+    }
+
+    /// A row here, where the line above does not say it, and in the good image.
+    fn difference(&mut self, Mark { table, row }: Mark, above: &str) {
+        let indent = " ".repeat(above.len() - above.trim_start().len() + 4);
+        let here = row_line(table, row, self.tables[table][row]);
+        if above.trim() != here {
+            self.lines.push(Line::new(&format!("{indent}here: {here}")));
+        }
+        let there = self.wanted.good.map_or_else(String::new, |good| good_line(good, table, row));
+        self.lines.push(Line::new(&format!("{indent}good: {there}")));
     }
 
     /// A line of a row, with a note in accepted images.
-    fn noted(&mut self, table: usize, row: usize, text: &str, note: impl Fn(&Program) -> String) {
-        let noted = self.program.map(|program| format!("{text:<NOTE$} -- {}", note(program)));
-        self.line(table, row, noted.as_deref().unwrap_or(text));
+    fn noted(&mut self, table: usize, row: usize, words: &str, note: impl Fn(&Program) -> String) {
+        let mut text = Text::of(words);
+        if let Some(program) = self.wanted.program {
+            let gap = NOTE.saturating_sub(text.plain().chars().count());
+            text.push(&format!("{:gap$} -- {}", "", note(program)), None);
+        }
+        self.line(table, row, text);
     }
 
     fn types(&mut self) {
+        let hidden =
+            |at: usize, row: Row| at < 3 && is_scalar(at, row) && !self.is_wanted(Mark { table: TYPES, row: at });
         let rows = self.tables[TYPES].iter().copied().enumerate();
-        let rows: Vec<(usize, Row)> = rows.filter(|(at, row)| *at >= 3 || !is_scalar(*at, *row)).collect();
+        let rows: Vec<(usize, Row)> = rows.filter(|(at, row)| !hidden(*at, *row)).collect();
         if !rows.is_empty() {
             self.heading("TYPE");
         }
@@ -132,6 +270,13 @@ impl Dump<'_> {
             self.noted(TYPES, at, &format!("  {text}"), |program| counted(program.size(at), "cell"));
         }
         self.rest(FIELDS, "fields of no record");
+    }
+
+    /// Whether a row has to be in the text: it is marked, reported, or not the good image's.
+    fn is_wanted(&self, place: Mark) -> bool {
+        let good = self.wanted.good;
+        [self.wanted.mark, self.wanted.reported].contains(&Some(place))
+            || good.is_some_and(|good| differs(self.tables, good.tables, place))
     }
 
     fn type_text(&mut self, at: usize, row: Row) -> String {
@@ -148,12 +293,17 @@ impl Dump<'_> {
         self.names.type_row(row)
     }
 
+    /// The field rows that a record claims, as far as these are there.
+    fn own_fields(&self, row: Row) -> std::ops::Range<usize> {
+        let most = self.tables[FIELDS].len();
+        (row.b as usize).min(most)..(row.b as usize + row.c as usize).min(most)
+    }
+
     /// A record with its own fields, as far as these are there.
     fn record_text(&mut self, at: usize, row: Row) -> String {
         let base = if row.a == 0 { String::new() } else { format!(" ({})", self.type_name(row.a as usize - 1)) };
-        let (first, end) = (row.b as usize, row.b as usize + row.c as usize);
-        let there = first.min(self.tables[FIELDS].len())..end.min(self.tables[FIELDS].len());
-        let missing = end - first - there.len();
+        let there = self.own_fields(row);
+        let missing = row.c as usize - there.len();
         let before = fields_before(self.tables, at);
         let mut fields: Vec<String> = Vec::new();
         for (k, field) in there.enumerate() {
@@ -229,7 +379,7 @@ impl Dump<'_> {
             None => row_line(PROCEDURES, at, row),
             Some(_) => format!("PROCEDURE {}{module}{from}", self.names.procedure(at)),
         };
-        self.text.push('\n');
+        self.lines.push(Line::new(""));
         self.noted(PROCEDURES, at, &text, |program| format!("a frame of {}", counted(program.frame(at), "cell")));
         for variable in variables {
             self.variable(variable, |program| format!("from cell {} of the frame", program.place(variable)));
@@ -237,29 +387,56 @@ impl Dump<'_> {
     }
 
     fn statement(&mut self, at: usize) {
-        let (text, nodes) = statement_words(self.tables, self.names, at);
+        let (text, nodes) = statement_words(self.tables, &self.names, at);
         for node in nodes {
             self.said[NODES][node] = true;
         }
-        self.line(STATEMENTS, at, &format!("{at:>4}: {text}"));
-        self.marked_nodes(at);
+        if let Some(label) = self.names.of(STATEMENTS, at) {
+            self.lines.push(Line::new(&format!("  {label}:")));
+        }
+        self.line(STATEMENTS, at, Text::of(&format!("{at:>4}: ")).then(self.jump_text(at, &text)));
+        self.nodes_below(at);
     }
 
-    /// The node rows below a statement, where it is marked or one of them is. Where more statements have the marked
-    /// node, the later ones show it alone.
-    fn marked_nodes(&mut self, statement: usize) {
-        let Some(mark) = self.mark else { return };
-        let mut below = below(self.tables, statement);
-        let has_marked = mark.table == NODES && below.contains(&mark.row);
-        if !has_marked && mark != (Mark { table: STATEMENTS, row: statement }) {
-            return;
+    /// A statement's words; the target of a jump leads to its row.
+    fn jump_text(&self, at: usize, words: &str) -> Text {
+        let row = self.tables[STATEMENTS][at];
+        match words.rsplit_once("GOTO ") {
+            Some((before, target)) if matches!(row.kind, 2 | 3) => {
+                let mut text = Text::of(before);
+                text.push("GOTO ", None);
+                text.push(target, Some(Mark { table: STATEMENTS, row: row.b as usize }));
+                text
+            }
+            _ => Text::of(words),
         }
-        if std::mem::replace(&mut self.has_nodes, true) {
-            below = vec![mark.row];
+    }
+
+    /// The node rows below a statement, where it has to be looked into or one of them is new and has to be in the text.
+    /// Where more statements have the marked node, the later ones show it alone.
+    fn nodes_below(&mut self, statement: usize) {
+        let below = below(self.tables, statement);
+        let is_wanted = |node: &usize| self.is_wanted(Mark { table: NODES, row: *node });
+        let whole = self.is_wanted(Mark { table: STATEMENTS, row: statement })
+            || below.iter().any(|node| !self.listed[*node] && is_wanted(node));
+        let again = |node: &usize| {
+            let place = Some(Mark { table: NODES, row: *node });
+            place == self.wanted.mark || place == self.wanted.reported
+        };
+        let shown = |node: &usize| again(node) || whole && !self.listed[*node];
+        for node in below.into_iter().filter(shown).collect::<Vec<usize>>() {
+            self.node(node, "          ");
         }
-        for at in below {
-            self.line(NODES, at, &format!("          {}", row_line(NODES, at, self.tables[NODES][at])));
+    }
+
+    /// The line of a node, with its name where it has one.
+    fn node(&mut self, at: usize, indent: &str) {
+        let mut text = Text::of(indent).then(node_line(at, self.tables[NODES][at]));
+        if let Some(name) = self.names.of(NODES, at) {
+            text.push(&format!("  -- {name}"), None);
         }
+        self.listed[at] = true;
+        self.line(NODES, at, text);
     }
 
     /// The rows of a table that are not in the text yet.
@@ -268,11 +445,41 @@ impl Dump<'_> {
         if rest.is_empty() {
             return;
         }
-        self.text.push('\n');
-        self.line(table, Mark::UNCLAIMED, heading);
+        self.lines.push(Line::new(""));
+        self.line(table, Mark::UNCLAIMED, Text::of(heading));
         for at in rest {
-            self.line(table, at, &format!("  {}", row_line(table, at, self.tables[table][at])));
+            match table {
+                NODES => self.node(at, "  "),
+                _ => self.line(table, at, Text::of(&format!("  {}", row_line(table, at, self.tables[table][at])))),
+            }
         }
+    }
+
+    /// The rows that the good image has and this one has not.
+    fn missing(&mut self) {
+        let Some(good) = self.wanted.good else { return };
+        let mut lines = Vec::new();
+        for table in 0..ROWS.len() {
+            for row in self.tables[table].len()..good.tables[table].len() {
+                let line = Line::new(&format!("  {}", good_line(good, table, row)));
+                lines.push(Line { sign: Sign::Differs, ..line });
+            }
+        }
+        if !lines.is_empty() {
+            self.heading("rows that the good image has and this one has not");
+            self.lines.extend(lines);
+        }
+    }
+}
+
+/// A row of the good image as a line of a listing; a statement also in words, where these say more.
+fn good_line(good: Named, table: usize, row: usize) -> String {
+    let Some(there) = good.tables[table].get(row) else { return format!("has no {} row {row}", NAMES[table]) };
+    let line = row_line(table, row, *there);
+    let words = (table == STATEMENTS).then(|| statement(good.tables, good.names, row));
+    match words.filter(|words| !line.ends_with(words)) {
+        Some(words) => format!("{line}  -- {words}"),
+        None => line,
     }
 }
 

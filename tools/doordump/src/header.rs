@@ -1,26 +1,24 @@
 //! What the bytes of an image without six tables say of it.
-use doordump::dump::NAMES;
+use doordump::dump::{Line, NAMES};
 use listing::ROWS;
-use model::words::counted;
-use std::path::Path;
 
 /// How many bytes are shown.
 const SHOWN: usize = 64;
 
 /// The header and the counts, as far as the bytes go.
-pub fn of(file: &Path, image: &[u8]) -> String {
-    let mut lines = vec![format!("{}: {}", file.display(), counted(image.len(), "byte"))];
+pub fn of(image: &[u8]) -> Vec<Line> {
+    let mut lines = vec![String::new()];
     lines.push(match image.first() {
-        Some(version) => format!("  byte 0            version {version}"),
-        None => "  there is no byte 0, the version".to_string(),
+        Some(version) => format!("byte 0            version {version}"),
+        None => "there is no byte 0, the version".to_string(),
     });
     lines.push(match number(image, 1, 4) {
-        Some(length) => format!("  bytes 1 to 4      length {length}; the file has {}", image.len()),
-        None => "  bytes 1 to 4, the length, are not all there".to_string(),
+        Some(length) => format!("bytes 1 to 4      length {length}; the file has {}", image.len()),
+        None => "bytes 1 to 4, the length, are not all there".to_string(),
     });
     counts(image, &mut lines);
     bytes(image, &mut lines);
-    lines.join("\n") + "\n"
+    lines.iter().map(|line| Line::new(line)).collect()
 }
 
 /// The six counts, as far as there are bytes for them.
@@ -29,14 +27,14 @@ fn counts(image: &[u8], lines: &mut Vec<String>) {
     for ((_, least, most), name) in ROWS.into_iter().zip(NAMES) {
         let place = format!("bytes {at} and {}", at + 1);
         let Some(count) = number(image, at, 2) else {
-            lines.push(format!("  {place}, the count of {name} rows, are not both there"));
+            lines.push(format!("{place}, the count of {name} rows, are not both there"));
             return;
         };
         let range = if (least..=most).contains(&count) { "" } else { ": out of range" };
-        lines.push(format!("  {place:<17} {name} rows: {count} ({least} to {most}{range})"));
+        lines.push(format!("{place:<17} {name} rows: {count} ({least} to {most}{range})"));
         at += 2 + 8 * count;
     }
-    lines.push(format!("  the tables end after {at} bytes; the file has {}", image.len()));
+    lines.push(format!("the tables end after {at} bytes; the file has {}", image.len()));
 }
 
 /// The first bytes in hexadecimal and as letters, sixteen to a line.
@@ -45,7 +43,7 @@ fn bytes(image: &[u8], lines: &mut Vec<String>) {
         let numbers: Vec<String> = line.iter().map(|byte| format!("{byte:02x}")).collect();
         let letters: String =
             line.iter().map(|byte| if (b' '..=b'~').contains(byte) { *byte as char } else { '.' }).collect();
-        lines.push(format!("  {:04x}  {:<47}  |{letters}|", 16 * k, numbers.join(" ")));
+        lines.push(format!("{:04x}  {:<47}  |{letters}|", 16 * k, numbers.join(" ")));
     }
 }
 

@@ -1,2 +1,4 @@
-//! Images in words, for the tools that print them.
+//! Images and refusals in words, for the tools that print them.
 pub mod dump;
+pub mod refusals;
+pub mod text;

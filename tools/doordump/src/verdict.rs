@@ -1,45 +1,20 @@
 //! What the check says of an image, and why.
-use doordump::dump::{Mark, NAMES};
-use listing::{Tables, FIELDS, NODES, PROCEDURES, STATEMENTS, TYPES, VARIABLES};
+use crate::explanation::{row_entries, shown, Entry, Explanation};
+use doordump::dump::Mark;
+use doordump::refusals::{answer, rules_of, table_of, unclaimed, QUESTIONS};
+use listing::{Tables, FIELDS, PROCEDURES, TYPES, VARIABLES};
 use model::{rules, Fault, Program};
-
-/// The eleven questions, in document 01's words.
-const QUESTIONS: [&str; 11] = [
-    "Is there a first byte, and is it 1?",
-    "Are bytes 1 to 4 present, equal to the image's length?",
-    "Are the counts in range, and do the tables fill the image exactly?",
-    "Does each type row, with its own fields, keep its rule?",
-    "Does each variable row keep its form, type row existing, no global after another kind?",
-    "Does each procedure row keep its rule?",
-    "Is each node well formed, its rows existing?",
-    "Is each statement well formed, its rows existing?",
-    "Is each node named exactly once, by a node or statement?",
-    "Has each node a type?",
-    "Does each statement keep its type and variable rules?",
-];
-
-/// The table whose row a question answers.
-fn table_of(question: u32) -> Option<usize> {
-    match question {
-        4 => Some(TYPES),
-        5 => Some(VARIABLES),
-        6 => Some(PROCEDURES),
-        7 | 9 | 10 => Some(NODES),
-        8 | 11 => Some(STATEMENTS),
-        _ => None,
-    }
-}
 
 /// What to do about a refusal by question 1, 2, 3, or a later one.
 const TO_DO: [&str; 4] = [
-    "This is no image, or one of another version. Send the file again. If it is refused again,\n\
+    "This is no image, or one of another version. Send the file again. If it is refused again, \
      ask its tool maker for an image of version 1.",
-    "The file was cut off, or something was added to it. Send it again, as bytes and not as text.\n\
+    "The file was cut off, or something was added to it. Send it again, as bytes and not as text. \
      If it is refused again, send it another way. If that does not help, ask its tool maker.",
-    "The length is right and the tables are not. Send the file again. If it is refused again, its\n\
+    "The length is right and the tables are not. Send the file again. If it is refused again, its \
      tool probably wrote a wrong count: give its tool maker this text and the file.",
-    "The length is right, and this row breaks the rule; the mistake may also be in a row that it\n\
-     names. Send the file again. If it is refused with the same numbers, its tool probably made a\n\
+    "The length is right, and this row breaks the rule; the mistake may also be in a row that it \
+     names. Send the file again. If it is refused with the same numbers, its tool probably made a \
      mistake: give its tool maker this text and the file.",
 ];
 
@@ -58,11 +33,11 @@ impl Verdict {
         Verdict { number: door::check_number(image), model: model::check(image) }
     }
 
-    fn refusal(&self) -> u32 {
+    pub fn refusal(&self) -> u32 {
         self.number / 65536
     }
 
-    fn row(&self) -> u32 {
+    pub fn row(&self) -> u32 {
         self.number % 65536
     }
 
@@ -109,64 +84,81 @@ impl Verdict {
         match self.program() {
             Some(program) => {
                 let (globals, frame) = (program.globals(), program.frame(0));
-                let cells = globals + frame;
+                let cells = cells_to_begin(program);
                 format!("accepted; a run needs {cells} cells ({globals} of globals, {frame} of p0), more for calls")
             }
-            None => answer(self.refusal(), self.row()) + self.no_row(),
+            None => self.answer() + &self.no_row(),
         }
     }
 
+    /// Question and row alone.
+    pub fn answer(&self) -> String {
+        answer(self.refusal(), self.row())
+    }
+
+    /// Question and row, with the numbers that a reader shows.
+    pub fn numbers(&self) -> String {
+        match (self.refusal(), self.row()) {
+            (0, _) => self.answer(),
+            (refusal, row) => format!("refusal {refusal} and row {row}, {}", self.answer()),
+        }
+    }
+
+    /// The rule that is broken.
+    pub fn rule(&self) -> Option<&'static rules::Rule> {
+        self.model.as_ref().err().filter(|_| self.agreed()).map(|fault| fault.rule)
+    }
+
     /// What is said where no row of the question's table is at fault.
-    fn no_row(&self) -> &'static str {
-        match self.model.as_ref().map_err(|fault| fault.rule) {
-            _ if !self.agreed() => "",
-            Err(rule) if rule == &rules::FIELD_CLAIMED => " (there is none: a field belongs to no record)",
-            Err(rule) if rule == &rules::VARIABLE_CLAIMED => " (there is none: a variable belongs to no procedure)",
-            _ => "",
+    fn no_row(&self) -> String {
+        match self.rule() {
+            Some(rule) if [&rules::FIELD_CLAIMED, &rules::VARIABLE_CLAIMED].contains(&rule) => {
+                format!(" (there is none: {})", unclaimed(rule.question).unwrap_or_default())
+            }
+            _ => String::new(),
         }
     }
 
     /// What is broken and what to do about it; nothing where the image is accepted.
-    pub fn explained(&self) -> String {
+    pub fn explained(&self, tables: Option<&Tables>) -> Option<Explanation> {
         match (&self.model, self.agreed()) {
-            (Ok(_), true) => String::new(),
-            (Err(fault), true) => explained(&self.line(), fault),
-            (Ok(_), false) => self.differing("accepted"),
-            (Err(fault), false) => self.differing(&answer(fault.refusal, fault.row)),
+            (Ok(_), true) => None,
+            (Err(fault), true) => Some(self.explained_fault(fault, tables)),
+            (Ok(_), false) => Some(self.differing("accepted".to_string())),
+            (Err(fault), false) => Some(self.differing(answer(fault.refusal, fault.row))),
         }
     }
 
-    fn differing(&self, model: &str) -> String {
-        let proved = answer(self.refusal(), self.row());
-        format!(
-            "\nTHE CHECK AND THE MODEL DIFFER\n  the proved check  {proved}\n  the model         {model}\n  \
-             One of them is wrong. Send the file to the engine's makers.\n"
-        )
+    fn differing(&self, model: String) -> Explanation {
+        let to_do = "One of them is wrong. Send the file to the engine's makers.";
+        let entries = vec![
+            Entry::Said("the proved check", self.answer()),
+            Entry::Said("the model", model),
+            Entry::Said("to do", to_do.to_string()),
+        ];
+        Explanation { id: "why", title: "THE CHECK AND THE MODEL DIFFER".to_string(), place: None, entries }
+    }
+
+    fn explained_fault(&self, fault: &Fault, tables: Option<&Tables>) -> Explanation {
+        let Fault { refusal, row, rule, detail } = fault;
+        let question = *refusal as usize - 1;
+        let to_do = if *rule == &rules::FIRST_BYTE { EMPTY } else { TO_DO[question.min(3)] };
+        let place = tables.and_then(|tables| self.mark(tables));
+        let mut entries = vec![
+            shown(*refusal, *row),
+            Entry::Said("question", QUESTIONS[question].to_string()),
+            Entry::Rules(rules_of(*refusal), Some(*rule)),
+            Entry::Said("broken by", detail.clone()),
+        ];
+        entries.extend(tables.zip(place).into_iter().flat_map(|(tables, place)| row_entries(tables, place)));
+        entries.push(Entry::Said("to do", to_do.to_string()));
+        Explanation { id: "why", title: self.line(), place, entries }
     }
 }
 
-fn answer(refusal: u32, row: u32) -> String {
-    match (refusal, table_of(refusal)) {
-        (0, _) => "accepted".to_string(),
-        (_, Some(table)) => format!("refused by question {refusal} at {} row {row}", NAMES[table]),
-        (_, None) => format!("refused by question {refusal}"),
-    }
-}
-
-fn explained(line: &str, fault: &Fault) -> String {
-    let Fault { refusal, row, rule, detail } = fault;
-    let question = *refusal as usize - 1;
-    let to_do = if *rule == &rules::FIRST_BYTE { EMPTY } else { TO_DO[question.min(3)] };
-    let lines = [
-        String::new(),
-        line.to_string(),
-        format!("  reader     shows refusal {refusal} and row {row}, or {}", refusal * 65536 + row),
-        format!("  question   {}", QUESTIONS[question]),
-        format!("  rule       {}", rule.words),
-        format!("  broken by  {detail}"),
-        format!("  to do      {}", to_do.replace('\n', "\n             ")),
-    ];
-    lines.join("\n") + "\n"
+/// The cells without which a run does not begin.
+pub fn cells_to_begin(program: &Program) -> usize {
+    program.globals() + program.frame(0)
 }
 
 #[cfg(test)]
@@ -182,11 +174,11 @@ mod tests {
     #[test]
     fn where_the_check_and_the_model_differ_it_is_said() {
         let agreed = Verdict::of(&smallest());
-        assert_eq!((agreed.status(), agreed.explained()), (0, String::new()));
+        assert_eq!((agreed.status(), agreed.explained(None).is_none()), (0, true));
         let differing = Verdict { number: 7 * 65536 + 12, ..agreed };
         assert_eq!(differing.status(), 3);
         assert!(differing.program().is_none());
-        let said = differing.explained();
+        let said = crate::plain::explanation(&differing.explained(None).unwrap());
         assert!(said.contains("the proved check  refused by question 7 at node row 12\n"), "{said}");
         assert!(said.contains("the model         accepted\n"), "{said}");
     }
