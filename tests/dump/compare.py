@@ -1,5 +1,6 @@
 #!/usr/bin/env python3
 """Compares what doordump prints with the outputs in this folder and with the answers of vectors/: see run."""
+import html.parser
 import os
 import pathlib
 import random
@@ -14,7 +15,25 @@ HERE, VECTORS = TOP / 'tests/dump', TOP / 'vectors'
 LISTING, DOORDUMP = TOP / 'target/release/listing', TOP / 'target/release/doordump'
 TAKEN = 29714  # the bytes that doorrun takes, which the answers of expect.txt are about
 DAMAGED = 400
+COMPARED = 5  # every so many of them is compared with the good image
 TABLES = {4: 'type', 5: 'variable', 6: 'procedure', 7: 'node', 8: 'statement', 9: 'node', 10: 'node', 11: 'statement'}
+ORDER = ['type', 'field', 'variable', 'procedure', 'node', 'statement']
+OPTIONS = {  # the stored output, the words of the command and its exit status
+    'first-statement-4': ('--statement 4 first.img', 0),
+    'report-10-57': ('--refusal 10 57', 0),
+    'report-12': ('--refusal 12 0', 0),
+    'report-13': ('--reader 851968 first.img', 0),
+    'report-14': ('--refusal 14 0', 0),
+    'report-other': ('--reader 655362 first.img', 0),
+    'report-both': ('--refusal 4 4 10-index.img', 1),
+    'against-damaged': ('--against good.img 08-damaged.img', 1),
+    'against-shorter': ('--against good.img 08-shorter.img', 1),
+    'against-length': ('--against first.img 02-length.img', 1),
+    'names-good': ('--names good.lst good.img', 0),
+    'names-damaged': ('--names good.lst --against good.img 08-damaged.img', 1),
+    'brief': ('--brief --refusal 10 2 first.img 10-index.img 02-length.img', 1),
+    'brief-against': ('--brief --against first.img first.img 04-unclaimed.img', 1),
+}
 FAILURES = []
 
 
@@ -43,53 +62,235 @@ def image_of(source, room):
     return image
 
 
+def stored_text(name):
+    return (HERE / f'{name}.txt').read_text(encoding='utf-8')
+
+
 def stored(room):
     """The outputs in this folder; how many."""
     sources = sorted([*HERE.glob('*.lst'), *HERE.glob('*.hex'), TOP / 'examples/first.lst'])
     for source in sources:
         image = image_of(source, room)
         status, text = dumped(image)
-        expected = (HERE / (source.stem + '.txt')).read_text(encoding='utf-8')
-        if text != expected:
+        if text != stored_text(source.stem):
             fail(f'{source.name}: this is not {source.stem}.txt:\n{text}')
-        if status != (0 if source.stem == 'first' else 1):
+        if status != (1 if source.stem[0].isdigit() else 0):
             fail(f'{source.name}: exit status {status}')
-    outputs = {path.stem for path in HERE.glob('*.txt')} - {'first-row-4'}
-    if outputs != {source.stem for source in sources}:
-        fail(f'without a source or an output: {outputs ^ {source.stem for source in sources}}')
-    return len(sources)
+        page_of(text, room, image.name)
+    shutil.copy(HERE / 'good.lst', room)
+    for name, (words, expected) in OPTIONS.items():
+        status, text, said = command(room, *words.split())
+        if (status, text, said) != (expected, stored_text(name), ''):
+            fail(f'doordump {words}: exit status {status}, and this is not {name}.txt:\n{text}{said}')
+        if '--brief' not in words:
+            page_of(text, room, *words.split())
+    outputs = {path.stem for path in HERE.glob('*.txt')}
+    known = {source.stem for source in sources} | OPTIONS.keys()
+    if outputs != known:
+        fail(f'without a source or an output: {outputs ^ known}')
+    return len(outputs)
 
 
-def rows(room):
-    """The option --row: the row that a run stopped at."""
-    first = room / 'first.img'
-    expected = (HERE / 'first-row-4.txt').read_text(encoding='utf-8')
-    if dumped(first, '--row', '4') != (0, expected):
-        fail(f'--row 4: {dumped(first, "--row", "4")}')
-    said = '\nno run stops at a statement of this image: it is refused before its first step\n'
+def command(room, *words, stdin=b''):
+    """Exit status, text and complaint of a command."""
+    done = subprocess.run([DOORDUMP, *words], cwd=room, input=stdin, capture_output=True, timeout=60, check=False)
+    return done.returncode, done.stdout.decode('utf-8'), done.stderr.decode('utf-8')
+
+
+class Page(html.parser.HTMLParser):
+    """A page: what is wrong with its form, and its text, with a gap at each block."""
+    EMPTY, INLINE = {'meta'}, {'a'}
+
+    def __init__(self, text):
+        super().__init__()
+        self.open, self.ids, self.links, self.tags, self.text, self.wrong = [], [], [], set(), '', []
+        self.feed(text)
+        self.close()
+        self.text = flat(self.text)
+        self.wrong += [f'{tag} is not closed' for tag in self.open]
+        self.wrong += [f'two ids {name}' for name in set(self.ids) if self.ids.count(name) > 1]
+        self.wrong += [f'no id for {link}' for link in self.links if link[:1] != '#' or link[1:] not in self.ids]
+        known = set('html head meta title style body h1 h2 h3 section div p ul li dl dt dd a'.split())
+        self.wrong += [f'the element {tag}' for tag in self.tags - known]
+
+    def handle_starttag(self, tag, attrs):
+        self.tags.add(tag)
+        for name, value in attrs:
+            if name == 'id':
+                self.ids.append(value)
+            elif name == 'href':
+                self.links.append(value)
+            elif name not in ('class', 'lang', 'charset', 'name', 'content'):
+                self.wrong.append(f'the attribute {name}')
+        if tag not in self.EMPTY:
+            self.open.append(tag)
+        self.gap(tag)
+
+    def handle_endtag(self, tag):
+        if not self.open or self.open.pop() != tag:
+            self.wrong.append(f'{tag} is closed and is not open')
+        self.gap(tag)
+
+    def handle_data(self, data):
+        if 'style' not in self.open:
+            self.text += data
+
+    def gap(self, tag):
+        if tag not in self.INLINE:
+            self.text += ' '
+
+
+def flat(text):
+    return ' '.join(text.split())
+
+
+def page_of(text, room, *words):
+    """The page for a command: its form, and every line of the plain text."""
+    _, written, _ = command(room, '--html', *words)
+    page = Page(written)
+    for wrong in page.wrong:
+        fail(f'--html {words}: {wrong}')
+    if not re.search('<html lang="en">.*<meta name="viewport".*<title>[^<]', written, re.DOTALL):
+        fail(f'--html {words}: no language, viewport or title')
+    if re.search(r'src=|url\(|@import|<script', written):
+        fail(f'--html {words}: the page needs another file, or a script')
+    name, _, rest = text.partition(': ')
+    for line in [name, *rest.splitlines()]:
+        if flat(line) not in page.text:
+            fail(f'--html {words}: without {flat(line)!r}')
+    marked_row = re.search(r'<div id="([^"]*)" class="line marked"><a href="#rule-1">', written)
+    if '\n>> ' in text and 'refused by' in text and not (marked_row and f'href="#{marked_row[1]}"' in written):
+        fail(f'--html {words}: the marked row and its rule do not lead to each other')
+
+
+def statements(room):
+    """The option --statement, or --row: the row that a run stopped at."""
+    for words in ['--row', '4'], ['--row=4'], ['--statement=4']:
+        if command(room, 'first.img', *words) != (0, stored_text('first-statement-4'), ''):
+            fail(f'{words} is not --statement 4')
+    said = ('\nno run stops at a statement of this image: it is refused before its first step; '
+            "a refusal's row is told by --refusal\n")
     for name, row in ('08-jump', '1'), ('08-jump', '500'), ('02-length', '3'):
-        expected = (HERE / f'{name}.txt').read_text(encoding='utf-8')
-        if dumped(room / f'{name}.img', '--row', row) != (1, expected + said):
-            fail(f'{name}: --row {row} of a refused image')
+        if dumped(room / f'{name}.img', '--statement', row) != (1, stored_text(name) + said):
+            fail(f'{name}: --statement {row} of a refused image')
 
 
-def commands(room):
-    """Words of the command, in any order; names of any bytes; a reader of the text that wants no more."""
-    number = "doordump: --row needs the number of a statement row, not '%s'\n"
+def second_line(text, line):
+    """The text with a line more after the verdict."""
+    first, verdict, rest = text.split('\n', 2)
+    return '\n'.join([first, verdict, line, rest])
+
+
+def notes(room):
+    """Options that say no more than a line beside what is stored."""
+    report = "the reader's report, refusal %s, is what this file gives"
+    no_names = 'no names: good.lst gives another image, which differs in %s'
+    for words, name, line in [
+            ('--refusal 10 2', '10-index', report % '10 and row 2'), ('--reader 655,362', '10-index', report % '10 and row 2'),
+            ('--reader 65536', '01-version', report % '1 and row 0'), ('--refusal 0 0', 'first', report % '0 and row 0'),
+            ('--against good.img', 'good', 'the same bytes as good.img'),
+            ('--names good.lst', '08-damaged', no_names % '1 field row, 1 node row, 2 statement rows'),
+            ('--names good.lst', '08-shorter', no_names % '1 node row, 1 statement row')]:
+        status, text, said = command(room, *words.split(), f'{name}.img')
+        if (status, text, said) != (1 if name[0].isdigit() else 0, second_line(stored_text(name), line), ''):
+            fail(f'{words} {name}.img: {status} {said}\n{text}')
+
+
+def several(room):
+    """Several files, one of which may not be there, and standard input."""
+    texts = [stored_text('first'), stored_text('10-index')]
+    expected = ''.join(f'==== {text.split(":")[0]}\n{text}\n' for text in texts)
+    done = command(room, 'first.img', '10-index.img')
+    if done != (1, expected + '==== 2 files: 1 accepted, 1 refused\n', ''):
+        fail(f'two files: {done}')
+    status, text, said = command(room, 'first.img', 'none.img', '10-index.img')
+    if (status, text) != (2, expected + '==== 3 files: 1 accepted, 1 refused, 1 without an answer\n'):
+        fail(f'a file that is not there: {status}\n{text}')
+    if not said.startswith('doordump: none.img: '):
+        fail(f'a file that is not there: {said}')
+    page = Page(command(room, '--html', 'first.img', 'none.img', '10-index.img', '08-damaged.img')[1])
+    if page.wrong or any(flat(line) not in page.text for text in texts for line in text.splitlines()[1:]):
+        fail(f'a page of several: {page.wrong}')
+    for words in ['-'], ['--', '-']:
+        done = command(room, *words, stdin=(room / 'first.img').read_bytes())
+        if done != (0, texts[0].replace('first.img', 'standard input'), ''):
+            fail(f'standard input: {done}')
+    done = command(room, '--against', '-', 'good.img', stdin=(room / 'good.img').read_bytes())
+    if done != (0, second_line(stored_text('good'), 'the same bytes as standard input'), ''):
+        fail(f'--against standard input: {done}')
+
+
+def wrong_commands(room):
+    """Words of the command that are wrong, or in another order."""
+    row = "--row needs the number of a statement row, not '%s'\n"
     for words, status, said in [
-            ([], 2, 'doordump: no file is named\n'), (['--rwo', '4'], 2, 'doordump: there is no option --rwo\n'),
-            (['--row', 'abc', 'first.img'], 2, number % 'abc'), (['first.img', '--row'], 2, number % ''),
-            (['first.img', 'first.img'], 2, 'doordump: one file at a time\n'), (['-h'], 0, ''), (['--help'], 0, ''),
-            (['first.img', '--row', '4'], 0, ''), (['--row=4', 'first.img'], 0, ''),
-            (['first.img', '--row', '9'], 2, 'doordump: first.img has statement rows 0 to 8, and no 9\n'),
-            (['none.img'], 2, 'doordump: none.img: ')]:
-        done = subprocess.run([DOORDUMP, *words], cwd=room, capture_output=True, check=False)
-        if done.returncode != status or not done.stderr.decode().startswith(said) or bool(said) != bool(done.stderr):
-            fail(f'{words}: exit status {done.returncode}, {done.stderr!r}')
-    shutil.copy(room / 'first.img', os.fsencode(room) + b'/\xff.img')
-    done = subprocess.run([DOORDUMP, b'\xff.img'], cwd=room, capture_output=True, check=False)
-    if done.returncode != 0 or not done.stdout.startswith('\ufffd.img: version 1, 305 bytes'.encode()):
-        fail(f'a name of other bytes: {done}')
+            ('', 2, 'no file is named\n'), ('--rwo 4', 2, 'there is no option --rwo\n'),
+            ('--row abc first.img', 2, row % 'abc'), ('first.img --row', 2, row % ''), ('-h', 0, ''), ('--help', 0, ''),
+            ('first.img --statement 9', 2, 'first.img has statement rows 0 to 8, and no 9\n'),
+            ('none.img', 2, 'none.img: '), ('--against none.img first.img', 2, 'none.img: '),
+            ('--names none.lst first.img', 2, 'none.lst: '), ('--names first.img first.img', 2, 'first.img:1:'),
+            ('--refusal', 2, "--refusal needs the number of a refusal and a row, not ''\n"),
+            ('--refusal 10', 2, "--refusal needs a row after the refusal, not ''\n"),
+            ('--refusal 10 first.img', 2, "--refusal needs a row after the refusal, not 'first.img'\n"),
+            ('--refusal 15 0', 2, 'there is no refusal 15: they are 1 to 14\n'),
+            ('--refusal 3 1', 2, 'refusal 3 has row 0, and never 1\n'),
+            ('--refusal 0 7', 2, 'refusal 0 has row 0, and never 7\n'),
+            ('--refusal 4 64', 0, ''), ('--refusal 4 65', 2, 'refusal 4 has type rows 0 to 64, and never 65\n'),
+            ('--refusal 10 2047', 0, ''), ('--refusal 10 2048', 2, 'refusal 10 has node rows 0 to 2047, and never 2048\n'),
+            ('--reader 10', 2, "10 is not a reader's one number, which is 65536 at least; a refusal and its row are told "
+             'by --refusal REFUSAL ROW\n'),
+            ('--reader 0', 0, ''), ('--reader 786433', 2, '786433: refusal 12 has row 0, and never 1\n'),
+            ('--reader x', 2, "--reader needs the reader's one number, not 'x'\n"),
+            ('--refusal 1 0 --reader 0', 2, 'one report at a time\n'),
+            ('--refusal 1 0 --brief', 2, 'no file is named\n'), ('--refusal 1 0 --names good.lst', 2, 'no file is named\n'),
+            ('--refusal 1 0 --row 4 first.img', 2, 'a reader shows a refusal or a statement row, not both\n'),
+            ('--brief --html first.img', 2, '--brief and --html do not go together\n'),
+            ('--brief=4 first.img', 2, '--brief has nothing behind =\n'),
+            ('--brief --row 4 first.img', 2, '--brief shows no statement\n'),
+            ('--brief --names good.lst good.img', 2, '--brief shows no names\n'),
+            ('--against', 2, '--against needs a file\n'), ('- -', 2, 'standard input can be read once\n'),
+            ('--against - -', 2, 'standard input can be read once\n'), ('-- --help', 2, '--help: ')]:
+        found = command(room, *words.split())
+        begins = f'doordump: {said}' if said else ''
+        if found[0] != status or not found[2].startswith(begins) or bool(said) != bool(found[2]):
+            fail(f'doordump {words}: exit status {found[0]}, {found[2]!r}')
+
+
+def help_text(room):
+    """The help: in ASCII, with every option, and with examples that can be run."""
+    text = command(room, '--help')[1]
+    options = 'refusal reader statement row against names brief html help'.split()
+    for wrong in [f'no --{option}' for option in options if f'--{option}' not in text]:
+        fail(f'--help: {wrong}')
+    if not text.isascii() or max(map(len, text.splitlines())) > 110:
+        fail('--help: a line is too long, or not in ASCII')
+    for name in 'door', 'sent', 'received':
+        shutil.copy(room / 'good.img', room / f'{name}.img')
+    shutil.copy(room / 'good.lst', room / 'door.lst')
+    examples = re.findall('^ {20,}(doordump .*)', text, re.MULTILINE)
+    for example in examples:
+        words = [word for word in example.split()[1:] if not word.startswith('>')]
+        words = [name for word in words for name in (['good.img', 'door.img'] if word == '*.img' else [word])]
+        if '--statement' in words:
+            words[words.index('--statement') + 1] = '3'
+        if command(room, *words)[0] != 0:
+            fail(f'--help: {example}: {command(room, *words)}')
+    if len(examples) < len(options) - 1:
+        fail(f'--help: {len(examples)} examples')
+
+
+def file_names(room):
+    """File names of any bytes, in text and page; a reader of the text that wants no more."""
+    hostile = b'<b on="1">&amp;\'\xff\x1b[31m.img'
+    shown = '<b on="1">&amp;\'\ufffd\\u{1b}[31m.img'
+    shutil.copy(room / 'first.img', os.fsencode(room) + b'/' + hostile)
+    status, text, _ = command(room, hostile)
+    if status != 0 or not text.startswith(f'{shown}: version 1, 305 bytes'):
+        fail(f'a name of other bytes: {text[:100]!r}')
+    for words in [hostile], [hostile, hostile + b'x', 'first.img'], ['--against', hostile, 'good.img']:
+        page = Page(command(room, '--html', *words)[1])
+        if page.wrong or shown not in page.text:
+            fail(f'a page with names of other bytes: {page.wrong}, {page.text[:100]!r}')
     reader, writer = os.pipe()
     os.close(reader)
     done = subprocess.run([DOORDUMP, 'first.img'], cwd=room, stdout=writer, stderr=subprocess.PIPE, check=False)
@@ -139,6 +340,29 @@ def answer_in(text):
     return int(found[1]), int(found[3] or 0)
 
 
+def tables_of(data):
+    """Where each table's rows begin, and how many it has."""
+    at, found = 5, {}
+    for name in ORDER:
+        count = int.from_bytes(data[at:at + 2], 'big')
+        found[name] = at + 2, count
+        at += 2 + 8 * count
+    return found
+
+
+def row_lines(data, table, row):
+    """The lines of an explanation with the row's numbers and bytes; none where it is not there."""
+    first, count = tables_of(data)[table]
+    if row >= count:
+        return ''
+    at = first + 8 * row
+    kind, zero, *numbers = data[at], data[at + 1], *(int.from_bytes(data[at + k:at + k + 2], 'big') for k in (2, 4, 6))
+    a, b, c = numbers
+    digits = f'{kind:02x} {zero:02x} {a:04x} {b:04x} {c:04x}'
+    return (f'  row        {table} {row}: kind {kind}, zero byte {zero}, a {a}, b {b}, c {c}\n'
+            f'  bytes      {at} to {at + 7} (hexadecimal {at:x} to {at + 7:x}): {digits}\n')
+
+
 def answered(image):
     """Refusal and row that are printed of an image; exit status and marks have to fit."""
     status, text = dumped(image)
@@ -150,6 +374,10 @@ def answered(image):
     lines = marked(text)
     if (refusal > 3) != bool(lines) or not all(names_row(line, refusal, row) for line in lines):
         fail(f'{image.name}: refused by {refusal} at {row}, and marked: {lines}')
+    if refusal > 3 and row_lines(image.read_bytes(), TABLES[refusal], row) not in text:
+        fail(f'{image.name}: not the bytes of the row')
+    if not text.isascii():
+        fail(f'{image.name}: the text is not in ASCII')
     return answer
 
 
@@ -176,13 +404,39 @@ def damaged(room, known):
     accepted = sorted(image for image, (refusal, _) in known.items() if refusal == '0' and image.stat().st_size < 5000)
     refused = 0
     for k in range(DAMAGED):
-        data = bytearray(random.choice(accepted).read_bytes())
+        good = random.choice(accepted)
+        data = bytearray(good.read_bytes())
         for _ in range(random.randint(1, 8)):
             data[random.randrange(5, len(data))] = random.choice([0, 1, 2, 3, 4, 255, random.randrange(256)])
         image = room / f'damaged{k}.img'
         image.write_bytes(data)
         refused += answered(image) != (0, 0)
+        if k % COMPARED == 0:
+            compared(good, image, room)
     return refused
+
+
+def compared(good, image, room):
+    """A damaged image against the good one: the rows that differ, in the summary and each with its lines."""
+    status, text, _ = command(room, '--against', good, image.name)
+    data, other = image.read_bytes(), good.read_bytes()
+    if answer_in(text) is None or answer_in(text)[0] in (1, 2, 3):
+        first = next((at for at in range(len(data)) if data[at] != other[at]), None)
+        expected = f'\ndiffers from {good}; first at byte {first} ' if data != other else f'\nthe same bytes as {good}\n'
+        if expected not in text:
+            fail(f'{image.name}: not {expected}')
+        return
+    rows_of = {name: [at for at in range(count) if data[first + 8 * at:first + 8 * at + 8]
+                      != other[first + 8 * at:first + 8 * at + 8]]
+               for name, (first, count) in tables_of(data).items()}
+    words = ', '.join(f'{len(found)} {name} row{"" if len(found) == 1 else "s"}' for name, found in rows_of.items() if found)
+    if words and f'\ndiffers from {good} in {words}; first at byte ' not in text:
+        fail(f'{image.name}: differs in {words}')
+    for name, found in rows_of.items():
+        for row in found:
+            if not re.search(rf'^ +good: {name if name != "variable" else "var"} {row}\b', text, re.MULTILINE):
+                fail(f'{image.name}: without {name} row {row} of the good image')
+    page_of(text, room, '--against', good, image.name)
 
 
 def hostile(room):
@@ -207,8 +461,9 @@ def hostile(room):
         source.write_text(scalars + '\n'.join(rows_of) + '\n', encoding='ascii')
         image = image_of(source, room)
         answered(image)
-        if len(dumped(image)[1]) > 2000000:
-            fail(f'{name}: more than 2,000,000 characters')
+        for words in [], ['--against', 'good.img'], ['--html']:
+            if len(dumped(image, *words)[1]) > 2000000:
+                fail(f'{name}: more than 2,000,000 characters')
     return len(lines)
 
 
@@ -216,8 +471,12 @@ def main():
     with tempfile.TemporaryDirectory() as name:
         room = pathlib.Path(name)
         outputs = stored(room)
-        rows(room)
-        commands(room)
+        statements(room)
+        notes(room)
+        several(room)
+        wrong_commands(room)
+        help_text(room)
+        file_names(room)
         known = vectors(room)
         refused = damaged(room, known)
         tried = hostile(room)

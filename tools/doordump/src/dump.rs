@@ -500,3 +500,37 @@ fn below(tables: &Tables, statement: usize) -> Vec<usize> {
 fn is_scalar(at: usize, row: Row) -> bool {
     row == Row { kind: at as u8, zero: 0, a: 0, b: 0, c: 0 }
 }
+
+#[cfg(test)]
+mod tests {
+    use super::*;
+
+    const LISTING: &str = "type 0 = BOOLEAN\ntype 1 = INTEGER\ntype 2 = SET\nprocedure 0 at 0 parameters 0 locals 0\n\
+                           node 0 = BOOLEAN TRUE\nnode 1 = ~ 0\nstatement 0: IF NOT 1 GOTO 2\nstatement 1: GOTO 0\n\
+                           statement 2: RETURN\n";
+
+    #[test]
+    fn statements_and_nodes_have_their_names() {
+        let tables = listing::read_listing(LISTING.as_bytes()).unwrap().tables;
+        let mut names = Names::default();
+        names.give(STATEMENTS, 2, "done");
+        names.give(NODES, 1, "never");
+        let image = Named { tables: &tables, names: &names };
+        let mark = Some(Mark { table: NODES, row: 1 });
+        let lines = of(&Wanted { image, program: None, mark, reported: None, good: None });
+        let text: Vec<String> = lines.iter().map(Line::plain).collect();
+        let expected = [
+            "",
+            "   PROCEDURE p0, the module body",
+            "      0: IF NOT (~TRUE) GOTO done",
+            "             node 0 = BOOLEAN TRUE",
+            ">>           node 1 = ~ 0  -- never",
+            "      1: GOTO 0",
+            "     done:",
+            "      2: RETURN",
+        ];
+        assert_eq!(text, expected);
+        assert_eq!(lines[2].text.pieces.last().unwrap().to, Some(Mark { table: STATEMENTS, row: 2 }));
+        assert_eq!(lines[4].text.pieces.iter().find_map(|piece| piece.to), Some(Mark { table: NODES, row: 0 }));
+    }
+}

@@ -14,8 +14,12 @@ pub struct Explanation {
 }
 
 impl Explanation {
-    pub fn has_broken_rule(&self) -> bool {
-        self.entries.iter().any(|entry| matches!(entry, Entry::Rules(_, Some(_))))
+    /// The rules of its question and the broken one, where that is known.
+    pub fn broken_rule(&self) -> Option<(&[&'static Rule], &'static Rule)> {
+        self.entries.iter().find_map(|entry| match entry {
+            Entry::Rules(rules, Some(broken)) => Some((&rules[..], *broken)),
+            _ => None,
+        })
     }
 }
 

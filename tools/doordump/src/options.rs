@@ -26,11 +26,11 @@ A reader's report
 What is shown
   --against GOOD.img       mark with '<>' each row that is not GOOD.img's, and show what it is there
                              doordump --against sent.img received.img
-  --names FILE.lst         show the names of this listing in place of v5, T4 and p1, where it is the image's own
-                           listing; with --against also where it is that of GOOD.img, in rows that are the same
+  --names FILE.lst         show this listing's names in place of v5, T4 and p1, if it gives this very image;
+                           with --against also if it gives GOOD.img, in the rows that are the same
                              doordump --names door.lst door.img
-  --brief                  a line for each file: accepted, or refusal, row and rule; with --refusal or --reader
-                           also which file fits the report
+  --brief                  a line for each file: accepted, or question, row and rule; with --refusal or
+                           --reader also which file fits the report
                              doordump --brief --reader 655417 *.img
   --html                   write one page for a browser or paper, with links between rows and rules
                              doordump --html door.img >door.html

@@ -11,13 +11,10 @@ const STYLE: &str = include_str!("page.css");
 
 /// The page for files, with a list of them where there are several, or for a report without a file.
 pub fn of(answers: &[Result<Told, String>], report: Option<&Explanation>) -> String {
-    let sections =
-        answers.iter().enumerate().filter_map(|(k, told)| Some(Section::new(k + 1).told(told.as_ref().ok()?)));
-    let sections: String = sections.collect();
     let (title, body) = match (answers, report) {
-        ([Ok(told)], _) => (format!("{}: {}", told.name, told.verdict), sections),
-        (_, Some(explained)) => (explained.title.clone(), Section::new(1).explanation(explained, true)),
-        _ => (sum(answers), format!("{}{}{sections}", element("h1", "", &escaped(&sum(answers))), list(answers))),
+        ([Ok(told)], _) => (format!("{}: {}", told.name, told.verdict), Section::new(1, 1).told(told)),
+        (_, Some(explained)) => (explained.title.clone(), Section::new(1, 0).explanation(explained, true)),
+        _ => (sum(answers), several(answers)),
     };
     format!(
         "<!DOCTYPE html>\n<html lang=\"en\">\n<head>\n<meta charset=\"utf-8\">\n\
@@ -27,11 +24,20 @@ pub fn of(answers: &[Result<Told, String>], report: Option<&Explanation>) -> Str
     )
 }
 
+/// Several files: a list, and each below it.
+fn several(answers: &[Result<Told, String>]) -> String {
+    let mut text = element("h1", "", &escaped(&sum(answers))) + &list(answers);
+    for (k, told) in answers.iter().enumerate() {
+        text += &told.as_ref().map_or_else(|_| String::new(), |told| Section::new(k + 1, 2).told(told));
+    }
+    text
+}
+
 /// The files, each in a line that leads to its section.
 fn list(answers: &[Result<Told, String>]) -> String {
     let items = answers.iter().enumerate().map(|(k, answer)| match answer {
         Ok(told) => {
-            let name = link(&Section::new(k + 1).id("file"), "", &escaped(&told.name));
+            let name = link(&Section::new(k + 1, 2).id("file"), "", &escaped(&told.name));
             element("li", class(told.status), &format!("{name}: {}", escaped(&told.brief)))
         }
         Err(message) => element("li", class(2), &escaped(message)),
@@ -50,13 +56,19 @@ fn class(status: u8) -> &'static str {
 /// A file's part of the page. Its ids begin with the file's number.
 struct Section {
     number: usize,
+    /// That of its heading; those within it have the next.
+    level: usize,
     /// The rows that have an id.
     rows: HashSet<Mark>,
 }
 
 impl Section {
-    fn new(number: usize) -> Section {
-        Section { number, rows: HashSet::new() }
+    fn new(number: usize, level: usize) -> Section {
+        Section { number, level, rows: HashSet::new() }
+    }
+
+    fn heading(&self, deeper: usize, body: &str) -> String {
+        element(&format!("h{}", self.level + deeper), "", body)
     }
 
     fn id(&self, what: &str) -> String {
@@ -72,7 +84,7 @@ impl Section {
         let lines: Vec<(&Line, bool)> = told.lines.iter().map(|line| (line, self.is_first(line))).collect();
         let place = told.explanations.first().filter(|explained| explained.title == told.verdict);
         let place = place.and_then(|explained| explained.place);
-        let mut text = element("h1", "", &escaped(&told.name));
+        let mut text = self.heading(0, &escaped(&told.name));
         text += &element("p", &format!("verdict {}", class(told.status)), &self.to_row(place, &told.verdict));
         text += &element("p", "head", &escaped(&told.head));
         text.extend(told.notes.iter().map(|note| element("p", "note", &escaped(note))));
@@ -84,6 +96,7 @@ impl Section {
         }
         let lines = lines.into_iter().map(|(line, first)| self.line(line, first, told));
         text += &element("div", "dump", &format!("\n{}", lines.collect::<String>()));
+        text.extend(told.explanations.iter().map(|explained| self.rules(explained)));
         element_with("section", "", &self.id("file"), &format!("\n{text}"))
     }
 
@@ -110,7 +123,7 @@ impl Section {
         let text = escaped(sign.text());
         let to = match sign {
             Sign::Marked if told.stopped.is_some() && told.explanations.is_empty() => "stopped",
-            Sign::Marked if told.explanations.iter().any(Explanation::has_broken_rule) => "rule",
+            Sign::Marked if told.explanations.iter().any(|explained| explained.broken_rule().is_some()) => "rule",
             Sign::Marked => "why",
             Sign::Reported => "report",
             Sign::None | Sign::Differs => return text,
@@ -136,7 +149,7 @@ impl Section {
     }
 
     fn explanation(&self, explained: &Explanation, with_title: bool) -> String {
-        let title = element("h2", "", &self.to_row(explained.place, &explained.title));
+        let title = self.heading(1, &self.to_row(explained.place, &explained.title));
         let entries: String = explained.entries.iter().map(|entry| self.entry(entry, explained.place)).collect();
         let list = element("dl", "", &format!("\n{entries}"));
         let body = format!("\n{}{list}", if with_title { &title } else { "" });
@@ -147,20 +160,29 @@ impl Section {
         let (label, words) = match entry {
             Entry::Said(label @ "row", words) => (*label, self.to_row(place, words)),
             Entry::Said(label, words) => (*label, escaped(words)),
-            Entry::Rules(rules, broken) => {
-                let items: String = rules.iter().map(|rule| self.rule(rule, *broken, place)).collect();
-                (if broken.is_some() { "rule" } else { "rules" }, element("ul", "rules", &format!("\n{items}")))
-            }
+            Entry::Rules(_, Some(broken)) => ("rule", link(&self.id("rule"), "", &escaped(broken.words))),
+            Entry::Rules(rules, None) => ("rules", self.rule_list(rules, None, place)),
         };
         element("dt", "", &escaped(label)) + &element("dd", "", &words)
     }
 
-    /// A rule; the broken one leads to the row that breaks it.
-    fn rule(&self, rule: &'static Rule, broken: Option<&'static Rule>, place: Option<Mark>) -> String {
-        if broken == Some(rule) {
-            return element_with("li", "broken", &self.id("rule"), &self.to_row(place, rule.words));
-        }
-        element("li", "", &escaped(rule.words))
+    /// The rules of a question of which one is broken.
+    fn rules(&self, explained: &Explanation) -> String {
+        let Some((rules, broken)) = explained.broken_rule() else { return String::new() };
+        let heading = format!("The rules of question {}, in the order in which they are asked", broken.question);
+        self.heading(1, &heading) + &self.rule_list(rules, Some(broken), explained.place)
+    }
+
+    /// Rules; the broken one leads to the row that breaks it.
+    fn rule_list(&self, rules: &[&'static Rule], broken: Option<&Rule>, place: Option<Mark>) -> String {
+        let items = rules.iter().map(|rule| {
+            if broken == Some(rule) {
+                element_with("li", "broken", &self.id("rule"), &self.to_row(place, rule.words))
+            } else {
+                element("li", "", &escaped(rule.words))
+            }
+        });
+        element("ul", "rules", &format!("\n{}", items.collect::<String>()))
     }
 }
 

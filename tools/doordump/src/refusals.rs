@@ -131,3 +131,16 @@ pub fn answer(refusal: u32, row: u32) -> String {
         (_, None) => format!("accepted, and the run refused by {refusal}"),
     }
 }
+
+#[cfg(test)]
+mod tests {
+    use super::*;
+
+    #[test]
+    fn the_questions_are_those_of_document_01() {
+        let document = include_str!("../../../docs/spec/01-scope.md");
+        for (k, question) in QUESTIONS.iter().enumerate() {
+            assert!(document.contains(&format!("\n{}. {question}", k + 1)), "{question}");
+        }
+    }
+}

@@ -182,12 +182,4 @@ mod tests {
         assert!(said.contains("the proved check  refused by question 7 at node row 12\n"), "{said}");
         assert!(said.contains("the model         accepted\n"), "{said}");
     }
-
-    #[test]
-    fn the_questions_are_those_of_document_01() {
-        let document = include_str!("../../../docs/spec/01-scope.md");
-        for (k, question) in QUESTIONS.iter().enumerate() {
-            assert!(document.contains(&format!("\n{}. {question}", k + 1)), "{question}");
-        }
-    }
 }

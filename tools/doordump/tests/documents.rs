@@ -1,4 +1,5 @@
 //! The documents against the tools and the rules: what they state is what the code does.
+use doordump::refusals::{cause, CAUSES, IN_SHORT};
 use listing::{image_of, listing_of, read_listing, Tables};
 use model::rules;
 use std::path::{Path, PathBuf};
@@ -103,8 +104,47 @@ fn the_worked_example_takes_the_steps_stated() {
 fn the_dumps_in_the_documents_are_the_stored_outputs() {
     let shown = block_with(&text_of("docs/IMAGE.md"), "   PROCEDURE p0");
     assert!(text_of("tests/dump/first.txt").ends_with(&shown), "{shown}");
-    let shown = block_with(&text_of("docs/REFUSALS.md"), "10-index.img: ");
-    assert_eq!(shown, text_of("tests/dump/10-index.txt"));
+    let refusals = text_of("docs/REFUSALS.md");
+    for (begins, stored) in [
+        ("10-index.img: version", "10-index"),
+        ("the reader's report: accepted, and the run refused by 12", "report-12"),
+        ("first.img: accepted; ", "brief"),
+    ] {
+        assert_eq!(block_with(&refusals, begins), text_of(&format!("tests/dump/{stored}.txt")));
+    }
+    for (begins, stored) in [("the reader's report: refused by question 10", "report-other")] {
+        let shown = block_with(&refusals, begins);
+        assert!(text_of(&format!("tests/dump/{stored}.txt")).contains(&shown), "{shown}");
+    }
+}
+
+/// The cells of a table's row in a document, without its signs for emphasis.
+fn cells(document: &str, begins: &str, table: usize) -> Vec<String> {
+    let rows = document.lines().filter(|line| line.starts_with(&format!("| {begins} |")));
+    let mut rows = rows.map(|line| line.trim_matches('|').split('|').map(|cell| cell.trim().replace('*', "")));
+    rows.nth(table).unwrap_or_else(|| panic!("no row {begins}")).collect()
+}
+
+#[test]
+fn the_words_of_refusals_are_the_documents() {
+    let document = text_of("docs/REFUSALS.md");
+    let (_, refusals) = document.split_once("\n## Refusals\n").unwrap();
+    for (refusal, words) in (1..).zip(IN_SHORT) {
+        assert_eq!(cells(refusals, &refusal.to_string(), 0)[1], words);
+    }
+    let mut first = 1;
+    for (last, usually, to_do) in CAUSES {
+        // The first table has single refusals alone, so that a span stands in the second one only.
+        let row = if first == last {
+            cells(refusals, &last.to_string(), 1)
+        } else {
+            cells(refusals, &format!("{first} to {last}"), 0)
+        };
+        assert_eq!(row[1..], [usually, to_do]);
+        assert!((first..=last).all(|refusal| cause(refusal) == Some((usually, to_do))));
+        first = last + 1;
+    }
+    assert_eq!((cause(0), cause(first)), (None, None));
 }
 
 #[test]
