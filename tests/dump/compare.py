@@ -1,5 +1,6 @@
 #!/usr/bin/env python3
 """Compares what doordump prints with the outputs in this folder and with the answers of vectors/: see run."""
+import collections
 import html.parser
 import os
 import pathlib
@@ -26,6 +27,7 @@ OPTIONS = {  # the stored output, the words of the command and its exit status
     'report-14': ('--refusal 14 0', 0),
     'report-other': ('--reader 655362 first.img', 0),
     'report-both': ('--refusal 4 4 10-index.img', 1),
+    'report-row': ('--refusal 10 1 10-index.img', 1),
     'against-damaged': ('--against good.img 08-damaged.img', 1),
     'against-shorter': ('--against good.img 08-shorter.img', 1),
     'against-length': ('--against first.img 02-length.img', 1),
@@ -108,8 +110,8 @@ class Page(html.parser.HTMLParser):
         self.close()
         self.text = flat(self.text)
         self.wrong += [f'{tag} is not closed' for tag in self.open]
-        self.wrong += [f'two ids {name}' for name in set(self.ids) if self.ids.count(name) > 1]
-        self.wrong += [f'no id for {link}' for link in self.links if link[:1] != '#' or link[1:] not in self.ids]
+        self.wrong += [f'two ids {name}' for name, count in collections.Counter(self.ids).items() if count > 1]
+        self.wrong += [f'no id for {link}' for link in set(self.links) - {f'#{name}' for name in self.ids}]
         known = set('html head meta title style body h1 h2 h3 section div p ul li dl dt dd a'.split())
         self.wrong += [f'the element {tag}' for tag in self.tags - known]
 
@@ -448,6 +450,9 @@ def hostile(room):
         'shared': ['procedure 0 at 0 parameters 0 locals 0', 'node 0 = INTEGER 1']
                   + [f'node {n} = - {n - 1}' for n in range(1, 2048)]
                   + [f'statement {s}: WRITE 2047' for s in range(1024)],
+        'again': ['procedure 0 at 0 parameters 0 locals 0', 'node 0 = INTEGER 1']
+                 + [f'node {n} = - {n - 1}' for n in range(1, 2048)]
+                 + [f'statement {s}: WRITE 2047' for s in range(1023)] + ['statement 1023: RETURN'],
         'circle': ['procedure 0 at 0 parameters 0 locals 0', 'statement 0: WRITE 0']
                   + [f'node {n} = {(n + 1) % 2048} + {n}' for n in range(2048)],
         'parameters': [f'procedure {p} at 0 parameters 65535 locals 65535' for p in range(64)]
@@ -464,6 +469,8 @@ def hostile(room):
         for words in [], ['--against', 'good.img'], ['--html']:
             if len(dumped(image, *words)[1]) > 2000000:
                 fail(f'{name}: more than 2,000,000 characters')
+        for wrong in Page(dumped(image, '--html')[1]).wrong:
+            fail(f'{name}: a page with {wrong}')
     return len(lines)
 
 
