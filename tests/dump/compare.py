@@ -1,7 +1,5 @@
 #!/usr/bin/env python3
 """Compares what doordump prints with the outputs in this folder and with the answers of vectors/: see run."""
-import collections
-import html.parser
 import os
 import pathlib
 import random
@@ -10,6 +8,10 @@ import shutil
 import subprocess
 import sys
 import tempfile
+
+sys.dont_write_bytecode = True  # no folder beside page.py
+
+from page import Page, flat
 
 TOP = pathlib.Path(__file__).resolve().parent.parent.parent
 HERE, VECTORS = TOP / 'tests/dump', TOP / 'vectors'
@@ -99,53 +101,6 @@ def command(room, *words, stdin=b''):
     return done.returncode, done.stdout.decode('utf-8'), done.stderr.decode('utf-8')
 
 
-class Page(html.parser.HTMLParser):
-    """A page: what is wrong with its form, and its text, with a gap at each block."""
-    EMPTY, INLINE = {'meta'}, {'a'}
-
-    def __init__(self, text):
-        super().__init__()
-        self.open, self.ids, self.links, self.tags, self.text, self.wrong = [], [], [], set(), '', []
-        self.feed(text)
-        self.close()
-        self.text = flat(self.text)
-        self.wrong += [f'{tag} is not closed' for tag in self.open]
-        self.wrong += [f'two ids {name}' for name, count in collections.Counter(self.ids).items() if count > 1]
-        self.wrong += [f'no id for {link}' for link in set(self.links) - {f'#{name}' for name in self.ids}]
-        known = set('html head meta title style body h1 h2 h3 section div p ul li dl dt dd a'.split())
-        self.wrong += [f'the element {tag}' for tag in self.tags - known]
-
-    def handle_starttag(self, tag, attrs):
-        self.tags.add(tag)
-        for name, value in attrs:
-            if name == 'id':
-                self.ids.append(value)
-            elif name == 'href':
-                self.links.append(value)
-            elif name not in ('class', 'lang', 'charset', 'name', 'content'):
-                self.wrong.append(f'the attribute {name}')
-        if tag not in self.EMPTY:
-            self.open.append(tag)
-        self.gap(tag)
-
-    def handle_endtag(self, tag):
-        if not self.open or self.open.pop() != tag:
-            self.wrong.append(f'{tag} is closed and is not open')
-        self.gap(tag)
-
-    def handle_data(self, data):
-        if 'style' not in self.open:
-            self.text += data
-
-    def gap(self, tag):
-        if tag not in self.INLINE:
-            self.text += ' '
-
-
-def flat(text):
-    return ' '.join(text.split())
-
-
 def page_of(text, room, *words):
     """The page for a command: its form, and every line of the plain text."""
     _, written, _ = command(room, '--html', *words)
@@ -185,11 +140,11 @@ def second_line(text, line):
 
 def notes(room):
     """Options that say no more than a line beside what is stored."""
-    report = "the reader's report, refusal %s, is what this file gives"
+    report = "the reader's report, refusal %s and row %s, is what this file gives"
     no_names = 'no names: good.lst gives another image, which differs in %s'
     for words, name, line in [
-            ('--refusal 10 2', '10-index', report % '10 and row 2'), ('--reader 655,362', '10-index', report % '10 and row 2'),
-            ('--reader 65536', '01-version', report % '1 and row 0'), ('--refusal 0 0', 'first', report % '0 and row 0'),
+            ('--refusal 10 2', '10-index', report % (10, 2)), ('--reader 655,362', '10-index', report % (10, 2)),
+            ('--reader 65536', '01-version', report % (1, 0)), ('--refusal 0 0', 'first', report % (0, 0)),
             ('--against good.img', 'good', 'the same bytes as good.img'),
             ('--names good.lst', '08-damaged', no_names % '1 field row, 1 node row, 2 statement rows'),
             ('--names good.lst', '08-shorter', no_names % '1 node row, 1 statement row')]:
@@ -238,13 +193,15 @@ def wrong_commands(room):
             ('--refusal 3 1', 2, 'refusal 3 has row 0, and never 1\n'),
             ('--refusal 0 7', 2, 'refusal 0 has row 0, and never 7\n'),
             ('--refusal 4 64', 0, ''), ('--refusal 4 65', 2, 'refusal 4 has type rows 0 to 64, and never 65\n'),
-            ('--refusal 10 2047', 0, ''), ('--refusal 10 2048', 2, 'refusal 10 has node rows 0 to 2047, and never 2048\n'),
-            ('--reader 10', 2, "10 is not a reader's one number, which is 65536 at least; a refusal and its row are told "
-             'by --refusal REFUSAL ROW\n'),
+            ('--refusal 10 2047', 0, ''),
+            ('--refusal 10 2048', 2, 'refusal 10 has node rows 0 to 2047, and never 2048\n'),
+            ('--reader 10', 2, "10 is not a reader's one number, which is 65536 at least; "
+             'a refusal and its row are told by --refusal REFUSAL ROW\n'),
             ('--reader 0', 0, ''), ('--reader 786433', 2, '786433: refusal 12 has row 0, and never 1\n'),
             ('--reader x', 2, "--reader needs the reader's one number, not 'x'\n"),
             ('--refusal 1 0 --reader 0', 2, 'one report at a time\n'),
-            ('--refusal 1 0 --brief', 2, 'no file is named\n'), ('--refusal 1 0 --names good.lst', 2, 'no file is named\n'),
+            ('--refusal 1 0 --brief', 2, 'no file is named\n'),
+            ('--refusal 1 0 --names good.lst', 2, 'no file is named\n'),
             ('--refusal 1 0 --row 4 first.img', 2, 'a reader shows a refusal or a statement row, not both\n'),
             ('--brief --html first.img', 2, '--brief and --html do not go together\n'),
             ('--brief=4 first.img', 2, '--brief has nothing behind =\n'),
@@ -420,25 +377,29 @@ def damaged(room, known):
 
 def compared(good, image, room):
     """A damaged image against the good one: the rows that differ, in the summary and each with its lines."""
-    status, text, _ = command(room, '--against', good, image.name)
+    _, text, _ = command(room, '--against', good, image.name)
     data, other = image.read_bytes(), good.read_bytes()
-    if answer_in(text) is None or answer_in(text)[0] in (1, 2, 3):
-        first = next((at for at in range(len(data)) if data[at] != other[at]), None)
-        expected = f'\ndiffers from {good}; first at byte {first} ' if data != other else f'\nthe same bytes as {good}\n'
-        if expected not in text:
-            fail(f'{image.name}: not {expected}')
-        return
-    rows_of = {name: [at for at in range(count) if data[first + 8 * at:first + 8 * at + 8]
-                      != other[first + 8 * at:first + 8 * at + 8]]
-               for name, (first, count) in tables_of(data).items()}
-    words = ', '.join(f'{len(found)} {name} row{"" if len(found) == 1 else "s"}' for name, found in rows_of.items() if found)
-    if words and f'\ndiffers from {good} in {words}; first at byte ' not in text:
-        fail(f'{image.name}: differs in {words}')
-    for name, found in rows_of.items():
+    first = next((at for at in range(len(data)) if data[at] != other[at]), None)
+    rows = {} if answer_in(text)[0] in (1, 2, 3) else differing_rows(data, other)
+    counts = [f'{len(found)} {name} row{"" if len(found) == 1 else "s"}' for name, found in rows.items() if found]
+    inside = f' in {", ".join(counts)}' if counts else ''
+    line = f'the same bytes as {good}\n' if first is None else f'differs from {good}{inside}; first at byte {first} '
+    if f'\n{line}' not in text:
+        fail(f'{image.name}: without {line!r}')
+    for name, found in rows.items():
         for row in found:
-            if not re.search(rf'^ +good: {name if name != "variable" else "var"} {row}\b', text, re.MULTILINE):
+            if not re.search(rf'^ +good: {"var" if name == "variable" else name} {row}\b', text, re.MULTILINE):
                 fail(f'{image.name}: without {name} row {row} of the good image')
     page_of(text, room, '--against', good, image.name)
+
+
+def differing_rows(data, other):
+    """The rows of each table that differ, where both images have the same counts."""
+    found = {}
+    for name, (first, count) in tables_of(data).items():
+        starts = {row: first + 8 * row for row in range(count)}
+        found[name] = [row for row, at in starts.items() if data[at:at + 8] != other[at:at + 8]]
+    return found
 
 
 def hostile(room):
