@@ -153,6 +153,19 @@ def notes(room):
             fail(f'{words} {name}.img: {status} {said}\n{text}')
 
 
+def never(room):
+    """Refusal 13 of a program that needs more cells than any reader lends: 17 arrays and procedure 0's three links."""
+    lines = ['type 0 = BOOLEAN', 'type 1 = INTEGER', 'type 2 = SET', 'type 3 = ARRAY 4096 OF INTEGER',
+             'procedure 0 at 0 parameters 0 locals 0', 'statement 0: RETURN']
+    lines += [f'var {v} = global v: 3' for v in range(17)]
+    (room / 'large.lst').write_text('\n'.join(lines) + '\n', encoding='ascii')
+    status, text, _ = command(room, '--refusal', '13', '0', image_of(room / 'large.lst', room).name)
+    said = ('this file is accepted. A run of it needs 69635 cells to begin, and more for calls. '
+            'That is more than a reader may lend: it never runs.')
+    if status != 0 or said not in flat(text):
+        fail(f'refusal 13 of a large program: {text}')
+
+
 def several(room):
     """Several files, one of which may not be there, and standard input."""
     texts = [stored_text('first'), stored_text('10-index')]
@@ -441,6 +454,7 @@ def main():
         outputs = stored(room)
         statements(room)
         notes(room)
+        never(room)
         several(room)
         wrong_commands(room)
         help_text(room)

@@ -1,5 +1,6 @@
 //! The tables of an image in words. It asks nothing of their rows: a row that has no words stands with its numbers, as
 //! in a listing.
+use crate::line::{Line, Sign};
 use crate::text::{leading, node_line, Text};
 use listing::{
     children, fields_before, named, row_line, row_text, Names, Row, Tables, Words, FIELDS, KINDS_OF_VARIABLES, NODES,
@@ -37,53 +38,6 @@ impl Mark {
     }
 }
 
-/// What stands before a line.
-#[derive(Clone, Copy, Debug, PartialEq, Eq)]
-pub enum Sign {
-    None,
-    /// The refused row, or the statement that a run stopped at.
-    Marked,
-    /// The row of a reader's report that is not this image's.
-    Reported,
-    /// A row that differs from the good image's.
-    Differs,
-}
-
-impl Sign {
-    pub fn text(self) -> &'static str {
-        match self {
-            Sign::None => "  ",
-            Sign::Marked => ">>",
-            Sign::Reported => "->",
-            Sign::Differs => "<>",
-        }
-    }
-}
-
-/// A line, and the row that it is of; without text it parts those before and after it.
-#[derive(Clone, Debug, PartialEq, Eq)]
-pub struct Line {
-    pub sign: Sign,
-    pub place: Option<Mark>,
-    pub text: Text,
-}
-
-impl Line {
-    /// A line that is of no row.
-    pub fn new(text: &str) -> Line {
-        Line { sign: Sign::None, place: None, text: Text::of(text) }
-    }
-
-    pub fn plain(&self) -> String {
-        let text = self.text.plain();
-        if text.is_empty() {
-            text
-        } else {
-            format!("{} {text}", self.sign.text())
-        }
-    }
-}
-
 /// The tables of an image with the names of their rows.
 #[derive(Clone, Copy)]
 pub struct Named<'a> {
@@ -102,13 +56,8 @@ pub struct Wanted<'a> {
 
 /// Version, length and counts in a line.
 pub fn head(image: &[u8], tables: &Tables) -> String {
-    format!("version {}, {} bytes; rows: {}", image[0], image.len(), counts(tables.each_ref().map(Vec::len)))
-}
-
-/// A number for each table: "4 type, 0 field, ..".
-pub fn counts(counts: [usize; 6]) -> String {
-    let counts: Vec<String> = counts.iter().zip(NAMES).map(|(count, name)| format!("{count} {name}")).collect();
-    counts.join(", ")
+    let counts: Vec<String> = tables.iter().zip(NAMES).map(|(table, name)| format!("{} {name}", table.len())).collect();
+    format!("version {}, {} bytes; rows: {}", image[0], image.len(), counts.join(", "))
 }
 
 /// The tables.

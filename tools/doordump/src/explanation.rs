@@ -1,5 +1,6 @@
 //! What is said of a refusal, for text and page alike.
 use doordump::dump::{Mark, NAMES};
+use doordump::refusals::number_of;
 use listing::{Row, Tables};
 use model::rules::Rule;
 
@@ -33,7 +34,7 @@ pub enum Entry {
 
 /// How a reader shows a refusal.
 pub fn shown(refusal: u32, row: u32) -> Entry {
-    Entry::Said("reader", format!("shows refusal {refusal} and row {row}, or {}", refusal * 65536 + row))
+    Entry::Said("reader", format!("shows refusal {refusal} and row {row}, or {}", number_of(refusal, row)))
 }
 
 /// A row of these tables: its numbers, and its bytes in the file. Nothing where it is not there.

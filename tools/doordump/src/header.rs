@@ -1,5 +1,6 @@
 //! What the bytes of an image without six tables say of it.
-use doordump::dump::{Line, NAMES};
+use doordump::dump::NAMES;
+use doordump::line::Line;
 use listing::ROWS;
 
 /// How many bytes are shown.

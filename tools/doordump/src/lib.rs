@@ -1,4 +1,5 @@
 //! Images and refusals in words, for the tools that print them.
 pub mod dump;
+pub mod line;
 pub mod refusals;
 pub mod text;

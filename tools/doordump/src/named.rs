@@ -19,9 +19,9 @@ impl Source {
         Ok(Source { name, listing })
     }
 
-    /// The names for these tables, and what is said of them. A wrong name is worse than none, so that the listing has to
-    /// give these tables, or those of the good image of which this is a damaged copy: then only rows that are the same
-    /// have names.
+    /// The names for these tables, and what is said of them. A wrong name is worse than none, so that the listing has
+    /// to give these tables, or those of the good image of which this is a damaged copy: then only rows that are the
+    /// same have names.
     pub fn names(&self, tables: &Tables, good: Option<&Tables>) -> (Names, String) {
         let rows = differing(tables, &self.listing.tables);
         match rows.iter().sum::<usize>() {

@@ -2,7 +2,8 @@
 use crate::explanation::{Entry, Explanation};
 use crate::plain::sum;
 use crate::told::Told;
-use doordump::dump::{Line, Mark, Sign, NAMES};
+use doordump::dump::{Mark, NAMES};
+use doordump::line::{Line, Sign};
 use doordump::text::Piece;
 use model::rules::Rule;
 use std::collections::HashSet;

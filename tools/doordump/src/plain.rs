@@ -1,7 +1,7 @@
 //! What is said of files, as text.
 use crate::explanation::{Entry, Explanation};
 use crate::told::Told;
-use doordump::dump::Line;
+use doordump::line::Line;
 use model::words::counted;
 
 /// The width of an explanation's words.

@@ -6,6 +6,19 @@ use model::rules::{self, Rule};
 /// The last refusal that is about the file; those after it are about what the reader lends.
 pub const LAST_OF_FILE: u32 = 11;
 
+/// A reader's one number is the refusal times this, plus the row.
+const ROWS_OF_NUMBER: u32 = 65536;
+
+/// A refusal and its row as one number.
+pub fn number_of(refusal: u32, row: u32) -> u32 {
+    refusal * ROWS_OF_NUMBER + row
+}
+
+/// The refusal and the row in one number.
+pub fn parted(number: u32) -> (u32, u32) {
+    (number / ROWS_OF_NUMBER, number % ROWS_OF_NUMBER)
+}
+
 /// The eleven questions, in document 01's words.
 pub const QUESTIONS: [&str; LAST_OF_FILE as usize] = [
     "Is there a first byte, and is it 1?",
@@ -73,8 +86,8 @@ pub const CAUSES: [(u32, &str, &str); 7] = [
     ),
     (
         14,
-        "Memory changed while the program waited, as by a power loss; or a new file came meanwhile, or fewer cells were \
-         set.",
+        "Memory changed while the program waited, as by a power loss; or a new file came meanwhile, or fewer cells \
+         were set.",
         "Show the card again. If it comes back often, change the reader's battery or the reader; then ask the maker of \
          its firmware.",
     ),

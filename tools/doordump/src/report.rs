@@ -3,12 +3,23 @@ use crate::explanation::{row_entries, shown, Entry, Explanation};
 use crate::verdict::{cells_to_begin, Verdict};
 use doordump::dump::{Mark, NAMES};
 use doordump::refusals::{
-    answer, cause, highest_row, rules_of, table_of, unclaimed, IN_SHORT, LAST_OF_FILE, QUESTIONS,
+    answer, cause, highest_row, parted, rules_of, table_of, unclaimed, IN_SHORT, LAST_OF_FILE, QUESTIONS,
 };
 use listing::{row_line, Tables, ROWS};
+use model::machine::MOST_CELLS;
 
-/// The most cells that a reader may lend.
-const MOST_CELLS: usize = 65536;
+/// What to do where the reader refuses a file that is accepted here.
+const CHANGED: &str = "\
+    Send this file again. If the reader refuses it again, the transfer or the reader changes it: send it another way. \
+    If the reader can give back what it has, doordump --against shows what changed.";
+
+/// What to do where both are refused, not with the same numbers.
+const BOTH: &str = "\
+    Look whether this is the file that was sent. If it is, both it and the transfer are at fault: give its tool maker \
+    this text and the file, and look at cable, radio and memory card.";
+
+/// What to do where this file is refused, and the reader accepted its own.
+const OTHER: &str = "The reader accepted its file, so that it is not this one. Look for the file that was sent.";
 
 #[derive(Clone, Copy, PartialEq, Eq)]
 pub struct Report {
@@ -33,7 +44,7 @@ impl Report {
 
     /// The same as one number: refusal times 65,536, and the row.
     pub fn of_number(number: u32) -> Result<Report, String> {
-        match (number / 65536, number % 65536) {
+        match parted(number) {
             (0, row) if row > 0 => Err(format!(
                 "{number} is not a reader's one number, which is 65536 at least; a refusal and its row are told by \
                  --refusal REFUSAL ROW"
@@ -107,35 +118,30 @@ impl Report {
     }
 
     fn explained_with(&self, first: Vec<Entry>, row: Vec<Entry>, to_do: Option<&str>) -> Explanation {
-        let refusal = self.refusal;
-        let mut entries = vec![shown(refusal, self.row)];
+        let mut entries = vec![shown(self.refusal, self.row)];
         entries.extend(first);
-        let mut say = |what, words: &str| entries.push(Entry::Said(what, words.to_string()));
-        if refusal == 0 {
-            say("in short", "This is no refusal: the reader accepted its file.");
-        } else {
-            say("in short", IN_SHORT[refusal as usize - 1]);
-        }
-        if let Some(question) = (refusal as usize).checked_sub(1).and_then(|k| QUESTIONS.get(k)) {
-            say("question", question);
-        }
-        say("where", &self.place_words());
-        let rules = rules_of(refusal);
-        if !rules.is_empty() {
-            entries.push(Entry::Rules(rules, None));
-        }
+        entries.extend(self.meaning());
         entries.extend(row);
-        let mut say = |what, words: &str| entries.push(Entry::Said(what, words.to_string()));
-        match (to_do, cause(refusal)) {
-            (Some(to_do), _) => say("to do", to_do),
-            (None, Some((usually, to_do))) => {
-                say("usually", usually);
-                say("to do", to_do);
-            }
-            (None, None) => {}
-        }
-        let title = format!("the reader's report: {}", answer(refusal, self.row));
+        entries.extend(match (to_do, cause(self.refusal)) {
+            (Some(to_do), _) => vec![said("to do", to_do)],
+            (None, Some((usually, to_do))) => vec![said("usually", usually), said("to do", to_do)],
+            (None, None) => Vec::new(),
+        });
+        let title = format!("the reader's report: {}", answer(self.refusal, self.row));
         Explanation { id: "report", title, place: self.place(), entries }
+    }
+
+    /// What the refusal asks and where.
+    fn meaning(&self) -> Vec<Entry> {
+        let before = (self.refusal as usize).checked_sub(1);
+        let in_short = before.map_or("This is no refusal: the reader accepted its file.", |k| IN_SHORT[k]);
+        let question = before.and_then(|k| QUESTIONS.get(k)).map(|question| said("question", question));
+        let rules = Some(rules_of(self.refusal)).filter(|rules| !rules.is_empty());
+        let mut entries = vec![said("in short", in_short)];
+        entries.extend(question);
+        entries.push(said("where", &self.place_words()));
+        entries.extend(rules.map(|rules| Entry::Rules(rules, None)));
+        entries
     }
 
     /// What the row is.
@@ -156,15 +162,6 @@ impl Report {
     }
 }
 
-/// What to do where the reader refuses a file that is accepted here.
-const CHANGED: &str =
-    "Send this file again. If the reader refuses it again, the transfer or the reader changes it: send \
-                       it another way. If the reader can give back what it has, doordump --against shows what changed.";
-
-/// What to do where both are refused, not with the same numbers.
-const BOTH: &str =
-    "Look whether this is the file that was sent. If it is, both it and the transfer are at fault: give its \
-                    tool maker this text and the file, and look at cable, radio and memory card.";
-
-/// What to do where this file is refused, and the reader accepted its own.
-const OTHER: &str = "The reader accepted its file, so that it is not this one. Look for the file that was sent.";
+fn said(what: &'static str, words: &str) -> Entry {
+    Entry::Said(what, words.to_string())
+}

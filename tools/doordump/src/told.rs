@@ -5,7 +5,8 @@ use crate::header;
 use crate::named::Source;
 use crate::report::Report;
 use crate::verdict::Verdict;
-use doordump::dump::{self, Line, Mark, Named, Wanted};
+use doordump::dump::{self, Mark, Named, Wanted};
+use doordump::line::Line;
 use listing::{tables_of, Names, Tables, STATEMENTS};
 use model::words::counted;
 

@@ -1,7 +1,7 @@
 //! What the check says of an image, and why.
 use crate::explanation::{row_entries, shown, Entry, Explanation};
 use doordump::dump::Mark;
-use doordump::refusals::{answer, rules_of, table_of, unclaimed, QUESTIONS};
+use doordump::refusals::{answer, number_of, parted, rules_of, table_of, unclaimed, QUESTIONS};
 use listing::{Tables, FIELDS, PROCEDURES, TYPES, VARIABLES};
 use model::{rules, Fault, Program};
 
@@ -23,7 +23,7 @@ const EMPTY: &str = "The file is empty. Send it again.";
 
 /// The proved check's answer beside the model's.
 pub struct Verdict {
-    /// Refusal × 65,536 + row, 0 where the image is accepted.
+    /// Refusal and row, 0 where the image is accepted.
     number: u32,
     model: Result<Program, Fault>,
 }
@@ -34,17 +34,17 @@ impl Verdict {
     }
 
     pub fn refusal(&self) -> u32 {
-        self.number / 65536
+        parted(self.number).0
     }
 
     pub fn row(&self) -> u32 {
-        self.number % 65536
+        parted(self.number).1
     }
 
     fn agreed(&self) -> bool {
         let number = match &self.model {
             Ok(_) => 0,
-            Err(fault) => fault.refusal * 65536 + fault.row,
+            Err(fault) => number_of(fault.refusal, fault.row),
         };
         number == self.number
     }
@@ -175,7 +175,7 @@ mod tests {
     fn where_the_check_and_the_model_differ_it_is_said() {
         let agreed = Verdict::of(&smallest());
         assert_eq!((agreed.status(), agreed.explained(None).is_none()), (0, true));
-        let differing = Verdict { number: 7 * 65536 + 12, ..agreed };
+        let differing = Verdict { number: number_of(7, 12), ..agreed };
         assert_eq!(differing.status(), 3);
         assert!(differing.program().is_none());
         let said = crate::plain::explanation(&differing.explained(None).unwrap());
