@@ -44,6 +44,17 @@ impl Layout<'_> {
         frames
     }
 
+    /// Where these frames were called, the newest first, by their links; the same place in a row once, with a count.
+    pub fn calls(&self, cells: &[i64], frames: &[Frame]) -> Vec<String> {
+        let call = |frame: &Frame| cells[frame.base + 1] as usize - 1;
+        let rows: Vec<usize> = frames.iter().skip(1).rev().map(call).collect();
+        let told = |rows: &[usize]| match rows.len() {
+            1 => self.place(rows[0]),
+            times => format!("{}, {times} times", self.place(rows[0])),
+        };
+        rows.chunk_by(|row, next| row == next).map(told).collect()
+    }
+
     /// The variables of a frame, or the globals.
     pub fn variables(&self, frame: Option<Frame>) -> Range<usize> {
         let of = |Frame { procedure, .. }| self.program.parameters(procedure).start..self.program.locals(procedure).end;
@@ -128,9 +139,10 @@ impl Layout<'_> {
     /// What a VAR parameter with this address and type names, for a statement of the newest of these frames. Objects
     /// without cells have no cell to tell them by.
     pub fn named_object(&self, frames: &[Frame], address: usize, t: usize) -> String {
-        match self.object(frames, address, t).filter(|_| self.program.size(t) > 0) {
+        match self.object(frames, address, t) {
+            _ if self.program.size(t) == 0 => format!("an object without cells at cell {address}"),
             Some(part) => self.told(frames, &part),
-            None => format!("an object without cells at cell {address}"),
+            None => format!("cell {address}"),
         }
     }
 

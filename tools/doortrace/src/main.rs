@@ -64,7 +64,8 @@ fn trace_file(options: &Options, out: &mut impl Write) -> Result<u8, Failed> {
     let lent = Lent::new(&image, options);
     let whole = State::run(&lent, lent.steps);
     if let Err(refusal) = whole.numbers.report() {
-        write!(out, "{file}: {refusal}\nnothing was run; doordump {file} says more of the image\n")?;
+        let about = if door::check_number(&image) == 0 { "how many cells a run needs" } else { "which rule is broken" };
+        write!(out, "{file}: {refusal}\nnothing was run; doordump {file} says {about}\n")?;
         return Ok(REFUSED);
     }
     let differ = |what| Failed::Differing(format!("the engine accepts the image, and not the tracer: {what}"));

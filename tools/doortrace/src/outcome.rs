@@ -2,10 +2,11 @@
 use crate::engine::{Lent, State};
 use crate::layout::Layout;
 use crate::reading::{Found, Reading};
+use crate::step::WIDTH;
 use model::words::counted;
 
-/// How many outputs are written.
-const OUTPUTS: usize = 16;
+/// The most values and calls that are written.
+const SHOWN: usize = 6;
 
 /// Outcome, counts and outputs.
 pub fn lines(layout: &Layout, lent: &Lent, last: &State, reading: &Reading) -> String {
@@ -23,6 +24,10 @@ pub fn lines(layout: &Layout, lent: &Lent, last: &State, reading: &Reading) -> S
         }
         _ => format!("{}\n{}", trapped(&place, last), statement(layout, row)),
     };
+    let calls = layout.calls(&last.store, &layout.frames(&last.store, numbers.row, numbers.base));
+    if !calls.is_empty() {
+        text += &format!("  called at   {}\n", first_of(&calls));
+    }
     let read = format!("{} of {} read", numbers.read, counted(lent.inputs.len(), "input"));
     let written = format!("{} written", counted(numbers.written as usize, "output"));
     text += &format!("{read}, {written}, {} needed\n", counted(numbers.mark as usize, "cell"));
@@ -51,18 +56,30 @@ fn why(layout: &Layout, row: usize, found: &Found) -> String {
     }
     text += &format!("  because     {}\n", found.because);
     if !found.with.is_empty() {
-        text += &format!("  with        {}\n", found.with.join("; "));
+        text += &format!("  with        {}\n", first_of(&found.with));
     }
     text
 }
 
-/// The outputs, as far as there is room.
+/// The outputs, as far as a line has room.
 fn outputs(outputs: &[i32]) -> String {
     if outputs.is_empty() {
         return String::new();
     }
-    let shown: Vec<String> = outputs.iter().take(OUTPUTS).map(i32::to_string).collect();
-    let more = outputs.len() - shown.len();
-    let more = if more > 0 { format!(" and {more} more") } else { String::new() };
-    format!("output: {}{more}\n", shown.join(" "))
+    let mut line = "output:".to_string();
+    for (place, number) in outputs.iter().enumerate() {
+        let more = format!(" and {} more", outputs.len() - place);
+        let word = format!(" {number}");
+        if line.len() + word.len() + more.len() > WIDTH {
+            return line + &more + "\n";
+        }
+        line += &word;
+    }
+    line + "\n"
+}
+
+/// The first of a list, and how many more there are.
+fn first_of(list: &[String]) -> String {
+    let more = if list.len() > SHOWN { format!("; and {} more", list.len() - SHOWN) } else { String::new() };
+    list[..list.len().min(SHOWN)].join("; ") + &more
 }

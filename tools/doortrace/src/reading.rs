@@ -7,6 +7,7 @@ use model::image::Row;
 use model::operators::trap;
 use model::program::*;
 use model::types::SET;
+use model::words::counted;
 
 /// What traps.
 #[derive(Clone, Debug, PartialEq, Eq)]
@@ -85,27 +86,34 @@ fn trapped<T>(trap: u32, node: Option<usize>, because: String) -> Answer<T> {
     Err(Stop::Trap { trap, node, because })
 }
 
+/// Whether a list has more than was read or written of it.
+fn some_left(done: u64, all: usize, trap: u32, has: impl FnOnce() -> String) -> Answer<()> {
+    if done < all as u64 {
+        return Ok(());
+    }
+    trapped(trap, None, format!("{}, and no more is left", has()))
+}
+
 impl Reader<'_> {
     fn statement(&mut self, row: Row) -> Answer<()> {
         let Before { numbers, .. } = self.before;
-        let (inputs, places) = (self.lent.inputs.len(), self.lent.places);
         match row.kind {
             ASSIGN => self.assign(row.a(), row.b()),
             CALL => self.call(row.a(), row.b()),
             JUMP_IF_FALSE => self.value(row.a()).map(|_| ()),
             READ => {
                 self.find(row.a())?;
-                if numbers.read as usize == inputs {
-                    return trapped(trap::INPUT_USED_UP, None, format!("all inputs are read: there are {inputs}"));
-                }
-                Ok(())
+                let inputs = self.lent.inputs.len();
+                some_left(numbers.read, inputs, trap::INPUT_USED_UP, || {
+                    format!("the input has {}", counted(inputs, "number"))
+                })
             }
             WRITE => {
                 self.value(row.a())?;
-                if numbers.written as usize == places {
-                    return trapped(trap::OUTPUT_FULL, None, format!("all output places are full: there are {places}"));
-                }
-                Ok(())
+                let places = self.lent.places;
+                some_left(numbers.written, places, trap::OUTPUT_FULL, || {
+                    format!("the output has {}", counted(places, "place"))
+                })
             }
             HALT => {
                 let number = self.value(row.a())?;

@@ -6,7 +6,7 @@ use model::program::{ASSIGN, JUMP_IF_FALSE, READ, RETURN, VAR_PARAMETER};
 use model::words::counted;
 
 /// How wide a line of a step is at most; a longer statement is cut.
-const WIDTH: usize = 100;
+pub const WIDTH: usize = 100;
 
 /// What a line that was cut ends with.
 const CUT: &str = " ..";

@@ -96,3 +96,67 @@ fn ask_whole(whole: &State, slices: &State) -> Result<(), Failed> {
         Some(what) => Err(Failed::Differing(format!("one run and its slices: {what}"))),
     }
 }
+
+#[cfg(test)]
+mod tests {
+    use super::*;
+    use crate::options::{wish, Wish};
+    use listing::Names;
+
+    /// Traces a listing's image with a run of it that was changed.
+    fn traced(listing: &str, change: impl Fn(&mut State)) -> (Result<(), Failed>, String) {
+        let tables = listing::read_listing(listing.as_bytes()).expect("a listing").tables;
+        let image = listing::image_of(&tables);
+        let Ok(Wish::Trace(options)) = wish(["a.img", "--cells=9", "--places=1"].map(Into::into).into_iter()) else {
+            panic!("the options are good");
+        };
+        let lent = Lent::new(&image, &options);
+        let mut whole = State::run(&lent, lent.steps);
+        change(&mut whole);
+        let program = model::check(&image).expect("an accepted image");
+        let layout = Layout { tables: &tables, names: &Names::default(), program: &program };
+        let mut out = Vec::new();
+        let done = trace(&layout, &lent, &options, &whole, &mut out);
+        (done, String::from_utf8(out).expect("ASCII"))
+    }
+
+    const SMALLEST: &str = "type 0 = BOOLEAN\ntype 1 = INTEGER\ntype 2 = SET\n\
+                            procedure 0 at 0 parameters 0 locals 0\nstatement 0: RETURN\n";
+
+    fn difference(change: impl Fn(&mut State)) -> String {
+        match traced(SMALLEST, change) {
+            (Err(Failed::Differing(what)), _) => what,
+            (_, text) => panic!("no difference in {text}"),
+        }
+    }
+
+    #[test]
+    fn a_run_and_its_slices_are_compared_in_all_that_they_give() {
+        let (done, text) = traced(SMALLEST, |_| {});
+        assert!(
+            done.is_ok() && text.ends_with("one run of 1 step gives the same numbers, cells and outputs\n"),
+            "{text}"
+        );
+        assert_eq!(difference(|whole| whole.store[8] = 1), "one run and its slices: cell 8 is not the same");
+        assert_eq!(difference(|whole| whole.output[0] = 1), "one run and its slices: output place 0 is not the same");
+        assert!(difference(|whole| whole.numbers.mark = 4).starts_with("one run and its slices: the numbers are "));
+        let longer = difference(|whole| whole.numbers.steps = 2);
+        assert_eq!(longer, "the engine gives refusal 14 after its own step 1");
+    }
+
+    #[test]
+    fn a_reading_that_differs_is_said() {
+        let mut after = State { numbers: Default::default(), store: Vec::new(), output: Vec::new() };
+        let said = |reading: &Reading, after: &State| match ask_reading(reading, after) {
+            Err(Failed::Differing(what)) => what,
+            _ => String::new(),
+        };
+        assert_eq!(said(&Reading::GoesOn, &after), "");
+        let stuck = Reading::Stuck("there is no cell 7".to_string());
+        let told = "step 0, row 0: the engine says no trap; the tracer cannot go on: there is no cell 7";
+        assert_eq!(said(&stuck, &after), told);
+        after.numbers.trap = 5;
+        let told = "step 0, row 0: the engine says trap 5; the tracer finds no expression that traps";
+        assert_eq!(said(&Reading::GoesOn, &after), told);
+    }
+}
