@@ -3,62 +3,74 @@ use crate::engine::{Lent, State};
 use crate::layout::Layout;
 use crate::reading::{Found, Reading};
 use crate::step::WIDTH;
+use door::{Numbers, Outcome};
 use model::words::counted;
 
 /// The most values and calls that are written.
 const SHOWN: usize = 6;
 
-/// Outcome, counts and outputs.
+/// Where the words behind a label begin.
+const LABEL: usize = 14;
+
+/// Outcome, counts and outputs. The reading is that of the last step.
 pub fn lines(layout: &Layout, lent: &Lent, last: &State, reading: &Reading) -> String {
     let numbers = &last.numbers;
     let (row, steps) = (numbers.row as usize, numbers.steps);
     let place = layout.place(row);
-    let mut text = match (numbers.outcome, reading) {
-        (0, _) => {
+    let mut text = match numbers.outcome {
+        0 => {
             let after = counted(steps as usize, "step");
             format!("steps used up after {after}; next is {place}: {}\n", layout.statement(row))
         }
-        (1, _) => format!("finished at {place}, step {steps}\n"),
-        (_, Reading::Traps(found)) if found.trap == numbers.trap => {
-            format!("{}\n{}", trapped(&place, last), why(layout, row, found))
-        }
-        _ => format!("{}\n{}", trapped(&place, last), statement(layout, row)),
+        1 => format!("finished at {place}, step {steps}\n"),
+        _ => format!("trap {} at {place}, step {steps}: {}\n", numbers.trap, trap_words(numbers)),
     };
-    let calls = layout.calls(&last.store, &layout.frames(&last.store, numbers.row, numbers.base));
-    if !calls.is_empty() {
-        text += &format!("  called at   {}\n", first_of(&calls));
+    if let Reading::Traps(found) = reading {
+        text += &why(layout, row, found);
     }
+    let calls = layout.calls(&last.store, &layout.frames(&last.store, numbers.row, numbers.base));
+    text += &labelled("called at", &first_of(&calls));
     let read = format!("{} of {} read", numbers.read, counted(lent.inputs.len(), "input"));
     let written = format!("{} written", counted(numbers.written as usize, "output"));
     text += &format!("{read}, {written}, {} needed\n", counted(numbers.mark as usize, "cell"));
     text + &outputs(&last.output[..numbers.written as usize])
 }
 
-/// The trap in words.
-fn trapped(place: &str, last: &State) -> String {
-    let numbers = &last.numbers;
-    let words = match numbers.report().map(|report| report.outcome) {
-        Ok(door::Outcome::Trapped(trap)) => trap.to_string(),
+fn trap_words(numbers: &Numbers) -> String {
+    match numbers.report().map(|report| report.outcome) {
+        Ok(Outcome::Trapped(trap)) => trap.to_string(),
         _ => String::new(),
-    };
-    format!("trap {} at {place}, step {}: {words}", numbers.trap, numbers.steps)
-}
-
-fn statement(layout: &Layout, row: usize) -> String {
-    format!("  statement   {}\n", layout.statement(row))
+    }
 }
 
 /// The statement, the expression in it that trapped, why, and with which values.
 fn why(layout: &Layout, row: usize, found: &Found) -> String {
-    let mut text = statement(layout, row);
-    if let Some(node) = found.node {
-        text += &format!("  expression  {}\n", layout.node(node));
+    let expression = found.node.map(|node| layout.node(node)).unwrap_or_default();
+    [
+        labelled("statement", &layout.statement(row)),
+        labelled("expression", &expression),
+        labelled("because", &found.because),
+        labelled("with", &first_of(&found.with)),
+    ]
+    .concat()
+}
+
+/// Words behind a label, in as many lines as they need; nothing where there are none.
+fn labelled(label: &str, words: &str) -> String {
+    let mut lines = vec![format!("{:<LABEL$}", format!("  {label}"))];
+    for word in words.split_inclusive(' ') {
+        let line = lines.last().map_or(0, String::len);
+        if line > LABEL && line + word.trim_end().len() > WIDTH {
+            lines.push(" ".repeat(LABEL));
+        }
+        if let Some(line) = lines.last_mut() {
+            *line += word;
+        }
     }
-    text += &format!("  because     {}\n", found.because);
-    if !found.with.is_empty() {
-        text += &format!("  with        {}\n", first_of(&found.with));
+    match words {
+        "" => String::new(),
+        _ => lines.iter().map(|line| format!("{}\n", line.trim_end())).collect(),
     }
-    text
 }
 
 /// The outputs, as far as a line has room.

@@ -146,10 +146,10 @@ enum Change {
 }
 
 /// A line that is not wider than others may be.
-fn cut(line: &str) -> String {
+pub fn cut(line: &str) -> String {
     if line.len() <= WIDTH {
         return line.to_string();
     }
     let kept: String = line.chars().take(WIDTH - CUT.len()).collect();
-    kept + CUT
+    format!("{}{CUT}", kept.trim_end())
 }

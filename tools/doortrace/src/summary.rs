@@ -1,6 +1,7 @@
 //! How many steps were taken of each row and each procedure.
 use crate::layout::Layout;
 use crate::options::Order;
+use crate::step::cut;
 use model::words::counted;
 
 /// The steps of each statement row.
@@ -23,7 +24,8 @@ impl Summary {
             format!("  steps percent   row  procedure and statement, of {}\n", counted(all as usize, "step"));
         for (row, count) in taken(&self.counts, order) {
             let procedure = layout.names.procedure(layout.program.procedure_at(row));
-            text += &format!("{} {row:>5}  {procedure}: {}\n", share(count, all), layout.statement(row));
+            let line = format!("{} {row:>5}  {procedure}: {}", share(count, all), layout.statement(row));
+            text += &(cut(&line) + "\n");
         }
         text += "\n  steps percent  procedure\n";
         for (procedure, count) in taken(&self.procedures(layout), order) {
