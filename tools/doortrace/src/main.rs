@@ -108,8 +108,7 @@ fn ask_rows(options: &Options, statements: usize) -> Result<(), Failed> {
 
 /// The names that a listing gives the rows of its image; none where it is another image's, which is said.
 fn names_in(file: &Path, tables: &Tables, out: &mut impl Write) -> Result<Names, Failed> {
-    let found = listing::read_listing(&read(file)?);
-    let found = found.map_err(|wrong| Failed::Cannot(format!("{}:{}", file.display(), mistake(wrong))))?;
+    let found = listing::read_listing(&read(file)?).map_err(|wrong| mistaken(file, wrong))?;
     if found.tables == *tables {
         return Ok(found.names);
     }
@@ -118,6 +117,6 @@ fn names_in(file: &Path, tables: &Tables, out: &mut impl Write) -> Result<Names,
 }
 
 /// What is wrong with a listing.
-fn mistake((line, message): listing::Wrong) -> String {
-    format!("{line}: {message}")
+fn mistaken(file: &Path, (line, message): listing::Wrong) -> Failed {
+    Failed::Cannot(format!("{}:{line}: {message}", file.display()))
 }
