@@ -81,7 +81,7 @@ def commands():
             (f'{smallest} --summary=steps', 2, 'doortrace: there is no option --summary\n'),
             (f'{smallest} --input none', 2, 'doortrace: none: '),
             (f'{smallest} --names none', 2, 'doortrace: none: '), ('none.img', 2, 'doortrace: none.img: '),
-            (f'{smallest} --names README.md', 2, 'doortrace: README.md:1: '),
+            (f'{smallest} --names README.md', 2, 'doortrace: README.md:1'),
             ('-h', 0, ''), ('--help', 0, ''), (f'--steps 1 {smallest} -5 --cells=3 +4 --rows 0', 0, ''),
             (f'{smallest} --cells 2', 1, ''), (f'{smallest} --steps 0', 5, '')]:
         found, _, wrong = traced(words.split())
