@@ -40,6 +40,11 @@ impl Step<'_> {
         lines.iter().map(|line| cut(line) + "\n").collect()
     }
 
+    /// The kind of the statement.
+    fn kind(&self) -> u8 {
+        self.layout.program.statements[self.before.numbers.row as usize].kind
+    }
+
     /// What was read and written, by the engine's counts.
     fn counts(&self) -> Vec<String> {
         let (before, after) = (&self.before.numbers, &self.after.numbers);
@@ -57,8 +62,7 @@ impl Step<'_> {
     /// The variables that changed, and the parameters of a frame that is new.
     fn changed(&self) -> Vec<String> {
         let mut changes = self.changes_below_top();
-        let kind = self.layout.program.statements[self.before.numbers.row as usize].kind;
-        if changes.is_empty() && self.after.numbers.trap == 0 && [ASSIGN, READ].contains(&kind) {
+        if changes.is_empty() && self.after.numbers.trap == 0 && [ASSIGN, READ].contains(&self.kind()) {
             return vec!["no variable changed".to_string()];
         }
         let mut frames = self.frames.to_vec();
@@ -127,8 +131,7 @@ impl Step<'_> {
     /// Where the engine goes on, where the statement's words do not say it.
     fn gone_to(&self) -> Option<String> {
         let (before, after) = (&self.before.numbers, &self.after.numbers);
-        let kind = self.layout.program.statements[before.row as usize].kind;
-        match kind {
+        match self.kind() {
             _ if after.outcome != 0 => None,
             JUMP_IF_FALSE if after.row != before.row + 1 => Some(format!("goes to row {}", after.row)),
             RETURN => Some(format!("returns to {}", self.layout.place(after.row as usize))),

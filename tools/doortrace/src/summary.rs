@@ -18,6 +18,10 @@ impl Summary {
         self.counts[row] += 1;
     }
 
+    pub fn is_empty(&self) -> bool {
+        self.counts.iter().all(|count| *count == 0)
+    }
+
     pub fn lines(&self, layout: &Layout, order: Order) -> String {
         let all: u64 = self.counts.iter().sum();
         let mut text =

@@ -25,9 +25,21 @@ impl From<std::io::Error> for Failed {
     }
 }
 
-/// Prints the steps that are to be shown, or their summary, and what the run came to. Steps that are not to be shown
-/// are taken in one slice before the others, and in one behind them, up to the last, which is read for its trap. `whole`
-/// is what one run of all steps gave.
+/// A run that is gone through.
+struct Trace<'a, W> {
+    layout: &'a Layout<'a>,
+    lent: &'a Lent<'a>,
+    options: &'a Options,
+    slices: Slices<'a>,
+    /// Of the steps that are to be shown.
+    summary: Summary,
+    /// Of the last step.
+    reading: Reading,
+    out: W,
+}
+
+/// Prints the steps that are to be shown, or their summary, and what the run came to. `whole` is what one run of all
+/// steps gave.
 pub fn trace(
     layout: &Layout,
     lent: &Lent,
@@ -35,43 +47,64 @@ pub fn trace(
     whole: &State,
     out: &mut impl Write,
 ) -> Result<(), Failed> {
-    let last = whole.numbers.steps;
-    let mut slices = Slices::new(lent);
-    let mut summary = Summary::new(layout.program.statements.len());
-    let mut reading = Reading::GoesOn;
-    let mut shown = 0;
-    slices.go_to((options.from - 1).min(last.saturating_sub(1)))?;
-    while slices.now.numbers.steps < last {
-        if slices.now.numbers.steps >= options.to {
-            slices.go_to(last - 1)?;
-        }
-        slices.step()?;
-        let (before, after) = (&slices.before, &slices.now);
-        let (row, step) = (before.numbers.row, after.numbers.steps);
-        let frames = layout.frames(&before.cells, row, before.numbers.base);
-        reading = reading::read(layout, lent, before, &frames);
-        ask_reading(&reading, after)?;
-        if !options.shows(step, row as usize) {
-            continue;
-        }
-        summary.count(row as usize);
-        if options.summary.is_none() {
-            if shown == 0 {
-                writeln!(out, "{HEAD}")?;
+    let summary = Summary::new(layout.program.statements.len());
+    let (slices, reading) = (Slices::new(lent), Reading::GoesOn);
+    let mut trace = Trace { layout, lent, options, slices, summary, reading, out };
+    trace.steps(whole.numbers.steps)?;
+    trace.end(whole)
+}
+
+impl<W: Write> Trace<'_, W> {
+    /// Goes to the last step. Those before and behind the ones that are to be shown are taken in one slice each; but the
+    /// last is always taken by itself, so that its trap can be read.
+    fn steps(&mut self, last: u32) -> Result<(), Failed> {
+        let Options { from, to, .. } = *self.options;
+        self.slices.go_to((from - 1).min(last.saturating_sub(1)))?;
+        while self.slices.now.numbers.steps < last {
+            if self.slices.now.numbers.steps >= to {
+                self.slices.go_to(last - 1)?;
             }
-            let step = Step { layout, before, after, frames: &frames, inputs: lent.inputs, most: options.changes };
-            out.write_all(step.lines().as_bytes())?;
+            self.step()?;
         }
-        shown += 1;
+        Ok(())
     }
-    match options.summary {
-        _ if shown == 0 => writeln!(out, "none of the steps that were asked for was taken")?,
-        Some(order) => out.write_all(summary.lines(layout, order).as_bytes())?,
-        None => {}
+
+    /// Takes a step, reads it, and shows it where it is to be shown.
+    fn step(&mut self) -> Result<(), Failed> {
+        self.slices.step()?;
+        let (before, after) = (&self.slices.before, &self.slices.now);
+        let row = before.numbers.row as usize;
+        let frames = self.layout.frames(&before.cells, before.numbers.row, before.numbers.base);
+        self.reading = reading::read(self.layout, self.lent, before, &frames);
+        ask_reading(&self.reading, after)?;
+        if !self.options.shows(after.numbers.steps, row) {
+            return Ok(());
+        }
+        if self.options.summary.is_none() {
+            if self.summary.is_empty() {
+                writeln!(self.out, "{HEAD}")?;
+            }
+            let (inputs, most) = (self.lent.inputs, self.options.changes);
+            let step = Step { layout: self.layout, before, after, frames: &frames, inputs, most };
+            self.out.write_all(step.lines().as_bytes())?;
+        }
+        self.summary.count(row);
+        Ok(())
     }
-    write!(out, "\n{}", outcome::lines(layout, lent, &slices.now, &reading))?;
-    ask_whole(whole, &slices.now)?;
-    Ok(writeln!(out, "one run of {} gives the same numbers, cells and outputs", counted(last as usize, "step"))?)
+
+    /// The summary, and what the run came to.
+    fn end(&mut self, whole: &State) -> Result<(), Failed> {
+        match self.options.summary {
+            _ if self.summary.is_empty() => writeln!(self.out, "none of the steps that were asked for was taken")?,
+            Some(order) => self.out.write_all(self.summary.lines(self.layout, order).as_bytes())?,
+            None => {}
+        }
+        let last = &self.slices.now;
+        write!(self.out, "\n{}", outcome::lines(self.layout, self.lent, last, &self.reading))?;
+        ask_whole(whole, last)?;
+        let steps = counted(last.numbers.steps as usize, "step");
+        Ok(writeln!(self.out, "one run of {steps} gives the same numbers, cells and outputs")?)
+    }
 }
 
 /// Whether the tracer reads a step's trap, or that there is none, as the engine does.
