@@ -8,6 +8,7 @@ import random
 import re
 import shlex
 import shutil
+import struct
 import subprocess
 import sys
 import tempfile
@@ -115,24 +116,88 @@ def surroundings(room):
         fail('a late step takes more than 10 s')
 
 
+class Globals:
+    """Where the globals of an image lie, read from its bytes, and their cells as a trace says them."""
+
+    def __init__(self, image):
+        self.tables, at = [], 5
+        for _ in range(6):
+            count = int.from_bytes(image[at:at + 2], 'big')
+            self.tables.append([struct.unpack('>BBHHH', image[k:k + 8]) for k in range(at + 2, at + 2 + 8 * count, 8)])
+            at += 2 + 8 * count
+        self.places, self.cells = [], []
+        for kind, _, a, _, _ in self.tables[2]:
+            if kind == 0:
+                self.places.append((len(self.cells), a))
+                self.cells += [0] * self.size(a)
+
+    def fields(self, row):
+        _, _, base, first, count = self.tables[0][row]
+        own = [field[2] for field in self.tables[1][first:first + count]]
+        return (self.fields(base - 1) if base else []) + own
+
+    def size(self, row):
+        kind, _, a, b, _ = self.tables[0][row]
+        return 1 if kind < 3 else b * self.size(a) if kind == 3 else sum(map(self.size, self.fields(row)))
+
+    def put(self, path, value):
+        """Takes a line of the trace; those of parameters and locals have no place here."""
+        variable, *parts = re.findall(r'\d+', path)
+        if int(variable) >= len(self.places):
+            return
+        place, row = self.places[int(variable)]
+        for part in map(int, parts):
+            if self.tables[0][row][0] == 3:
+                row = self.tables[0][row][2]
+                place += part * self.size(row)
+            else:
+                fields = self.fields(row)
+                place += sum(map(self.size, fields[:part]))
+                row = fields[part]
+        self.cells[place] = number_of(value)
+
+
+def number_of(value):
+    """The number of a cell with this value."""
+    if value.startswith('{'):
+        spans = [re.findall(r'\d+', part) for part in value.split(',')]
+        return sum(1 << element for span in spans if span for element in range(int(span[0]), int(span[-1]) + 1))
+    return {'FALSE': 0, 'TRUE': 1}[value] if value in ('FALSE', 'TRUE') else int(value)
+
+
+def rebuilt(image, text, outputs, cells):
+    """Whether the lines of a trace with all its steps come to the stored globals and outputs."""
+    lines = [line.strip() for line in text.splitlines() if line.startswith(' ' * 24)]
+    written = [line.split()[1].rstrip(',') for line in lines if line.startswith('writes ')]
+    if written != outputs[:len(written)]:
+        fail(f'{image}: writes {written}, and the stored outputs are {outputs}')
+    found = Globals(image.read_bytes())
+    for line in lines:
+        if ' := ' in line and ' of ' not in line:
+            found.put(*line.split(' := '))
+    if [str(cell) for cell in found.cells] != cells[:len(found.cells)]:
+        fail(f'{image}: the changes come to {found.cells}, and the stored cells are {cells}')
+
+
 def answers():
-    """For each image of vectors/: its file, doortrace's words, the nine numbers, and the outputs where they are known."""
+    """For each image of vectors/: its file, doortrace's words, the nine numbers; outputs and cells where these are
+    known."""
     for file in sorted(VECTORS.glob('*/expect.txt')):
         lines = file.read_text(encoding='ascii').splitlines()
         names = [k for k, line in enumerate(lines) if line.endswith('.img')] + [len(lines)]
         for k, after in zip(names, names[1:]):
-            yield file.parent / lines[k], [], lines[k + 1].split(), lines[k + 2:after]
+            yield file.parent / lines[k], [], lines[k + 1].split(), lines[k + 2:after], None
     for file in sorted(VECTORS.glob('*/answers.txt')):
         for line in file.read_text(encoding='ascii').splitlines():
             name, *numbers = line.split()
-            yield file.parent / name, [], numbers, None
+            yield file.parent / name, [], numbers, None, None
     for file in sorted(VECTORS.glob('*/runs.txt')):
         for line in file.read_text(encoding='ascii').splitlines():
             if not line.startswith('#'):
-                lent, inputs, numbers, outputs, _ = (part.split() for part in line.split('|'))
-                name, cells, _, places, steps = lent
-                words = ['--cells', cells, '--places', places, '--steps', steps, *inputs]
-                yield file.parent / name, words, numbers, outputs
+                lent, inputs, numbers, outputs, cells = (part.split() for part in line.split('|'))
+                name, lent_cells, _, places, steps = lent
+                words = ['--cells', lent_cells, '--places', places, '--steps', steps, *inputs]
+                yield file.parent / name, words, numbers, outputs, cells
 
 
 def ends(text):
@@ -164,15 +229,16 @@ def is_whole(image, status, text, wrong):
 
 
 def vectors(room):
-    """Every image of vectors/ with what the answers are about; how many, and the traps."""
-    traps, seen = set(), set()
-    for image, words, numbers, outputs in answers():
+    """Every image of vectors/ with what the answers are about; how many, and how many were rebuilt from their steps."""
+    traps, seen, whole = set(), set(), 0
+    for image, words, numbers, outputs, cells in answers():
         seen.add(image)
         name = image
         if not words and image.stat().st_size > TAKEN:
             name = room / image.name
             name.write_bytes(image.read_bytes()[:TAKEN])
-        status, text, wrong = traced([*words[:6], '--to', str(SLICED), name, *words[6:]])
+        shown = ['--to', str(SLICED), '--changes', '4096']
+        status, text, wrong = traced([*words[:6], *shown, name, *words[6:]])
         if numbers[0] != '0':
             row = rf', [a-z]+ row {numbers[1]}' if 4 <= int(numbers[0]) <= 11 else ''
             if status != 1 or not re.search(rf'\.img: refusal {numbers[0]}{row}: ', text):
@@ -186,11 +252,14 @@ def vectors(room):
             if shown != outputs[:len(shown)]:
                 fail(f'{image}: outputs {shown}, and the stored ones are {outputs}')
         traps.add(found and found[1])
+        if found and cells and int(found[4]) <= SLICED:
+            rebuilt(image, text, outputs, cells)
+            whole += 1
     if seen != set(VECTORS.glob('*/*.img')):
         fail('vectors/ has images without an answer')
     if traps != {str(trap) for trap in range(11)}:
         fail(f'vectors/ comes to the traps {traps}')
-    return len(seen)
+    return len(seen), whole
 
 
 def random_images(room):
@@ -220,10 +289,10 @@ def main():
     with tempfile.TemporaryDirectory() as name:
         room = pathlib.Path(name)
         surroundings(room)
-        images = vectors(room)
+        images, whole = vectors(room)
         made, trapped = random_images(room)
-    print(f'trace: {outputs} stored outputs; {images} images of vectors/; {made} random images, of these {trapped} '
-          f'trap; {len(FAILURES)} failures')
+    print(f'trace: {outputs} stored outputs; {images} images of vectors/, {whole} of them rebuilt from their steps; '
+          f'{made} random images, of these {trapped} trap; {len(FAILURES)} failures')
     return 1 if FAILURES else 0
 
 

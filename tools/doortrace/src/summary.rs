@@ -4,26 +4,28 @@ use crate::options::Order;
 use crate::step::cut;
 use model::words::counted;
 
-/// The steps of each statement row.
+/// The steps of each statement row, and of all.
 pub struct Summary {
     counts: Vec<u64>,
+    all: u64,
 }
 
 impl Summary {
     pub fn new(rows: usize) -> Summary {
-        Summary { counts: vec![0; rows] }
+        Summary { counts: vec![0; rows], all: 0 }
     }
 
     pub fn count(&mut self, row: usize) {
         self.counts[row] += 1;
+        self.all += 1;
     }
 
     pub fn is_empty(&self) -> bool {
-        self.counts.iter().all(|count| *count == 0)
+        self.all == 0
     }
 
     pub fn lines(&self, layout: &Layout, order: Order) -> String {
-        let all: u64 = self.counts.iter().sum();
+        let all = self.all;
         let mut text =
             format!("  steps percent   row  procedure and statement, of {}\n", counted(all as usize, "step"));
         for (row, count) in taken(&self.counts, order) {
