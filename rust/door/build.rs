@@ -1,5 +1,20 @@
-//! Tells the linker where libdoor.a is: the file that DOOR_LIBRARY names, or what `rt staticlib door` wrote.
+//! Tells the linker where the target's libdoor.a is: where the environment says, or the first place that has one.
+use std::env;
 use std::path::{Path, PathBuf};
+
+/// Rust's targets, how they begin and end, and the name of each in a folder of libraries.
+const TARGETS: [(&str, &str, &str); 6] = [
+    ("x86_64-unknown-linux-", "", "x86_64-linux"),
+    ("aarch64-unknown-linux-", "", "aarch64-linux"),
+    ("armv7-unknown-linux-", "hf", "armv7-linux"),
+    ("thumbv7em-none-eabi", "eabi", "cortex-m4"),
+    ("riscv64gc-unknown-linux-", "", "riscv64-linux"),
+    ("riscv32imac-unknown-none-elf", "", "riscv32"),
+];
+
+const HELP: &str = "\
+In the repository `rt staticlib door` builds it for x86-64 Linux, and `tools/targets` for the other targets. Or set
+DOOR_LIBRARY to the file, or DOOR_LIBRARIES to a folder of NAME/libdoor.a.";
 
 fn main() {
     if let Err(message) = link() {
@@ -9,31 +24,44 @@ fn main() {
 }
 
 fn link() -> Result<(), String> {
-    let target = ["CARGO_CFG_TARGET_ARCH", "CARGO_CFG_TARGET_OS"].map(|part| std::env::var(part).unwrap_or_default());
-    if target != ["x86_64", "linux"] {
-        return Err(format!("libdoor.a is for x86_64 linux, not for {}", target.join(" ")));
-    }
-    let library = library()?;
+    let places = places()?;
+    let library = places.iter().find(|place| place.is_file()).ok_or_else(|| not_there(&places))?;
+    println!("cargo:rerun-if-changed={}", library.display());
     // The linker finds a library by its folder and name, whatever the file is called.
-    let folder = PathBuf::from(std::env::var_os("OUT_DIR").expect("cargo sets OUT_DIR"));
-    std::fs::copy(&library, folder.join("libdoor.a")).map_err(|error| format!("{}: {error}", library.display()))?;
+    let folder = PathBuf::from(env::var_os("OUT_DIR").expect("cargo sets OUT_DIR"));
+    std::fs::copy(library, folder.join("libdoor.a")).map_err(|error| format!("{}: {error}", library.display()))?;
     println!("cargo:rustc-link-search=native={}", folder.display());
     println!("cargo:rustc-link-lib=static=door");
     Ok(())
 }
 
-fn library() -> Result<PathBuf, String> {
-    println!("cargo:rerun-if-env-changed=DOOR_LIBRARY");
+/// Where the library may be, in the order in which it is looked for. What the environment names is the only place.
+fn places() -> Result<Vec<PathBuf>, String> {
     let top = Path::new(env!("CARGO_MANIFEST_DIR")).ancestors().nth(2).expect("rust/door is two folders down");
-    let named = std::env::var_os("DOOR_LIBRARY").filter(|named| !named.is_empty());
-    let library = top.join(named.as_deref().unwrap_or("target/staticlib/libdoor.a".as_ref()));
-    println!("cargo:rerun-if-changed={}", library.display());
-    if library.is_file() {
-        return Ok(library);
+    if let Some(file) = named("DOOR_LIBRARY") {
+        return Ok(vec![top.join(file)]);
     }
-    let (file, top) = (library.display(), top.display());
-    Err(match named {
-        Some(_) => format!("DOOR_LIBRARY: {file} is no file (a relative name counts from {top})"),
-        None => format!("there is no {file}: run `rt staticlib door` in {top}, or set DOOR_LIBRARY to a libdoor.a"),
-    })
+    let name = name()?;
+    if let Some(folder) = named("DOOR_LIBRARIES") {
+        return Ok(vec![top.join(folder).join(name).join("libdoor.a")]);
+    }
+    let built = if name == "x86_64-linux" { "staticlib".to_string() } else { format!("targets/{name}") };
+    Ok(vec![top.join(format!("lib/{name}/libdoor.a")), top.join(format!("target/{built}/libdoor.a"))])
+}
+
+fn named(variable: &str) -> Option<PathBuf> {
+    println!("cargo:rerun-if-env-changed={variable}");
+    env::var_os(variable).filter(|path| !path.is_empty()).map(PathBuf::from)
+}
+
+fn name() -> Result<&'static str, String> {
+    let target = env::var("TARGET").expect("cargo sets TARGET");
+    let found = TARGETS.iter().find(|(first, last, _)| target.starts_with(first) && target.ends_with(last));
+    let unknown = || format!("there is no name for the library of {target}: set DOOR_LIBRARY to its libdoor.a");
+    found.map(|(_, _, name)| *name).ok_or_else(unknown)
+}
+
+fn not_there(places: &[PathBuf]) -> String {
+    let places: Vec<String> = places.iter().map(|place| format!("    {}\n", place.display())).collect();
+    format!("there is no libdoor.a; looked for\n{}{}", places.concat(), HELP)
 }
