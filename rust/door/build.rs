@@ -7,13 +7,13 @@ const TARGETS: [(&str, &str, &str); 6] = [
     ("x86_64-unknown-linux-", "", "x86_64-linux"),
     ("aarch64-unknown-linux-", "", "aarch64-linux"),
     ("armv7-unknown-linux-", "hf", "armv7-linux"),
-    ("thumbv7em-none-eabi", "eabi", "cortex-m4"),
     ("riscv64gc-unknown-linux-", "", "riscv64-linux"),
+    ("thumbv7em-none-eabi", "eabi", "cortex-m4"),
     ("riscv32imac-unknown-none-elf", "", "riscv32"),
 ];
 
 const HELP: &str = "\
-In the repository `rt staticlib door` builds it for x86-64 Linux, and `tools/targets` for the other targets. Or set
+In the repository `rt staticlib door` builds it for x86-64 Linux, and `bash tools/targets` for the other targets. Or set
 DOOR_LIBRARY to the file, or DOOR_LIBRARIES to a folder of NAME/libdoor.a.";
 
 fn main() {
