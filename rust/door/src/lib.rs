@@ -327,8 +327,15 @@ impl Trap {
         }
     }
 
-    /// The trap of document 01's number, with HALT's where it is that.
-    fn of(number: u32, halt: i32) -> Option<Trap> {
+    /// The trap of document 01's number, with HALT's where it is that; `None` where there is none of this number.
+    ///
+    /// ```
+    /// use door::Trap;
+    ///
+    /// assert_eq!(Trap::from_number(5, 0), Some(Trap::Divisor));
+    /// assert_eq!(Trap::from_number(10, 3), Some(Trap::Halt(3)));
+    /// ```
+    pub fn from_number(number: u32, halt: i32) -> Option<Trap> {
         Some(match number {
             1 => Trap::Index,
             2 => Trap::Guard,
@@ -490,7 +497,7 @@ impl Numbers {
         if self.refusal != 0 {
             return Err(refused(self.refusal, self.fault));
         }
-        let outcome = match (self.outcome, Trap::of(self.trap, self.halt)) {
+        let outcome = match (self.outcome, Trap::from_number(self.trap, self.halt)) {
             (0, _) => Outcome::StepsUsedUp,
             (1, _) => Outcome::Finished,
             (2, Some(trap)) => Outcome::Trapped(trap),
