@@ -2,7 +2,7 @@
 use std::env;
 use std::path::{Path, PathBuf};
 
-/// Rust's targets, how they begin and end, and the name of each in a folder of libraries.
+/// How Rust's name of a target begins and ends, and the target's name in a folder of libraries.
 const TARGETS: [(&str, &str, &str); 6] = [
     ("x86_64-unknown-linux-", "", "x86_64-linux"),
     ("aarch64-unknown-linux-", "", "aarch64-linux"),
@@ -24,7 +24,9 @@ fn main() {
 }
 
 fn link() -> Result<(), String> {
-    let places = places()?;
+    let top = Path::new(env!("CARGO_MANIFEST_DIR")).ancestors().nth(2).expect("rust/door is two folders down");
+    let target = env::var("TARGET").expect("cargo sets TARGET");
+    let places = places(top, &target, named("DOOR_LIBRARY"), named("DOOR_LIBRARIES"))?;
     let library = places.iter().find(|place| place.is_file()).ok_or_else(|| not_there(&places))?;
     println!("cargo:rerun-if-changed={}", library.display());
     // The linker finds a library by its folder and name, whatever the file is called.
@@ -35,33 +37,37 @@ fn link() -> Result<(), String> {
     Ok(())
 }
 
-/// Where the library may be, in the order in which it is looked for. What the environment names is the only place.
-fn places() -> Result<Vec<PathBuf>, String> {
-    let top = Path::new(env!("CARGO_MANIFEST_DIR")).ancestors().nth(2).expect("rust/door is two folders down");
-    if let Some(file) = named("DOOR_LIBRARY") {
-        return Ok(vec![top.join(file)]);
-    }
-    let name = name()?;
-    if let Some(folder) = named("DOOR_LIBRARIES") {
-        return Ok(vec![top.join(folder).join(name).join("libdoor.a")]);
-    }
-    let built = if name == "x86_64-linux" { "staticlib".to_string() } else { format!("targets/{name}") };
-    Ok(vec![top.join(format!("lib/{name}/libdoor.a")), top.join(format!("target/{built}/libdoor.a"))])
-}
-
+/// What an environment variable names; nothing where it is empty.
 fn named(variable: &str) -> Option<PathBuf> {
     println!("cargo:rerun-if-env-changed={variable}");
     env::var_os(variable).filter(|path| !path.is_empty()).map(PathBuf::from)
 }
 
-fn name() -> Result<&'static str, String> {
-    let target = env::var("TARGET").expect("cargo sets TARGET");
-    let found = TARGETS.iter().find(|(first, last, _)| target.starts_with(first) && target.ends_with(last));
-    let unknown = || format!("there is no name for the library of {target}: set DOOR_LIBRARY to its libdoor.a");
-    found.map(|(_, _, name)| *name).ok_or_else(unknown)
+/// Where the target's library may be, in the order in which it is looked for. What the environment names, a file or a
+/// folder, is the only place.
+pub fn places(
+    top: &Path,
+    target: &str,
+    file: Option<PathBuf>,
+    folder: Option<PathBuf>,
+) -> Result<Vec<PathBuf>, String> {
+    if let Some(file) = file {
+        return Ok(vec![top.join(file)]);
+    }
+    let name = name(target).ok_or_else(|| format!("no library has a name for {target}: set DOOR_LIBRARY to a file"))?;
+    if let Some(folder) = folder {
+        return Ok(vec![top.join(folder).join(name).join("libdoor.a")]);
+    }
+    let built = if name == "x86_64-linux" { "staticlib".to_string() } else { format!("targets/{name}") };
+    Ok([format!("lib/{name}/libdoor.a"), format!("target/{built}/libdoor.a")].map(|place| top.join(place)).to_vec())
 }
 
-fn not_there(places: &[PathBuf]) -> String {
+fn name(target: &str) -> Option<&'static str> {
+    let found = TARGETS.iter().find(|(first, last, _)| target.starts_with(first) && target.ends_with(last));
+    found.map(|(_, _, name)| *name)
+}
+
+pub fn not_there(places: &[PathBuf]) -> String {
     let places: Vec<String> = places.iter().map(|place| format!("    {}\n", place.display())).collect();
-    format!("there is no libdoor.a; looked for\n{}{}", places.concat(), HELP)
+    format!("there is no libdoor.a; looked for\n{}{HELP}", places.concat())
 }

@@ -24,20 +24,9 @@
 //!
 //! # The library
 //!
-//! `build.rs` links the target's `libdoor.a`. It takes what the environment names: `DOOR_LIBRARY`, the file itself, or
-//! `DOOR_LIBRARIES`, a folder with `NAME/libdoor.a` for each target. Where neither is set it takes the first that is
-//! there of `lib/NAME/libdoor.a`, which a release has, and what the repository builds: `target/staticlib/libdoor.a` by
-//! `rt staticlib door` for x86-64 Linux, `target/targets/NAME/libdoor.a` by `bash tools/targets` for the others.
-//! Relative names count from the folder two above this package, the top of the release or the repository.
-//!
-//! | target of Rust | NAME |
-//! |---|---|
-//! | `x86_64-unknown-linux-*` | `x86_64-linux` |
-//! | `aarch64-unknown-linux-*` | `aarch64-linux` |
-//! | `armv7-unknown-linux-*hf` | `armv7-linux` |
-//! | `riscv64gc-unknown-linux-*` | `riscv64-linux` |
-//! | `thumbv7em-none-eabi` | `cortex-m4` |
-//! | `riscv32imac-unknown-none-elf` | `riscv32` |
+//! `build.rs` links the target's `libdoor.a`: the file that the environment variable `DOOR_LIBRARY` names, or that of a
+//! folder with one for each target, which `DOOR_LIBRARIES` names, or else that of the release or the repository that the
+//! package stands in. The package's `README.md` has the targets, and says where exactly.
 //!
 //! The crate is `no_std`: of Rust it needs `core` alone, and no allocator. The library has no heap and no state. Of other
 //! libraries it needs `memset` alone.

@@ -1,6 +1,6 @@
 //! A program for Linux without std and without an allocator: it checks an image, runs it, and goes on. From
-//! rust/door/examples/bare, or a copy of it in an unpacked release:
-//!     cargo run --offline
+//! examples/bare:
+//!     cargo run --offline --release
 //! It prints nothing, and exits 0 where each answer is as expected, 1 where one is not, and by a signal at a panic.
 #![no_std]
 #![no_main]
