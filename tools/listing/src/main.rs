@@ -1,7 +1,7 @@
 //! listing assemble FILE.lst FILE.img   writes the image of a listing
 //! listing print FILE.img               prints the listing of an image
 //! listing again FILE.img...            prints each image and assembles what is printed; the same bytes must come back
-use listing::{image_of, listing_of, read_listing, tables_of};
+use listing::{image_of, listing_of, read_listing, tables_of, Wrong};
 use std::ffi::OsString;
 use std::path::Path;
 use std::process::ExitCode;
@@ -35,7 +35,10 @@ fn read(file: &Path) -> Result<Vec<u8>, Failed> {
 }
 
 fn assemble(listing: &Path, image: &Path) -> Result<(), Failed> {
-    let wrong = |(line, message)| (1, format!("{}:{line}: {message}", listing.display()));
+    let wrong = |found: Vec<Wrong>| {
+        let lines: Vec<String> = found.iter().map(|wrong| format!("{}:{wrong}", listing.display())).collect();
+        (1, lines.join("\n"))
+    };
     let read = read_listing(&read(listing)?).map_err(wrong)?;
     std::fs::write(image, image_of(&read.tables)).map_err(|error| (2, format!("{}: {error}", image.display())))
 }
@@ -57,8 +60,8 @@ fn again(images: &[&Path]) -> Result<(), Failed> {
                 println!("{}: other bytes come back", image.display());
                 differing += 1;
             }
-            Ok(Err((line, message))) => {
-                println!("{}: line {line} of its listing: {message}", image.display());
+            Ok(Err(wrong)) => {
+                println!("{}: its listing is wrong at {}", image.display(), wrong[0]);
                 differing += 1;
             }
         }

@@ -2,6 +2,7 @@
 use crate::names::Names;
 use crate::VARIABLES;
 use crate::{Row, Tables, FIELDS, KINDS_OF_VARIABLES, NODES, OPERATORS, PROCEDURES, ROWS, SCALARS, STATEMENTS, TYPES};
+use std::fmt;
 
 /// What a listing gives: the tables, and the names of their rows.
 #[derive(Clone, Debug, Default, PartialEq, Eq)]
@@ -10,11 +11,26 @@ pub struct Listing {
     pub names: Names,
 }
 
-/// A line's number and what is wrong with it.
-pub type Wrong = (usize, String);
+/// A mistake in a listing: where it is, lines and characters counted from 1, and what it is.
+#[derive(Clone, Debug, PartialEq, Eq, PartialOrd, Ord)]
+pub struct Wrong {
+    pub line: usize,
+    pub column: usize,
+    pub message: String,
+}
 
-/// What a listing gives, or its first mistake.
-pub fn read_listing(text: &[u8]) -> Result<Listing, Wrong> {
+impl fmt::Display for Wrong {
+    fn fmt(&self, to: &mut fmt::Formatter) -> fmt::Result {
+        write!(to, "{}:{}: {}", self.line, self.column, self.message)
+    }
+}
+
+/// What a listing gives, or its mistakes.
+pub fn read_listing(text: &[u8]) -> Result<Listing, Vec<Wrong>> {
+    read_rows(text).map_err(|(line, message)| vec![Wrong { line, column: 1, message }])
+}
+
+fn read_rows(text: &[u8]) -> Result<Listing, (usize, String)> {
     let mut listing = Listing::default();
     let mut line = Line { symbols: Vec::new(), at: 0 };
     let mut last = 0;
