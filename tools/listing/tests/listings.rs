@@ -36,6 +36,20 @@ fn rows_have_the_names_of_the_listing() {
     assert_eq!(listing.names.variable(1), "i");
 }
 
+/// The indented lines of a document from one of them on.
+fn block<'a>(document: &'a str, first: &'a str) -> String {
+    let from = document.lines().skip_while(|line| *line != first);
+    let lines: Vec<&str> = from.take_while(|line| line.is_empty() || line.starts_with("    ")).collect();
+    lines.join("\n")
+}
+
+#[test]
+fn the_documents_example_by_names_and_by_numbers_is_one_image() {
+    let document = include_str!("../../../docs/LISTING.md");
+    let tables = |first: &str| read_listing(block(document, first).as_bytes()).unwrap().tables;
+    assert_eq!(tables("    type = BOOLEAN"), tables("    type 0 = BOOLEAN"));
+}
+
 /// Numbers that look random, the same in every run (xorshift).
 struct Random(u64);
 
