@@ -130,6 +130,8 @@ impl<'a> Reader<'a> {
         let Some(table) = line.takes_one(&ROWS.map(|(name, _, _)| name)) else {
             self.strange = true;
             self.next = self.next.map(|next| Next { or: Some(next.number + 1), ..next });
+            // A misspelt `procedure` begins one all the same.
+            self.part += line.symbols.iter().any(|symbol| symbol.text == "parameters") as usize;
             return Err(line.expected("type, field, var, procedure, node or statement"));
         };
         self.part += (table == PROCEDURES) as usize;
