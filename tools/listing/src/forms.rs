@@ -1,5 +1,6 @@
 //! The forms of rows: what stands behind a row's number and name.
-use crate::symbols::{Line, Symbol, Wrong};
+use crate::line::Line;
+use crate::symbols::{Symbol, Wrong};
 use crate::VARIABLES;
 use crate::{FIELDS, KINDS_OF_VARIABLES, NODES, OPERATORS, PROCEDURES, SCALARS, STATEMENTS, TYPES};
 

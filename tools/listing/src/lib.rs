@@ -13,6 +13,7 @@
 //! So every image that passes questions 1 to 3 has a listing, whatever the other questions say of it.
 
 mod forms;
+mod line;
 mod names;
 mod print;
 mod read;

@@ -1,8 +1,9 @@
 //! From a listing to rows, in which names still stand for numbers.
 use crate::forms::{read_body, read_numbers, Body, Form, Operand};
+use crate::line::Line;
 use crate::names::Names;
 use crate::resolve::resolve;
-use crate::symbols::{symbols, Line, Symbol, Wrong};
+use crate::symbols::{symbols, Symbol, Wrong};
 use crate::{Tables, FIELDS, PROCEDURES, ROWS, STATEMENTS, TYPES, VARIABLES};
 use std::collections::HashSet;
 
