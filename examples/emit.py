@@ -16,14 +16,23 @@ A type is BOOLEAN, INTEGER, SET or a name. A body is a list of statements, where
     True   -5   {1, 4}   'variable'   ('.', e, field)   ('[]', e, index)   ('guard', variable, type)
     ('is', variable, type)   ('DIV', e, e), and so on for each dyadic operator   ('-', e)   ('~', e)
 
-A name that is not there is a KeyError. The rest is the check's to ask: doordump OUT.img says what it answers."""
+A name that is not there is a KeyError, one that is there twice or a word that is not known a ValueError, and a number
+that does not fit an OverflowError. The rest is the check's to ask: doordump OUT.img says what it answers."""
 import sys
 
 TYPES, FIELDS, VARIABLES, PROCEDURES, NODES, STATEMENTS = range(6)
-SCALARS = {'BOOLEAN': 0, 'INTEGER': 1, 'SET': 2}
-KINDS = {'global': 0, 'local': 1, 'value': 2, 'VAR': 3}
+SCALARS = ['BOOLEAN', 'INTEGER', 'SET']
+KINDS_OF_VARIABLES = ['global', 'local', 'value', 'VAR']
+KINDS_OF_STATEMENTS = ['assign', 'call', 'unless', 'goto', 'return', 'read', 'write', 'halt']
+JUMPS = 'unless', 'goto'
 DYADIC = ['+', '-', '*', 'DIV', 'MOD', '/', '=', '#', '<', '<=', '>', '>=', '&', 'OR', 'IN', '..']
 MONADIC = ['-', '~']
+
+
+def declare(names, name, value):
+    if name in names:
+        raise ValueError(f'{name} is there twice')
+    names[name] = value
 
 
 class Emitter:
@@ -31,7 +40,7 @@ class Emitter:
         self.tables = [[] for _ in range(6)]
         self.shapes, self.types, self.fields = program['types'], {}, {}
         self.procedures = {name: row for row, name in enumerate(program['procedures'])}
-        for scalar, kind in SCALARS.items():
+        for kind, scalar in enumerate(SCALARS):
             self.types[scalar] = self.add(TYPES, kind)
         for name, shape in self.shapes.items():
             self.types[name] = self.array(shape) if shape[0] == 'array' else self.record(name, shape)
@@ -55,12 +64,12 @@ class Emitter:
         first = len(self.tables[FIELDS])
         for field, of in own.items():
             self.add(FIELDS, 0, self.types[of])
-            self.fields[name][field] = len(self.fields[name]), of
+            declare(self.fields[name], field, (len(self.fields[name]), of))
         return self.add(TYPES, 4, self.types[base] + 1 if base else 0, first, len(own))
 
     def variable(self, kind, of):
         """A variable's row and type."""
-        return self.add(VARIABLES, KINDS[kind], self.types[of]), of
+        return self.add(VARIABLES, KINDS_OF_VARIABLES.index(kind), self.types[of]), of
 
     def procedure(self, parameters, own, body):
         first = len(self.tables[STATEMENTS])
@@ -72,24 +81,20 @@ class Emitter:
         for statement in body:
             self.statement(*statement)
         for row in self.tables[STATEMENTS][first:]:
-            if row[0] in (2, 3):  # a jump has its label in place of the statement's row
+            if KINDS_OF_STATEMENTS[row[0]] in JUMPS:  # there the label stands for its row
                 row[2] = self.labels[row[2]]
 
     def statement(self, word, *parts):
         if word == 'label':
-            self.labels[parts[0]] = len(self.tables[STATEMENTS])
-        elif word == 'assign':
-            self.add(STATEMENTS, 0, *[self.node(part) for part in parts])
-        elif word == 'call':
-            self.add(STATEMENTS, 1, self.procedures[parts[0]], self.arguments(parts[1:]))
-        elif word == 'unless':
-            self.add(STATEMENTS, 2, self.node(parts[0]), parts[1])
-        elif word == 'goto':
-            self.add(STATEMENTS, 3, 0, parts[0])
-        elif word == 'return':
-            self.add(STATEMENTS, 4)
+            declare(self.labels, parts[0], len(self.tables[STATEMENTS]))
+            return
+        if word == 'call':
+            numbers = self.procedures[parts[0]], self.arguments(parts[1:])
+        elif word in JUMPS:
+            numbers = self.node(parts[0]) if word == 'unless' else 0, parts[-1]
         else:
-            self.add(STATEMENTS, {'read': 5, 'write': 6, 'halt': 7}[word], self.node(parts[0]))
+            numbers = [self.node(part) for part in parts]
+        self.add(STATEMENTS, KINDS_OF_STATEMENTS.index(word), *numbers)
 
     def arguments(self, parts):
         """What all arguments hold, then the arguments, in consecutive rows; the first of these, or 0 without any."""
@@ -115,10 +120,10 @@ class Emitter:
 
     def constant(self, value):
         if isinstance(value, (set, frozenset)):
-            of, bits = 'SET', sum(1 << element for element in value)
+            of, bits = 'SET', sum(1 << element for element in value).to_bytes(4, 'big')
         else:
-            of, bits = 'BOOLEAN' if isinstance(value, bool) else 'INTEGER', value % 2**32
-        return self.add(NODES, 0, SCALARS[of], bits >> 16, bits & 0xffff)
+            of, bits = 'BOOLEAN' if isinstance(value, bool) else 'INTEGER', value.to_bytes(4, 'big', signed=True)
+        return self.add(NODES, 0, SCALARS.index(of), int.from_bytes(bits[:2], 'big'), int.from_bytes(bits[2:], 'big'))
 
     def type_of(self, e):
         """The type of a designator."""

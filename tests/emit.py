@@ -88,21 +88,47 @@ SMALL_TABLES = [
     [[0, 4, 6, 0], [0, 7, 11, 0], [1, 1, 0, 0], [7, 12, 0, 0], [4, 0, 0, 0]],
 ]
 
+# Bodies of a module with a SET s, and what each must raise; the first is good.
+BODIES = [
+    ([('write', -2**31), ('write', 2**31 - 1), ('return',)], None),
+    ([('write', 2**31)], OverflowError),
+    ([('assign', 's', {32})], OverflowError),
+    ([('write', 'x')], KeyError),
+    ([('goto', 'end')], KeyError),
+    ([('call', 'Nobody')], KeyError),
+    ([('label', 'end'), ('label', 'end'), ('return',)], ValueError),
+    ([('write', ('AND', True, True))], ValueError),
+]
+
+
+def raised(program):
+    """What the emitter raises, if it does."""
+    try:
+        emit.image_of(program)
+    except Exception as error:
+        return type(error)
+    return None
+
 
 def main():
     if sys.argv[1:] != ['--check']:
         sys.exit('usage: emit.py --check')
-    same = emit.image_of(MEMBERS) == (TOP / 'vectors/input/members-1.img').read_bytes()
-    if not same:
-        print('emit: the program of examples/door/members.lst has another image')
-    tables = emit.Emitter(SMALL).tables
-    for wanted, found in zip(SMALL_TABLES, tables):
+    wrong = []
+    if emit.image_of(MEMBERS) != (TOP / 'vectors/input/members-1.img').read_bytes():
+        wrong.append('the program of examples/door/members.lst has another image')
+    for wanted, found in zip(SMALL_TABLES, emit.Emitter(SMALL).tables):
         if wanted != found:
-            print(f'emit: expected the rows {wanted}, not {found}')
-    if not same or tables != SMALL_TABLES:
-        sys.exit(1)
-    print('emit: 2 programs')
+            wrong.append(f'expected the rows {wanted}, not {found}')
+    twice = {'types': {'A': ('record', None, {'x': 'SET'}), 'B': ('record', 'A', {'x': 'SET'})}, 'globals': {},
+             'procedures': {}}
+    programs = [({'types': {}, 'globals': {'s': 'SET'}, 'procedures': {'P': ({}, {}, body)}}, error)
+                for body, error in BODIES]
+    for program, error in [*programs, (twice, ValueError)]:
+        if raised(program) != error:
+            wrong.append(f'expected {error}, not {raised(program)}, of {program}')
+    print('\n'.join(f'emit: {line}' for line in wrong) or f'emit: {3 + len(BODIES)} programs')
+    return 1 if wrong else 0
 
 
 if __name__ == '__main__':
-    main()
+    sys.exit(main())
