@@ -12,7 +12,7 @@ fn text_of(name: &str) -> String {
 }
 
 fn tables_of_listing(text: &str) -> Tables {
-    read_listing(text.as_bytes()).unwrap_or_else(|(line, message)| panic!("line {line}: {message}")).tables
+    read_listing(text.as_bytes()).unwrap_or_else(|wrong| panic!("{}", wrong[0])).tables
 }
 
 /// The indented blocks of a document, without the indentation.
