@@ -117,6 +117,7 @@ fn names_in(file: &Path, tables: &Tables, out: &mut impl Write) -> Result<Names,
 }
 
 /// What is wrong with a listing.
-fn mistaken(file: &Path, (line, message): listing::Wrong) -> Failed {
-    Failed::Cannot(format!("{}:{line}: {message}", file.display()))
+fn mistaken(file: &Path, mistakes: Vec<listing::Wrong>) -> Failed {
+    let lines: Vec<String> = mistakes.iter().map(|wrong| format!("{}:{wrong}", file.display())).collect();
+    Failed::Cannot(lines.join("\n"))
 }
