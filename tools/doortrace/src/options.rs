@@ -11,22 +11,24 @@ Runs an image step by step in the proved engine, and prints for each step its nu
 the statement's row, procedure and words; below it what it changed, read and wrote; at the end what the
 run came to and, for a trap, which expression trapped and why. An INPUT is a number, as 1234 or -5.
 
-  --input FILE    more inputs: the numbers in a file, parted by white space
-  --steps N       run at most N steps (100000)
-  --cells N       lend a store of N cells (8192)
-  --places N      lend N output places (4096)
+What the run is given; without the option the number in brackets, which is doorrun's
+  --input FILE      more inputs: the numbers in a file, parted by white space
+  --steps N         at most N steps (100000)
+  --cells N         a store of N cells (8192)
+  --places N        N output places (4096)
 
-  --from N        print no step before step N; steps count from 1
-  --to M          print no step after step M
-  --rows LIST     print only steps of these statement rows, as 7 or 3,7,10-12
-  --changes N     print at most N changed cells of a step (8)
-  --summary       print no step, but how many were taken of each row and procedure, in the order of rows
-  --summary=count the same, the largest count first
-  --names FILE    take the names of types, fields, variables and procedures from the image's listing
-  --help, -h      print this
+What is printed; the run goes on to its end all the same
+  --from N, --to M  only steps N to M, or from N on, or up to M; steps count from 1
+  --rows LIST       only steps of these statement rows, as 7 or 3,7,10-12
+  --changes N       at most N changes of a step (8)
+  --summary         no step, but how many were taken of each row and procedure, in the order of rows
+  --summary=count   the same, the largest count first
+  --names FILE.lst  the names of the image's listing, in place of v5, T4, f2 and p1
+  --help, -h        this
 
-The run goes on to its end or its step limit whatever is printed. In brackets stands what holds without
-the option. The defaults are what doorrun lends; lend what the reader lends to see what it saw.
+  doortrace door.img 1234 19800                  the reader's inputs: what did it do, and why did it trap?
+  doortrace --from 990 --steps 1000 door.img     the steps before the reader's limit of 1000
+  doortrace --summary=count door.img 1234 19800  where does the time go?
 
 Exit status: 0 finished, 1 refused, 2 wrong usage or a file that cannot be read, 3 the engine and the
 tracer differ, 4 trapped, 5 steps used up. docs/TRACE.md explains the lines, docs/REFUSALS.md the traps.
@@ -36,13 +38,13 @@ tracer differ, 4 trapped, 5 steps used up. docs/TRACE.md explains the lines, doc
 const MOST_LENT: u64 = 1 << 24;
 
 /// In which order a summary has its rows.
-#[derive(Clone, Copy, Debug, PartialEq, Eq)]
+#[derive(Clone, Copy, PartialEq, Eq)]
 pub enum Order {
     Row,
     Count,
 }
 
-#[derive(Clone, Debug, PartialEq, Eq)]
+/// What a run is given, and what is printed of it.
 pub struct Options {
     pub file: PathBuf,
     pub inputs: Vec<i32>,
@@ -83,11 +85,8 @@ impl Options {
 
     /// Whether a step is to be shown.
     pub fn shows(&self, step: u32, row: usize) -> bool {
-        (self.from..=self.to).contains(&step) && self.shows_row(row)
-    }
-
-    fn shows_row(&self, row: usize) -> bool {
-        self.rows.is_empty() || self.rows.iter().any(|rows| rows.contains(&row))
+        let of_rows = self.rows.is_empty() || self.rows.iter().any(|rows| rows.contains(&row));
+        (self.from..=self.to).contains(&step) && of_rows
     }
 
     /// An option with its value.
@@ -109,8 +108,7 @@ impl Options {
     }
 }
 
-pub fn wish(words: impl Iterator<Item = OsString>) -> Result<Wish, String> {
-    let mut words = words;
+pub fn wish(mut words: impl Iterator<Item = OsString>) -> Result<Wish, String> {
     let mut options = Options::new();
     let mut has_file = false;
     while let Some(word) = words.next() {
@@ -131,11 +129,13 @@ pub fn wish(words: impl Iterator<Item = OsString>) -> Result<Wish, String> {
             }
         }
     }
-    match () {
-        () if !has_file => Err("no file is named".to_string()),
-        () if options.from > options.to => Err(format!("step {} comes after step {}", options.from, options.to)),
-        () => Ok(Wish::Trace(options)),
+    if !has_file {
+        return Err("no file is named".to_string());
     }
+    if options.from > options.to {
+        return Err(format!("step {} comes after step {}", options.from, options.to));
+    }
+    Ok(Wish::Trace(options))
 }
 
 fn number(option: &str, word: &str, least: u64, most: u64) -> Result<u64, String> {
