@@ -1,6 +1,6 @@
-/* A door reader's main loop: it keeps an image in force, takes a new one only where the check accepts it and the store
- * suits it, and asks the program about each fob. A program gets its steps in slices; between two of them the reader
- * looks at the latch, and may lose its power. Build it from the top of the repository:
+/* A door reader's main loop: it keeps an image in force, takes a new one only where it arrived as it was sent, the
+ * check accepts it and the store suits it, and asks the program about each fob. A program gets its steps in slices;
+ * between two of them the reader looks at the latch, and may lose its power. Build it from the top of the repository:
  *
  *     gcc -std=c11 -O2 -Wall -Wextra -Wpedantic -Werror -I include -o target/firmware examples/firmware.c \
  *         target/staticlib/libdoor.a
@@ -8,7 +8,9 @@
  *
  * Its input is what happens at the door, an event to a line; examples/firmware.transcript has what it says to these.
  *
- *     image FILE     a new image has come; it is checked, and replaces the old one where it is accepted
+ *     image FILE CRC a new image comes, with the CRC-32 that its sender computed, in hexadecimal; it is compared and
+ *                    checked, and replaces the old one where it is accepted
+ *     noise N        in the next transfer the lowest bit of byte N arrives flipped
  *     1234 19800     a fob: the numbers that the program reads, here card and day
  *     between WORDS  what happens between the slices of the next fob, a word before each: 0 or 1, the latch shows this
  *                    from now on; power, the power fails and comes back; fault, the same, and a saved link has changed
@@ -51,6 +53,11 @@ static void look_outside(void); /* what else a reader does between two slices; t
 static uint8_t images[2][IMAGE_BYTES];
 static size_t in_force;        /* which of the two */
 static size_t in_force_length; /* its bytes; 0 before the first image has come */
+
+static struct {
+    size_t length; /* bytes that are kept */
+    uint32_t crc;  /* of all bytes, also of those that are not */
+} arriving;
 
 /* A run, with all that it needs to go on. It is kept from slice to slice, and saved whole where the power may fail; the
  * image in force belongs to it too. */
@@ -147,8 +154,30 @@ static void show_refusal(uint32_t refusal, uint32_t row) {
     show_number(row);
 }
 
-/* Where the next image is to be put, IMAGE_BYTES at most. */
+/* Where the next image is put, IMAGE_BYTES at most. */
 static uint8_t *receive_buffer(void) { return images[1U - in_force]; }
+
+/* The CRC-32 of zlib and Ethernet, after one byte more; of no bytes it is 0. */
+static uint32_t crc_after(uint32_t crc, uint8_t byte) {
+    crc = ~crc ^ byte;
+    for (int bit = 0; bit < 8; bit++) {
+        crc = ((crc & 1U) != 0U) ? ((crc >> 1) ^ 0xEDB88320U) : (crc >> 1);
+    }
+    return ~crc;
+}
+
+static void image_begins(void) {
+    arriving.length = 0;
+    arriving.crc = 0;
+}
+
+static void image_byte(uint8_t byte) {
+    if (arriving.length < IMAGE_BYTES) {
+        receive_buffer()[arriving.length] = byte;
+        arriving.length++;
+    }
+    arriving.crc = crc_after(arriving.crc, byte);
+}
 
 /* Whether the store suits an image that the check accepts: 0, 12 or 13. A run of no steps asks it, and runs nothing;
  * but it clears cells of the store, so that no run may be waiting in it. */
@@ -156,21 +185,38 @@ static uint32_t store_refusal(const uint8_t *image, size_t length) {
     return door_run(image, length, run.input, 0, run.store, lent_cells, run.output, READER_OUTPUTS, 0).refusal;
 }
 
-/* An image of so many bytes has come. Where it is refused, the old one stays in force. */
-static void image_received(size_t length) {
-    const uint32_t answer = door_check(receive_buffer(), length);
+static void show_what_stays(void) {
+    show(in_force_length > 0U ? "; the old image stays\n" : "; there is no image yet\n");
+}
+
+/* The image that has come is checked, and comes into force where it is accepted. */
+static void check_received(void) {
+    const uint32_t answer = door_check(receive_buffer(), arriving.length);
     uint32_t refusal = door_refusal(answer);
     if (refusal == DOOR_ACCEPTED) {
-        refusal = store_refusal(receive_buffer(), length);
+        refusal = store_refusal(receive_buffer(), arriving.length);
     }
     if (refusal == DOOR_ACCEPTED) {
         in_force = 1U - in_force;
-        in_force_length = length;
+        in_force_length = arriving.length;
         show("in force\n");
     } else {
         show("refused: ");
         show_refusal(refusal, door_row(answer));
-        show(in_force_length > 0U ? "; the old image stays\n" : "; there is no image yet\n");
+        show_what_stays();
+    }
+}
+
+/* All bytes have come, and the CRC that the sender computed. The check does not see damage that leaves a program which
+ * keeps the rules, so the CRC is compared before it is asked. A CRC finds damage, not malice: whoever changes the image
+ * on purpose computes another. Where that matters the sender signs the image, and the reader verifies the signature
+ * here, over the same bytes, with a key that it had before. */
+static void image_ends(uint32_t sent_crc) {
+    if (arriving.crc == sent_crc) {
+        check_received();
+    } else {
+        show("refused: damaged on the way, by its CRC");
+        show_what_stays();
     }
 }
 
@@ -381,16 +427,29 @@ static void look_outside(void) {
     between += strspn(between, " ");
 }
 
-/* The image comes from a file. */
-static bool image_event(const char *name) {
-    FILE *file = fopen(name, "rb");
-    size_t length;
+static long noisy = -1; /* the byte of the next transfer that arrives with a flipped bit; none where it is below 0 */
+
+/* The image comes from a file, byte by byte. */
+static bool image_event(const char *words) {
+    char name[256];
+    unsigned int sent_crc;
+    int end = 0;
+    FILE *file;
+    if ((sscanf(words, "%255s %8x%n", name, &sent_crc, &end) != 2) || (words[end] != '\0')) {
+        return false;
+    }
+    file = fopen(name, "rb");
     if (file == NULL) {
         return false;
     }
-    length = fread(receive_buffer(), 1U, IMAGE_BYTES, file);
+    image_begins();
+    for (int byte = fgetc(file); byte != EOF; byte = fgetc(file)) {
+        image_byte((uint8_t)((noisy == 0) ? (byte ^ 1) : byte));
+        noisy--;
+    }
+    noisy = -1;
     (void)fclose(file);
-    image_received(length);
+    image_ends(sent_crc);
     return true;
 }
 
@@ -462,6 +521,11 @@ static bool event(const char *line) {
     }
     if (is_event(line, "cells ") && setting_of(line + 6, READER_CELLS, &number)) {
         lent_cells = (size_t)number;
+        show("set\n");
+        return true;
+    }
+    if (is_event(line, "noise ") && setting_of(line + 6, DOOR_IMAGE_MAX - 1, &number)) {
+        noisy = number;
         show("set\n");
         return true;
     }

@@ -110,10 +110,10 @@ struct door_result {
  * is asked first, and `outcome` only where it is DOOR_ACCEPTED. Where door_check accepted the same bytes, 1 to 11 do not
  * come; with 0 steps a run asks for 12 and 13, and runs nothing.
  *
- * Without a refusal, whatever the outcome, `store` has afterwards the number of every cell, also of those above the
- * last frame, and `output` has what was written in its first `written` places and keeps the others. The step that traps
- * changes no variable and no output; what earlier steps did stays. What the store held before does not matter to the
- * run.
+ * Without a refusal, whatever the outcome, the cells of `store` hold afterwards what the run left in them, also those of
+ * frames that have ended; cells that the run did not reach keep what they held. `output` has what was written in its
+ * first `written` places and keeps the others. The step that traps changes no variable and no output; what earlier steps
+ * did stays. What the store held before does not matter to the run.
  *
  * `mark` is the largest of G + F0 and the tops that calls asked for and found room for, also where an argument then
  * traps; a call with DOOR_TRAP_FRAME does not count. So with 0 steps it is G + F0, and always at least `top` and at

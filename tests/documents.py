@@ -16,6 +16,8 @@ And of two tables:
 - that of the plan's cells, in docs/PLAN.md and above the constants in crates/sizes/src/lib.rt, has each constant with
   its value, and crates/sizes/specs/Cells.antt has the same constants;
 - that between two comments in docs/PROOFS.md is what opened.py finds; --write writes it.
+And of the crates: what a comment has in double quotes stands in a paragraph of document 01 or 02 (docs/spec/), word for
+word up to white space, the signs * and `, and the form of minus and quotes; `..` stands for what is left out.
 Each mistake is a line; the exit status is 1 where there is one."""
 import pathlib
 import re
@@ -36,6 +38,7 @@ MODULE = re.compile(r'`([a-z_]+)/([A-Z]\w*)`(?::((?:(?:,| and)?\s+`[^`\s/]+`)+))
 PLAN, CONSTANTS, PROOFS = TOP / 'docs/PLAN.md', CRATES / 'sizes/src/lib.rt', TOP / 'docs/PROOFS.md'
 CONSTANT = re.compile(r'^(?:pub const )?([A-Z_]+)(?:: usize)? = (\w+)(?: \+ (\d+))?;?$', re.MULTILINE)
 CELL = re.compile(r'^(?:\||//) +(\d+) (?:\| `| )([A-Z_]+)\b', re.MULTILINE)
+COMMENT = re.compile(r'(?:^[ \t]*(?:--|//).*\n?)+', re.MULTILINE)
 BEGIN, END = '<!-- opened by proofs -->\n', '<!-- end -->\n'
 
 
@@ -147,6 +150,35 @@ def write():
     PROOFS.write_text(before + begin + '\n'.join([*opened.table(), end]) + after, encoding='utf-8')
 
 
+def plain(text):
+    """A text without what a quotation need not keep: bold, backticks, the form of minus and of quotes, white space."""
+    return flat(re.sub('[*`]', '', text.replace('\u2212', '-').replace('"', "'")))
+
+
+def paragraphs():
+    return [plain(part) for path in sorted((TOP / 'docs/spec').glob('*.md'))
+            for part in path.read_text(encoding='utf-8').split('\n\n')]
+
+
+def wrong_quotations(text, papers):
+    """What the comments of a source have in double quotes, and no paragraph has."""
+    for block in COMMENT.findall(text):
+        words = flat(' '.join(re.sub(r'^\s*(?:--|//)', '', line) for line in block.splitlines()))
+        if words.count('"') % 2:
+            yield f'a quotation does not end in "{words[:60]}"'
+        for quotation in re.findall('"([^"]+)"', words):
+            pieces = [re.escape(piece.strip()) for piece in plain(quotation).split('..') if piece.strip()]
+            if not any(re.search('.*?'.join(pieces), paper) for paper in papers):
+                yield f'documents 01 and 02 have no "{quotation[:60]}"'
+
+
+def quotations():
+    """The mistakes of the crates' quotations, each behind its file."""
+    papers = paragraphs()
+    for path in sorted(path for ending in ('antt', 'rt') for path in CRATES.rglob(f'*.{ending}')):
+        yield from ((path, wrong) for wrong in wrong_quotations(path.read_text(encoding='utf-8'), papers))
+
+
 def documents():
     inner = [path for folder in ('rust', 'tests', 'tools', 'vectors') for path in (TOP / folder).rglob('README.md')]
     return [TOP / 'README.md', *sorted((TOP / 'docs').glob('*.md')), *sorted(inner)]
@@ -177,6 +209,15 @@ BROKEN_ROWS = [
     (f'{BEGIN}| `sets` | `image`: `rowAt` |\n{END}', []),
     (f'{BEGIN}{END}', ['| `sets` | `image`: `rowAt` |']),
 ]
+# Comments with one mistake each, against a paper of one paragraph.
+PAPER = plain('The **first** "no" decides; the row is `at` \u2212 1, 0 for 1 to 3.')
+BROKEN_QUOTATIONS = [
+    '-- "The first no decides"\n',
+    '// "the row is the\n// lowest"\n',
+    '  -- "the row is .. The first"\n',
+    '-- "The first \'no\' decides\n',
+]
+WHOLE_QUOTATIONS = '-- "The first \'no\' decides; .. at - 1,\n-- 0 for 1 to 3.": laws\nlaw : "no comment"\n'
 # A module of proofs that opens two definitions of a lower crate, and one of its own.
 OPENING = '''
 use Rattle.image.specs.Rows.{rowAt as row, rowsOf}
@@ -195,6 +236,8 @@ def missed():
     yield from (text for text in BROKEN if len(list(mistakes(text))) != 1)
     yield from (text for text, values in BROKEN_CELLS if len(list(wrong_cells(text, values))) != 1)
     yield from (text for text, rows in BROKEN_ROWS if len(list(wrong_rows(text, rows))) != 1)
+    yield from (text for text in BROKEN_QUOTATIONS if len(list(wrong_quotations(text, [PAPER]))) != 1)
+    yield from (WHOLE_QUOTATIONS for wrong in wrong_quotations(WHOLE_QUOTATIONS, [PAPER]))
     if {(found.lower, found.name) for found in opened.openings(OPENING)} != {('image', 'rowAt'), ('image', 'rowsOf')}:
         yield OPENING
 
@@ -209,7 +252,7 @@ def main(arguments):
     found = [f'not found in {text[:60]!r}' for text in missed()]
     for path in documents():
         found += [f'{path.relative_to(TOP)}: {mistake}' for mistake in mistakes(path.read_text(encoding='utf-8'))]
-    found += [f'{path.relative_to(TOP)}: {mistake}' for path, mistake in tables()]
+    found += [f'{path.relative_to(TOP)}: {mistake}' for path, mistake in [*tables(), *quotations()]]
     for mistake in found:
         print(f'documents: {mistake}')
     return 1 if found else 0

@@ -17,7 +17,7 @@ use Rattle.semantics.specs.Running.{resultOf, storeAfter, outputAfter}
 use Rattle.asking.specs.State.{isNumber, soundOf}
 use Rattle.asking.specs.Resuming.{resumed}
 
--- ---- "14, after 13, row 0"
+-- ---- "New numbers, from here on with row 0: 14, after 13"
 
 -- what passes: none of "a refusal, its row, outcome, trap or HALT number is not 0, the state is not sound (each cell
 -- taken as the kind that its place in a frame gives), a count exceeds its lent list, or steps done plus steps lent

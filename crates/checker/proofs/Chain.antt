@@ -1,4 +1,4 @@
--- Laws of "the first no decides".
+-- Laws of "The first 'no' decides".
 use mathlib.Core.Path.{_≡_, refl, sym, _∙_, ap}
 use mathlib.Core.Logic.{⊎-elim}
 use Prim.Native.Nat.{ℕ, zero, suc, _+_, _≤_, _<_}

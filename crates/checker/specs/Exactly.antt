@@ -21,7 +21,7 @@ use Rattle.checker.specs.Check.{typesIn, fieldsIn, variablesIn, procedur
 -- "Questions of the check": whether row r keeps the rule that question q asks. 1 to 3 ask of the whole image, and so
 -- of row 0 alone: "the row is the lowest at fault, 0 for 1 to 3". The row behind the last type says whether every field
 -- is claimed, "(Unclaimed field: row = type count.)", and the row behind the last procedure whether every variable is,
--- "(Unclaimed variable: row = procedure count.)".
+-- "(.. Unclaimed variable: row = procedure count.)".
 unfoldable pub ruleOf : List ℕ → ℕ → ℕ → Bool
 ruleOf image q r =
     let t : List ℕ = typesIn image in
@@ -60,7 +60,7 @@ rowsAsked image q =
 pub record Faultless (image : List ℕ) : Type 0 where
   pub each : (q : ℕ) → 1 ≤ q → q ≤ 11 → (r : ℕ) → r < rowsAsked image q → ruleOf image q r ≡ true
 
--- "The first "no" decides; the row is the lowest at fault, 0 for 1 to 3.": question q is the first with a row at
+-- "The first 'no' decides; the row is the lowest at fault, 0 for 1 to 3.": question q is the first with a row at
 -- fault, and the row is its lowest
 pub record FirstAtFault (image : List ℕ) (q row : ℕ) : Type 0 where
   pub least : 1 ≤ q

@@ -75,7 +75,7 @@ module _ (t f v n : List ℕ) (r : ℕ) where
   unfolding cellOf
   cell-eq = rec-eq UNKNOWN (λ cell k. cellBy t f v cell (rowAt n k .kind) (rowAt n k)) r
 
-  -- "2 field b of a": in record d, if the cell says so, the field begins where the cell says, and has its type
+  -- "2 field b .. of a": in record d, if the cell says so, the field begins where the cell says, and has its type
   pub field-cell : (d : ℕ) → rowAt n r .kind ≡ 2 → d < 255 → recordIn (cellOf t f v n r) ≡ d
       → fieldOf t f d (rowAt n r .b) ≡ Field (offsetIn (cellOf t f v n r)) (typeIn (cellOf t f v n r))
   unfolding cellBy choose

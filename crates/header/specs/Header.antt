@@ -37,8 +37,8 @@ unfoldable pub thenTable : TableAnswer → (Table → TablesAnswer) → TablesAn
 thenTable Unfit next = Amiss
 thenTable (Found t) next = next t
 
--- "Then the six tables follow one another: types (3 to 64), fields (0 to 256), variables (0 to 256), procedures (1 to 64),
--- nodes (0 to 2,048), statements (1 to 1,024)."
+-- "Then the six tables follow one another, ..: types (3 to 64), fields (0 to 256), variables (0 to 256), procedures (1 to
+-- 64), nodes (0 to 2,048), statements (1 to 1,024)."
 -- "3. Are the counts in range, and do the tables fill the image exactly?"
 unfoldable pub tablesOf : List ℕ → TablesAnswer
 tablesOf image =
@@ -89,7 +89,7 @@ unfoldable pub thirdAnswer : TablesAnswer → HeaderAnswer
 thirdAnswer Amiss = No 3
 thirdAnswer (Six t) = Yes t
 
--- "The first "no" decides": the number of the question, or the tables
+-- "The first 'no' decides": the number of the question, or the tables
 unfoldable pub headerOf : List ℕ → HeaderAnswer
 headerOf image = choose (question1 image) (choose (question2 image) (thirdAnswer (tablesOf image)) (No 2)) (No 1)
 

@@ -23,7 +23,7 @@ row kind a b c = kind ∷ 0 ∷ a / 256 ∷ a % 256 ∷ b / 256 ∷ b % 256 ∷ 
 abbrev pub zeros : ℕ → List ℤ
 zeros n = replicate n (pos 0)
 
--- "refusal, row of refusal, outcome, trap, HALT number, statement row, steps, read, written"; then base, top and mark
+-- "refusal, row of refusal, outcome .., trap, HALT number, statement row, steps, read, written"; then base, top and mark
 abbrev pub results : ℕ → ℕ → ℕ → ℕ → ℕ → ℕ → ℕ → ℕ → ℕ → ℕ → ℕ → ℕ → RunResult
 results refusal fault outcome trap halt row steps read written base top mark = record {
   refusal = refusal;

@@ -150,7 +150,7 @@ module _ (g : Program)
       type-low (g .types) (g .fields) (g .variables) (g .nodes)
       (said .types) (ok .scalars) (said .variables) (said .nodes) r x e
 
-  -- "Assign: .. another object's cells": only a designator has a structured type
+  -- "Assign: target, source": a source of a structured type is a designator
   pub structured-designator : (r x : ℕ) → Plain (g .nodes) r
       → typeOf (g .types) (g .fields) (g .variables) (g .nodes) r ≡ Kind x → 3 ≤ x → isDesignator (g .nodes) r ≡ true
   structured-designator r x plain type large =

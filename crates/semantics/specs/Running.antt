@@ -108,7 +108,7 @@ refusal image store =
 
 -- ---- what a call gives back: "a refusal leaves store and output untouched, other results 0"
 
--- "refusal, row of refusal, outcome, trap, HALT number, statement row, steps, read, written", with base, top and mark
+-- "refusal, row of refusal, outcome .., trap, HALT number, statement row, steps, read, written", with base, top, mark
 unfoldable pub numbersOf : {X : Type 0} → Ended X → RunResult
 numbersOf e = record {
   refusal = 0;

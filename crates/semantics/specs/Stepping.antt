@@ -81,7 +81,7 @@ module _ {X : Type 0} where
   onMark s (Number n) next = next n
   onMark s Nothing next = stuck s
 
-  -- "The next row follows", or a jump's
+  -- "the next row follows", or a jump's
   unfoldable pub goTo : State X → ℕ → State X
   goTo s row = record {
     at = record { row = row; base = s .at .base; top = s .at .top; read = s .at .read; written = s .at .written };

@@ -43,9 +43,9 @@ pub data InRange : Value → Type 0 where
   integer : {z : ℤ} → isInteger z ≡ true → InRange (Vs.Int z)
   set : {s : ℕ} → isSet s ≡ true → InRange (Vs.Set s)
 
--- "Traps: 1 index; 2 guard; 3 record target's dynamic type is not its static one; 4 INTEGER overflow;
--- 5 divisor zero; 6 range bound or element of IN outside 0 to 31; 7 frame beyond the store; 8 input used up;
--- 9 output full; 10 HALT."
+-- "Traps: 1 index; 2 guard; 3 record target's dynamic type is not its static one ..; 4 INTEGER overflow;
+-- 5 divisor zero; 6 range bound or element of IN outside 0 to 31; 7 frame beyond the store; 8 input used up ..;
+-- 9 output full ..; 10 HALT."
 unfoldable pub trapNumber : Trap → ℕ
 trapNumber Ts.Index = 1
 trapNumber Ts.Guard = 2
@@ -79,7 +79,7 @@ unfoldable pub setCell : ℤ → Answer
 setCell (pos n) = choose (isSet n) (As.Val (Vs.Set n)) As.Stuck
 setCell (negsuc n) = As.Stuck
 
--- A cell's number as a value of a kind. "Where an operand's cell lacks the needed kind or range, (..) no rule applies:
+-- A cell's number as a value of a kind. "Where an operand's cell lacks the needed kind or range, .., no rule applies:
 -- stuck"
 unfoldable pub cellOf : ℕ → ℤ → Answer
 cellOf kind z =

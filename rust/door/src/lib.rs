@@ -24,31 +24,36 @@
 //!
 //! # The library
 //!
-//! `build.rs` links `libdoor.a`: the file that the environment variable `DOOR_LIBRARY` names (a relative name counts
-//! from the top of the repository), or else `target/staticlib/libdoor.a`, which `rt staticlib door` builds. It is for
-//! x86-64 with the System V calling convention; this crate builds for Linux alone. It has no heap and no state. Of other
-//! libraries it needs `memset` alone, which every Rust program has.
+//! `build.rs` links the target's `libdoor.a`: the file that the environment variable `DOOR_LIBRARY` names, or that of a
+//! folder with one for each target, which `DOOR_LIBRARIES` names, or else that of the release or the repository that the
+//! package stands in. The package's `README.md` has the targets, and says where exactly.
+//!
+//! The crate is `no_std`: of Rust it needs `core` alone, and no allocator. The library has no heap and no state. Of other
+//! libraries it needs `memset` alone.
 //!
 //! # Stack
 //!
 //! [`run`] and [`resume`] need up to [`RUN_STACK`] bytes of stack, for the deepest expression that an image may have;
-//! [`check`] needs [`CHECK_STACK`]. A main thread has that, and so has a thread of `std::thread` with its default of 2 MiB. Give a
-//! smaller thread ([`std::thread::Builder::stack_size`]) `RUN_STACK`, or `CHECK_STACK` where it only checks; 16 KiB for
-//! the thread itself; and what your own frames hold. A local array of [`STORE_MAX`] cells is 512 KiB more, so let a
-//! large store be a `Vec`. Where the stack runs out the process ends, as for every Rust function that calls itself too
-//! deep. The two numbers are measured, not proved.
+//! [`check`] needs [`CHECK_STACK`]. A main thread has that, and so has a thread of `std::thread` with its default of
+//! 2 MiB. Give a smaller thread (`std::thread::Builder::stack_size`) `RUN_STACK`, or `CHECK_STACK` where it only checks;
+//! 16 KiB for the thread itself; and what your own frames hold. A local array of [`STORE_MAX`] cells is 512 KiB more, so
+//! let a large store be a `Vec` or a `static`. Where the stack runs out on a system with guard pages the process ends, as
+//! for every Rust function that calls itself too deep; without them other memory is overwritten. The two numbers are
+//! measured on x86-64, not proved; `docs/FIRMWARE.md` says how to need less.
 //!
 //! # Threads
 //!
 //! All functions may be called from several threads at once. What is lent is borrowed for the call; nothing is kept.
 
+#![no_std]
 #![deny(missing_docs)]
 #![warn(unsafe_op_in_unsafe_fn)]
 
 mod numbers;
 pub use numbers::Numbers;
 
-use std::fmt;
+use core::error::Error;
+use core::fmt;
 
 /// The longest image that is accepted, in bytes. A longer one is refused, with no harm.
 pub const IMAGE_MAX: usize = 29_713;
@@ -74,101 +79,70 @@ pub const RUN_STACK: usize = 483_328;
 /// Why nothing was run: the first question that is answered "no", and the row at fault.
 ///
 /// ```
+/// use door::{Question, Refusal};
+///
 /// let refusal = door::check(b"\x02").unwrap_err();
-/// assert_eq!((refusal.number, refusal.row), (door::Refusal::VERSION, 0));
+/// assert_eq!(refusal, Refusal { question: Question::Version, row: 0 });
 /// assert_eq!(refusal.to_string(), "refusal 1: there is no first byte, or it is not 1");
 /// ```
 ///
-/// Print it with `{}`: what `main` returns is printed with `{:?}`, without the reason.
-#[derive(Clone, Copy, Debug, PartialEq, Eq, Hash)]
+/// `{:?}` prints the same words as `{}`, so that a `main` that returns it says the reason.
+#[derive(Clone, Copy, PartialEq, Eq, Hash)]
 pub struct Refusal {
-    /// The question: 1 to 11 from [`check`], 1 to 13 from [`run`], 1 to 14 from [`resume`]. The constants below name
-    /// them.
-    pub number: u32,
+    /// The question: one of the first 11 from [`check`], of 13 from [`run`], of 14 from [`resume`].
+    pub question: Question,
     /// The lowest row at fault, from 0 on, of the [table](Refusal::table); 0 where there is none. It is the count of
     /// types where no record claims a field, and the count of procedures where no procedure claims a variable.
     pub row: u32,
 }
 
 impl Refusal {
-    /// There is no first byte, or it is not 1.
-    pub const VERSION: u32 = 1;
-    /// Bytes 1 to 4 are missing, or are not the image's length.
-    pub const LENGTH: u32 = 2;
-    /// A count is out of range, or the tables do not fill the image.
-    pub const TABLES: u32 = 3;
-    /// A type row, or an own field of a record, breaks its rule; or no record claims a field.
-    pub const TYPE: u32 = 4;
-    /// A variable row breaks its form.
-    pub const VARIABLE: u32 = 5;
-    /// A procedure row breaks its rule; or no procedure claims a variable.
-    pub const PROCEDURE: u32 = 6;
-    /// A node is not well formed, or names a row that is not there.
-    pub const NODE: u32 = 7;
-    /// A statement is not well formed, or names a row that is not there.
-    pub const STATEMENT: u32 = 8;
-    /// A node is named never, or more than once.
-    pub const NAMES: u32 = 9;
-    /// A node has no type.
-    pub const NODE_TYPE: u32 = 10;
-    /// A statement breaks a type rule, or names another procedure's variable.
-    pub const RULE: u32 = 11;
-    /// The store has more than [`STORE_MAX`] cells.
-    pub const STORE_ABOVE: u32 = 12;
-    /// The store has fewer cells than the globals and the module body's frame.
-    pub const STORE_BELOW: u32 = 13;
-    /// The earlier result or the store cannot be gone on from; [`resume`] says when.
-    pub const STATE: u32 = 14;
-
-    /// What is wrong, in a few words.
+    /// What a reader shows as one number, refusal × 65,536 + row, as [`check_number`] gives it. `None` where it is no
+    /// refusal: 0, which is acceptance, or one whose question this crate does not know.
     ///
     /// ```
-    /// let refusal = door::Refusal { number: 9, row: 23 };
-    /// assert_eq!(refusal.reason(), "a node is named never, or more than once");
+    /// use door::{Question, Refusal};
+    ///
+    /// let refusal = Refusal { question: Question::NodeType, row: 57 };
+    /// assert_eq!(Refusal::from_answer(655_417), Some(refusal));
+    /// assert_eq!(refusal.to_string(), "refusal 10, node row 57: a node has no type");
+    /// assert_eq!(Refusal::from_answer(0), None);
     /// ```
-    pub fn reason(&self) -> &'static str {
-        match self.number {
-            Refusal::VERSION => "there is no first byte, or it is not 1",
-            Refusal::LENGTH => "bytes 1 to 4 are missing, or are not the image's length",
-            Refusal::TABLES => "a count is out of range, or the tables do not fill the image",
-            Refusal::TYPE => "a type row, or an own field of a record, breaks its rule",
-            Refusal::VARIABLE => "a variable row breaks its form",
-            Refusal::PROCEDURE => "a procedure row breaks its rule",
-            Refusal::NODE => "a node is not well formed, or names a row that is not there",
-            Refusal::STATEMENT => "a statement is not well formed, or names a row that is not there",
-            Refusal::NAMES => "a node is named never, or more than once",
-            Refusal::NODE_TYPE => "a node has no type",
-            Refusal::RULE => "a statement breaks a type rule, or names another procedure's variable",
-            Refusal::STORE_ABOVE => "the store has more than 65,536 cells",
-            Refusal::STORE_BELOW => "the store has fewer cells than the globals and the module body's frame",
-            Refusal::STATE => "the earlier result or the store cannot be gone on from",
-            _ => "no question has this number",
-        }
+    pub fn from_answer(answer: u32) -> Option<Refusal> {
+        let (number, row) = parts(answer);
+        Refusal::from_numbers(number, row)
     }
 
-    /// The table of the row at fault, where the question is about rows: "type", "variable", "procedure", "node" or
-    /// "statement".
+    /// The same where a reader shows two numbers, refusal and row.
     ///
     /// ```
-    /// let refusal = door::Refusal { number: 9, row: 23 };
-    /// assert_eq!(refusal.table(), Some("node"));
-    /// assert_eq!(refusal.to_string(), "refusal 9, node row 23: a node is named never, or more than once");
+    /// use door::Refusal;
+    ///
+    /// assert_eq!(Refusal::from_numbers(10, 57), Refusal::from_answer(655_417));
     /// ```
+    pub fn from_numbers(number: u32, row: u32) -> Option<Refusal> {
+        Question::from_number(number).map(|question| Refusal { question, row })
+    }
+
+    /// The question's number, as a reader shows it.
+    pub fn number(&self) -> u32 {
+        self.question.number()
+    }
+
+    /// What is wrong, in a few words: [`Question::reason`].
+    pub fn reason(&self) -> &'static str {
+        self.question.reason()
+    }
+
+    /// The table of the row at fault, where the question is about rows: [`Question::table`].
     pub fn table(&self) -> Option<&'static str> {
-        match self.number {
-            Refusal::TYPE => Some("type"),
-            Refusal::VARIABLE => Some("variable"),
-            Refusal::PROCEDURE => Some("procedure"),
-            Refusal::NODE | Refusal::NAMES | Refusal::NODE_TYPE => Some("node"),
-            Refusal::STATEMENT | Refusal::RULE => Some("statement"),
-            _ => None,
-        }
+        self.question.table()
     }
 }
 
 impl fmt::Display for Refusal {
     fn fmt(&self, f: &mut fmt::Formatter<'_>) -> fmt::Result {
-        write!(f, "refusal {}", self.number)?;
+        write!(f, "refusal {}", self.number())?;
         if let Some(table) = self.table() {
             write!(f, ", {table} row {}", self.row)?;
         }
@@ -176,7 +150,118 @@ impl fmt::Display for Refusal {
     }
 }
 
-impl std::error::Error for Refusal {}
+impl Error for Refusal {}
+
+/// The questions that are asked before a program runs, in their order. A later engine may ask more.
+///
+/// ```
+/// use door::Question;
+///
+/// assert_eq!(Question::Names.number(), 9);
+/// assert_eq!(Question::Names.reason(), "a node is named never, or more than once");
+/// assert_eq!(Question::Names.table(), Some("node"));
+/// ```
+#[derive(Clone, Copy, Debug, PartialEq, Eq, PartialOrd, Ord, Hash)]
+#[non_exhaustive]
+pub enum Question {
+    /// There is no first byte, or it is not 1.
+    Version = 1,
+    /// Bytes 1 to 4 are missing, or are not the image's length.
+    Length,
+    /// A count is out of range, or the tables do not fill the image.
+    Tables,
+    /// A type row, or an own field of a record, breaks its rule; or no record claims a field.
+    Type,
+    /// A variable row breaks its form.
+    Variable,
+    /// A procedure row breaks its rule; or no procedure claims a variable.
+    Procedure,
+    /// A node is not well formed, or names a row that is not there.
+    Node,
+    /// A statement is not well formed, or names a row that is not there.
+    Statement,
+    /// A node is named never, or more than once.
+    Names,
+    /// A node has no type.
+    NodeType,
+    /// A statement breaks a type rule, or names another procedure's variable.
+    Rule,
+    /// The store has more than [`STORE_MAX`] cells.
+    StoreAbove,
+    /// The store has fewer cells than the globals and the module body's frame.
+    StoreBelow,
+    /// The earlier result or the store cannot be gone on from; [`resume`] says when.
+    State,
+}
+
+impl Question {
+    /// All of them, from number 1 on.
+    const ALL: [Question; 14] = [
+        Question::Version,
+        Question::Length,
+        Question::Tables,
+        Question::Type,
+        Question::Variable,
+        Question::Procedure,
+        Question::Node,
+        Question::Statement,
+        Question::Names,
+        Question::NodeType,
+        Question::Rule,
+        Question::StoreAbove,
+        Question::StoreBelow,
+        Question::State,
+    ];
+
+    /// Document 01's and 02's number, which is the refusal's: from 1 on.
+    pub fn number(&self) -> u32 {
+        *self as u32
+    }
+
+    /// The question of this number, where there is one.
+    ///
+    /// ```
+    /// use door::Question;
+    ///
+    /// assert_eq!(Question::from_number(14), Some(Question::State));
+    /// assert_eq!(Question::from_number(0), None);
+    /// ```
+    pub fn from_number(number: u32) -> Option<Question> {
+        Question::ALL.into_iter().find(|question| question.number() == number)
+    }
+
+    /// What is wrong where it is answered "no", in a few words.
+    pub fn reason(&self) -> &'static str {
+        match self {
+            Question::Version => "there is no first byte, or it is not 1",
+            Question::Length => "bytes 1 to 4 are missing, or are not the image's length",
+            Question::Tables => "a count is out of range, or the tables do not fill the image",
+            Question::Type => "a type row, or an own field of a record, breaks its rule",
+            Question::Variable => "a variable row breaks its form",
+            Question::Procedure => "a procedure row breaks its rule",
+            Question::Node => "a node is not well formed, or names a row that is not there",
+            Question::Statement => "a statement is not well formed, or names a row that is not there",
+            Question::Names => "a node is named never, or more than once",
+            Question::NodeType => "a node has no type",
+            Question::Rule => "a statement breaks a type rule, or names another procedure's variable",
+            Question::StoreAbove => "the store has more than 65,536 cells",
+            Question::StoreBelow => "the store has fewer cells than the globals and the module body's frame",
+            Question::State => "the earlier result or the store cannot be gone on from",
+        }
+    }
+
+    /// The table that it asks about, where it is about rows: "type", "variable", "procedure", "node" or "statement".
+    pub fn table(&self) -> Option<&'static str> {
+        match self {
+            Question::Type => Some("type"),
+            Question::Variable => Some("variable"),
+            Question::Procedure => Some("procedure"),
+            Question::Node | Question::Names | Question::NodeType => Some("node"),
+            Question::Statement | Question::Rule => Some("statement"),
+            _ => None,
+        }
+    }
+}
 
 /// Why a statement could not be carried out.
 ///
@@ -187,7 +272,10 @@ impl std::error::Error for Refusal {}
 /// assert_eq!(Trap::Halt(3).to_string(), "HALT(3)");
 /// assert_eq!(Trap::Halt(3).number(), 10);
 /// ```
-#[derive(Clone, Copy, Debug, PartialEq, Eq, Hash)]
+///
+/// A later engine may have more of them.
+#[derive(Clone, Copy, PartialEq, Eq, Hash)]
+#[non_exhaustive]
 pub enum Trap {
     /// An index outside its array.
     Index,
@@ -228,8 +316,15 @@ impl Trap {
         }
     }
 
-    /// The trap of document 01's number, with HALT's where it is that.
-    fn of(number: u32, halt: i32) -> Option<Trap> {
+    /// The trap of document 01's number, with HALT's where it is that; `None` where there is none of this number.
+    ///
+    /// ```
+    /// use door::Trap;
+    ///
+    /// assert_eq!(Trap::from_number(5, 0), Some(Trap::Divisor));
+    /// assert_eq!(Trap::from_number(10, 3), Some(Trap::Halt(3)));
+    /// ```
+    pub fn from_number(number: u32, halt: i32) -> Option<Trap> {
         Some(match number {
             1 => Trap::Index,
             2 => Trap::Guard,
@@ -263,7 +358,7 @@ impl fmt::Display for Trap {
     }
 }
 
-impl std::error::Error for Trap {}
+impl Error for Trap {}
 
 /// How a run that was not refused ended.
 ///
@@ -273,7 +368,7 @@ impl std::error::Error for Trap {}
 /// assert_eq!(Outcome::Finished.to_string(), "finished");
 /// assert_eq!(Outcome::Trapped(Trap::Divisor).to_string(), "trapped: a divisor that is zero");
 /// ```
-#[derive(Clone, Copy, Debug, PartialEq, Eq, Hash)]
+#[derive(Clone, Copy, PartialEq, Eq, Hash)]
 pub enum Outcome {
     /// The program has not ended yet: [`resume`] goes on.
     StepsUsedUp,
@@ -292,6 +387,19 @@ impl fmt::Display for Outcome {
         }
     }
 }
+
+// `{:?}` says it in the words of `{}`.
+macro_rules! debug_in_words {
+    ($($named:ty),*) => {
+        $(impl fmt::Debug for $named {
+            fn fmt(&self, f: &mut fmt::Formatter<'_>) -> fmt::Result {
+                fmt::Display::fmt(self, f)
+            }
+        })*
+    };
+}
+
+debug_in_words!(Refusal, Trap, Outcome);
 
 /// What a run that was not refused came to. Steps, inputs, outputs and the mark are those from the fresh state on, of a
 /// run and all that continue it.
@@ -323,7 +431,7 @@ pub struct Report {
     /// Outputs written: so many of the first output places. The others keep what they held.
     pub written: usize,
     /// The cells that the run needed. A store of so many gives the same report, the same cells and the same output; a
-    /// shorter one is refused by [`Refusal::STORE_BELOW`], or traps with [`Trap::Frame`]. Cells from here on keep what
+    /// shorter one is refused by [`Question::StoreBelow`], or traps with [`Trap::Frame`]. Cells from here on keep what
     /// they held. With another input or more steps the program may need more.
     pub mark: u32,
 }
@@ -370,20 +478,22 @@ impl Numbers {
     ///
     /// # Panics
     ///
-    /// Where there is no refusal, and the outcome is not 0 to 2, or is 2 with a trap that is not 1 to 10.
-    /// [`run_numbers`] and [`resume_numbers`] never give such numbers. All else has a report or a refusal; numbers without a use in it are not
-    /// looked at.
+    /// Where the refusal is neither 0 nor a [`Question`]'s number; or there is none, and the outcome is not 0 to 2, or
+    /// is 2 with a trap that is not 1 to 10, or `read` or `written` is no length of a list. [`run_numbers`] and
+    /// [`resume_numbers`] never give such numbers. All else has a report or a refusal; numbers without a use in it are
+    /// not looked at.
     pub fn report(&self) -> Result<Report, Refusal> {
         if self.refusal != 0 {
-            return Err(Refusal { number: self.refusal, row: self.fault });
+            return Err(refused(self.refusal, self.fault));
         }
-        let outcome = match (self.outcome, Trap::of(self.trap, self.halt)) {
+        let outcome = match (self.outcome, Trap::from_number(self.trap, self.halt)) {
             (0, _) => Outcome::StepsUsedUp,
             (1, _) => Outcome::Finished,
             (2, Some(trap)) => Outcome::Trapped(trap),
             _ => panic!("no run has outcome {} with trap {}", self.outcome, self.trap),
         };
-        let [read, written] = [self.read, self.written].map(|count| count as usize);
+        let length = |count: u64| usize::try_from(count).expect("no list is so long");
+        let [read, written] = [self.read, self.written].map(length);
         let Numbers { row, steps, base, top, mark, .. } = *self;
         Ok(Report { outcome, row, steps, base, top, read, written, mark })
     }
@@ -434,13 +544,27 @@ mod raw {
 /// assert_eq!(door::check(&image), Ok(()));
 ///
 /// image[15] = 2; // type row 1 is not INTEGER any more
-/// assert_eq!(door::check(&image), Err(door::Refusal { number: 4, row: 1 }));
+/// let refusal = door::check(&image).unwrap_err();
+/// assert_eq!((refusal.question, refusal.row), (door::Question::Type, 1));
 /// ```
 pub fn check(image: &[u8]) -> Result<(), Refusal> {
     match check_number(image) {
         0 => Ok(()),
-        answer => Err(Refusal { number: answer / 65_536, row: answer % 65_536 }),
+        answer => {
+            let (number, row) = parts(answer);
+            Err(refused(number, row))
+        }
     }
+}
+
+/// Refusal and row of an answer of the check.
+fn parts(answer: u32) -> (u32, u32) {
+    (answer / 65_536, answer % 65_536)
+}
+
+/// The refusal of these two numbers from the engine.
+fn refused(number: u32, row: u32) -> Refusal {
+    Refusal::from_numbers(number, row).unwrap_or_else(|| panic!("no question has number {number}"))
 }
 
 /// Checks an image, and runs it from the fresh state with at most `steps` steps.
@@ -475,7 +599,7 @@ pub fn check(image: &[u8]) -> Result<(), Refusal> {
 ///
 /// // the store is too small to begin
 /// let refusal = door::run(&image, &[1234, 19800], &mut store[..8], &mut output, 10_000).unwrap_err();
-/// assert_eq!(refusal.number, door::Refusal::STORE_BELOW);
+/// assert_eq!(refusal.question, door::Question::StoreBelow);
 /// # Ok::<(), door::Refusal>(())
 /// ```
 pub fn run(image: &[u8], input: &[i32], store: &mut [i64], output: &mut [i32], steps: u32) -> Result<Report, Refusal> {
@@ -490,7 +614,7 @@ pub fn run(image: &[u8], input: &[i32], store: &mut [i64], output: &mut [i32], s
 /// or shorter as far as what was read, written and needed: `read`, `written` and `mark` of `from`. So a program that
 /// waits for an input gets it by a longer list.
 ///
-/// The image is checked again. Then [`Refusal::STATE`] comes where
+/// The image is checked again. Then [`Question::State`] comes where
 ///
 /// - `from` has finished or trapped;
 /// - its row, `base`, `top` and the store's cells are no state that this image can be in;
@@ -502,7 +626,7 @@ pub fn run(image: &[u8], input: &[i32], store: &mut [i64], output: &mut [i32], s
 /// changed to another such state pass, and the run goes on from there.
 ///
 /// ```
-/// use door::{Outcome, Refusal};
+/// use door::{Outcome, Question, Refusal};
 ///
 /// // it reads card and day, and then the latch again and again until that is 1
 /// let image = std::fs::read("../../examples/latch.img").expect("an image");
@@ -518,7 +642,7 @@ pub fn run(image: &[u8], input: &[i32], store: &mut [i64], output: &mut [i32], s
 ///
 /// // what has finished is not continued
 /// let refusal = door::resume(&image, &input, &mut store, &mut output, 100, &report).unwrap_err();
-/// assert_eq!(refusal.number, Refusal::STATE);
+/// assert_eq!(refusal.question, Question::State);
 /// # Ok::<(), Refusal>(())
 /// ```
 pub fn resume(

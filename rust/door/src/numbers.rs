@@ -1,6 +1,6 @@
 //! What a run returns. The model and the benchmark take this file too, so that they are written down once.
 
-use std::fmt;
+use core::fmt;
 
 /// The nine numbers of a run, where its newest frame begins and ends, and its mark: `struct door_result` of
 /// `include/door.h`.
@@ -46,6 +46,8 @@ impl Numbers {
 /// As `doorrun` prints them: a line, without its end.
 impl fmt::Display for Numbers {
     fn fmt(&self, f: &mut fmt::Formatter<'_>) -> fmt::Result {
-        f.write_str(&self.in_order().map(|number| number.to_string()).join(" "))
+        let [first, others @ ..] = self.in_order();
+        write!(f, "{first}")?;
+        others.iter().try_for_each(|number| write!(f, " {number}"))
     }
 }

@@ -1,6 +1,6 @@
 //! Each refusal, outcome and trap, by an image of vectors/ that gives it. The answers are those of the vectors, which
 //! an independent model or a reader of document 01 gave; marks are worked out by hand, from the images' variables.
-use door::{Numbers, Outcome, Refusal, Report, Trap};
+use door::{Numbers, Outcome, Question, Refusal, Report, Trap};
 
 const CELLS: usize = 8192;
 const PLACES: usize = 4096;
@@ -19,38 +19,59 @@ fn run(name: &str) -> Result<Report, Refusal> {
 #[test]
 fn each_refusal_of_the_check() {
     let refused = [
-        ("doorrun/00013.img", 1, 0, None, "there is no first byte, or it is not 1"),
-        ("doorrun/00015.img", 2, 0, None, "bytes 1 to 4 are missing, or are not the image's length"),
-        ("doorrun/00045.img", 3, 0, None, "a count is out of range, or the tables do not fill the image"),
-        ("doorrun/00031.img", 4, 7, Some("type"), "a type row, or an own field of a record, breaks its rule"),
-        ("doorrun/00011.img", 5, 16, Some("variable"), "a variable row breaks its form"),
-        ("doorrun/00030.img", 6, 1, Some("procedure"), "a procedure row breaks its rule"),
-        ("doorrun/00006.img", 7, 22, Some("node"), "a node is not well formed, or names a row that is not there"),
+        ("doorrun/00013.img", Question::Version, 0, None, "there is no first byte, or it is not 1"),
+        ("doorrun/00015.img", Question::Length, 0, None, "bytes 1 to 4 are missing, or are not the image's length"),
+        (
+            "doorrun/00045.img",
+            Question::Tables,
+            0,
+            None,
+            "a count is out of range, or the tables do not fill the image",
+        ),
+        (
+            "doorrun/00031.img",
+            Question::Type,
+            7,
+            Some("type"),
+            "a type row, or an own field of a record, breaks its rule",
+        ),
+        ("doorrun/00011.img", Question::Variable, 16, Some("variable"), "a variable row breaks its form"),
+        ("doorrun/00030.img", Question::Procedure, 1, Some("procedure"), "a procedure row breaks its rule"),
+        (
+            "doorrun/00006.img",
+            Question::Node,
+            22,
+            Some("node"),
+            "a node is not well formed, or names a row that is not there",
+        ),
         (
             "doorrun/00001.img",
-            8,
+            Question::Statement,
             43,
             Some("statement"),
             "a statement is not well formed, or names a row that is not there",
         ),
-        ("doorrun/00017.img", 9, 23, Some("node"), "a node is named never, or more than once"),
-        ("doorrun/00010.img", 10, 268, Some("node"), "a node has no type"),
+        ("doorrun/00017.img", Question::Names, 23, Some("node"), "a node is named never, or more than once"),
+        ("doorrun/00010.img", Question::NodeType, 268, Some("node"), "a node has no type"),
         (
             "doorrun/00018.img",
-            11,
+            Question::Rule,
             4,
             Some("statement"),
             "a statement breaks a type rule, or names another procedure's variable",
         ),
     ];
-    for (name, number, row, table, reason) in refused {
-        let refusal = Refusal { number, row };
+    for ((name, question, row, table, reason), number) in refused.into_iter().zip(1..) {
+        let refusal = Refusal { question, row };
+        assert_eq!(refusal.number(), number);
         assert_eq!(door::check(&image(name)), Err(refusal), "{name}");
         assert_eq!(door::check_number(&image(name)), number * 65_536 + row, "{name}");
+        assert_eq!(Refusal::from_answer(number * 65_536 + row), Some(refusal));
         assert_eq!(run(name), Err(refusal), "{name}");
         let at = table.map_or(String::new(), |table| format!(", {table} row {row}"));
         assert_eq!(refusal.table(), table);
         assert_eq!(refusal.to_string(), format!("refusal {number}{at}: {reason}"));
+        assert_eq!(format!("{refusal:?}"), refusal.to_string());
     }
     assert_eq!(door::check(&image("special/smallest.img")), Ok(()));
 }
@@ -59,10 +80,10 @@ fn each_refusal_of_the_check() {
 fn each_refusal_of_the_run_alone() {
     let smallest = image("special/smallest.img");
     let lend = |cells| door::run(&smallest, &[], &mut vec![0; cells], &mut [], STEPS);
-    assert_eq!(lend(2), Err(Refusal { number: 13, row: 0 }));
+    assert_eq!(lend(2), Err(Refusal { question: Question::StoreBelow, row: 0 }));
     assert!(lend(3).is_ok());
     assert!(lend(door::STORE_MAX).is_ok());
-    assert_eq!(lend(door::STORE_MAX + 1), Err(Refusal { number: 12, row: 0 }));
+    assert_eq!(lend(door::STORE_MAX + 1), Err(Refusal { question: Question::StoreAbove, row: 0 }));
 }
 
 #[test]
@@ -255,7 +276,7 @@ fn the_mark_is_enough_and_one_less_is_not() {
     let mark = |cells| less(cells).map(|report| (report.outcome, report.mark));
     assert_eq!(mark(33), Ok((Outcome::Trapped(Trap::Frame), 32)));
     assert_eq!(mark(31), Ok((Outcome::Trapped(Trap::Frame), 26)));
-    assert_eq!(mark(25), Err(Refusal { number: 13, row: 0 }));
+    assert_eq!(mark(25), Err(Refusal { question: Question::StoreBelow, row: 0 }));
 }
 
 #[test]
@@ -314,6 +335,26 @@ fn a_report_in_words() {
     assert_eq!(report.to_string(), words);
 }
 
+/// What a `main` prints that returns one: all in a line, with the reason in words; a report has all its fields.
+#[test]
+fn debug_is_in_words() {
+    let printed = |result: Result<(), Box<dyn std::error::Error>>| format!("Error: {:?}", result.unwrap_err());
+    let refusal = Refusal { question: Question::NodeType, row: 57 };
+    assert_eq!(printed(Err(refusal.into())), "Error: refusal 10, node row 57: a node has no type");
+    assert_eq!(printed(Err(Trap::Divisor.into())), "Error: a divisor that is zero");
+    assert_eq!(format!("{:?}", Outcome::Trapped(Trap::Halt(3))), "trapped: HALT(3)");
+    let report = Report { outcome: Outcome::Trapped(Trap::Input), ..OPENED };
+    let words = "Report { outcome: trapped: a read when the input is used up, row: 12, steps: 43, base: 23, top: 26, \
+                 read: 2, written: 1, mark: 34 }";
+    assert_eq!(format!("{report:?}"), words);
+}
+
+#[test]
+#[should_panic(expected = "no question has number 15")]
+fn numbers_with_no_question() {
+    let _ = Numbers { refusal: 15, ..Numbers::default() }.report();
+}
+
 #[test]
 #[should_panic(expected = "no run has outcome 3 with trap 0")]
 fn numbers_with_no_outcome() {
@@ -328,27 +369,48 @@ fn numbers_with_no_trap() {
 
 const HEADER: &str = include_str!("../../../include/door.h");
 
+/// The name, as Rust writes it but in capitals, and the number of each line of the header that begins so.
+fn defined(beginning: &str) -> Vec<(String, u32)> {
+    let lines = HEADER.lines().filter_map(|line| line.strip_prefix("#define ")?.strip_prefix(beginning));
+    let words = lines.map(|line| line.split_whitespace().collect::<Vec<_>>());
+    words.map(|words| (words[0].replace('_', ""), words[1].trim_end_matches('u').parse().expect("a number"))).collect()
+}
+
 #[test]
-fn the_refusals_are_those_of_the_header() {
+fn the_questions_are_those_of_the_header() {
+    let questions = (1..).map_while(Question::from_number);
+    let named = questions.map(|question| (format!("{question:?}").to_uppercase(), question.number()));
+    assert_eq!(named.collect::<Vec<_>>(), defined("DOOR_REFUSED_"));
+}
+
+#[test]
+fn the_traps_are_those_of_the_header() {
     let named = [
-        ("VERSION", Refusal::VERSION),
-        ("LENGTH", Refusal::LENGTH),
-        ("TABLES", Refusal::TABLES),
-        ("TYPE", Refusal::TYPE),
-        ("VARIABLE", Refusal::VARIABLE),
-        ("PROCEDURE", Refusal::PROCEDURE),
-        ("NODE", Refusal::NODE),
-        ("STATEMENT", Refusal::STATEMENT),
-        ("NAMES", Refusal::NAMES),
-        ("NODE_TYPE", Refusal::NODE_TYPE),
-        ("RULE", Refusal::RULE),
-        ("STORE_ABOVE", Refusal::STORE_ABOVE),
-        ("STORE_BELOW", Refusal::STORE_BELOW),
-        ("STATE", Refusal::STATE),
+        ("INDEX", Trap::Index),
+        ("GUARD", Trap::Guard),
+        ("TARGET", Trap::Target),
+        ("OVERFLOW", Trap::Overflow),
+        ("DIVISOR", Trap::Divisor),
+        ("BOUND", Trap::Bound),
+        ("FRAME", Trap::Frame),
+        ("INPUT", Trap::Input),
+        ("OUTPUT", Trap::Output),
+        ("HALT", Trap::Halt(7)),
     ];
-    let refused = HEADER.lines().filter_map(|line| line.strip_prefix("#define DOOR_REFUSED_"));
-    let refused: Vec<String> = refused.map(|line| line.split("u ").next().unwrap_or(line).to_string()).collect();
-    assert_eq!(refused, named.map(|(name, number)| format!("{name} {number}")));
+    let numbered = named.map(|(name, trap)| (name.to_string(), trap.number()));
+    assert_eq!(defined("DOOR_TRAP_")[1..], numbered);
+    for (_, trap) in named {
+        let report = Report { outcome: Outcome::Trapped(trap), ..OPENED };
+        assert_eq!(report.numbers().report(), Ok(report));
+    }
+}
+
+#[test]
+fn a_number_of_no_question() {
+    for answer in [0, 57, 65_535, 15 * 65_536, u32::MAX] {
+        assert_eq!(Refusal::from_answer(answer), None, "{answer}");
+    }
+    assert_eq!(Refusal::from_numbers(0, 0), None);
 }
 
 #[test]

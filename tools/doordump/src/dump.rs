@@ -10,7 +10,7 @@ use model::words::counted;
 use model::Program;
 
 /// How many nodes a statement has in words; those after them are listed by themselves.
-const NODES_IN_WORDS: usize = 200;
+pub const NODES_IN_WORDS: usize = 200;
 
 /// How much of what names a node is shown.
 const NAMES_SHOWN: usize = 8;

@@ -2,47 +2,29 @@
 //! `read_listing` and `listing_of` between the tables and a listing. `Words` puts statements and expressions in the
 //! words of Oberon-2.
 //!
-//! A listing has a line for each row, with the row's number. `--` begins a comment. The rows of one table stand in
-//! order, from 0 on; the tables may be mixed, so that nodes can stand before the statement that names them. In these
-//! lines N is the row's own number, and what stands in lower-case letters is a number of 0 to 65,535:
+//! A listing has a line for each row. `--` begins a comment. The rows of one table stand in order; the tables may be
+//! mixed, so that nodes can stand before the statement that names them. `docs/LISTING.md` says which row each line
+//! gives, and where a name is known. The lines:
 //!
-//!     type N = BOOLEAN                  type N = INTEGER                  type N = SET
-//!     type N = ARRAY length OF TYPE
-//!     type N = RECORD END               type N = RECORD NAME: TYPE; NAME: TYPE END
-//!     type N = RECORD(base) END         type N = RECORD(base) NAME: TYPE; NAME: TYPE END
-//!     field N = TYPE
-//!     var N = global NAME: TYPE         var N = local NAME: TYPE
-//!     var N = value NAME: TYPE          var N = VAR NAME: TYPE
-//!     procedure N at statement parameters count locals count
-//!     node N = BOOLEAN FALSE            node N = BOOLEAN TRUE
-//!     node N = INTEGER -5               node N = SET {0, 3..5}
-//!     node N = variable variable        node N = field number of node     node N = element node at node
-//!     node N = guard variable to type   node N = test variable for type
-//!     node N = node OPERATOR node       node N = - node                   node N = ~ node
-//!     node N = argument node
-//!     statement N: node := node         statement N: READ node            statement N: WRITE node
-//!     statement N: call procedure       statement N: call procedure (arguments from node node)
-//!     statement N: IF NOT node GOTO statement                             statement N: GOTO statement
-//!     statement N: RETURN               statement N: HALT node
-//!
-//! TYPE is BOOLEAN, INTEGER, SET (type rows 0, 1, 2) or a type row's number. OPERATOR is + - * DIV MOD / = # < <= > >=
-//! & OR IN or .. (range). A NAME is a comment. A record's fields become the next field rows; `field` adds one by
-//! itself. A record may go on in the next lines, up to its END. `call` without arguments has 0 for their first node.
-//! A row that no line above gives, say of a kind that does not exist, is written out:
-//!
-//!     type N = row kind zero a b c      (likewise field, var, procedure and node)
-//!     statement N: row kind zero a b c
+//! ```text
+#![doc = include_str!("forms.txt")]
+//! ```
 //!
 //! So every image that passes questions 1 to 3 has a listing, whatever the other questions say of it.
 
+mod forms;
+mod line;
 mod names;
 mod print;
 mod read;
+mod resolve;
+mod symbols;
 mod words;
 
 pub use names::{designated, field_row, fields_before, Names};
 pub use print::{listing_of, row_line, row_text};
-pub use read::{read_listing, Listing, Wrong};
+pub use read::{read_listing, Listing};
+pub use symbols::Wrong;
 pub use words::{children, named, set_words, Words};
 
 /// A row of a table, with the byte that is to be zero.

@@ -52,6 +52,16 @@ impl Names {
         let row = record.and_then(|record| field_row(tables, record, number));
         row.and_then(|row| self.of(FIELDS, row)).map_or_else(|| format!("f{number}"), str::to_string)
     }
+
+    /// The numbers of a record's fields that have that name, the base's fields counted first.
+    pub(crate) fn fields_named(&self, tables: &Tables, record: usize, name: &str) -> Vec<u16> {
+        let mut found = base_of(tables, record).map_or(Vec::new(), |base| self.fields_named(tables, base, name));
+        let (row, before) = (tables[TYPES][record], fields_before(tables, record));
+        let rows = row.b as usize..(row.b as usize + row.c as usize).min(tables[FIELDS].len());
+        let numbers = rows.filter(|field| self.of(FIELDS, *field) == Some(name)).map(|field| field - row.b as usize);
+        found.extend(numbers.filter_map(|own| u16::try_from(before + own).ok()));
+        found
+    }
 }
 
 /// How many fields a record has from its base.

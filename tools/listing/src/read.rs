@@ -1,8 +1,11 @@
-//! From a listing to tables.
+//! From a listing to rows, in which names still stand for numbers.
+use crate::forms::{read_body, read_numbers, Body, Form, Operand};
+use crate::line::Line;
 use crate::names::Names;
-use crate::VARIABLES;
-use crate::{Row, Tables, FIELDS, KINDS_OF_VARIABLES, NODES, OPERATORS, PROCEDURES, ROWS, SCALARS, STATEMENTS, TYPES};
-use std::fmt;
+use crate::resolve::resolve;
+use crate::symbols::{symbols, Symbol, Wrong};
+use crate::{Tables, FIELDS, PROCEDURES, ROWS, STATEMENTS, TYPES, VARIABLES};
+use std::collections::HashSet;
 
 /// What a listing gives: the tables, and the names of their rows.
 #[derive(Clone, Debug, Default, PartialEq, Eq)]
@@ -11,398 +14,214 @@ pub struct Listing {
     pub names: Names,
 }
 
-/// A mistake in a listing: where it is, lines and characters counted from 1, and what it is.
-#[derive(Clone, Debug, PartialEq, Eq, PartialOrd, Ord)]
-pub struct Wrong {
-    pub line: usize,
-    pub column: usize,
-    pub message: String,
-}
-
-impl fmt::Display for Wrong {
-    fn fmt(&self, to: &mut fmt::Formatter) -> fmt::Result {
-        write!(to, "{}:{}: {}", self.line, self.column, self.message)
-    }
-}
-
-/// What a listing gives, or its mistakes.
+/// What a listing gives, or its mistakes, in the order of its lines.
 pub fn read_listing(text: &[u8]) -> Result<Listing, Vec<Wrong>> {
-    read_rows(text).map_err(|(line, message)| vec![Wrong { line, column: 1, message }])
-}
-
-fn read_rows(text: &[u8]) -> Result<Listing, (usize, String)> {
-    let mut listing = Listing::default();
-    let mut line = Line { symbols: Vec::new(), at: 0 };
-    let mut last = 0;
+    let mut reader = Reader::default();
     for (at, bytes) in text.split(|byte| *byte == b'\n').enumerate() {
-        let wrong = |message| (at + 1, message);
-        let text = std::str::from_utf8(bytes).map_err(|_| wrong("this is no text in UTF-8".to_string()))?;
-        let found = symbols(text).map_err(wrong)?;
-        if !found.is_empty() {
-            last = at + 1;
-        }
-        line.symbols.extend(found.into_iter().map(|symbol| (at + 1, symbol)));
-        if line.is_complete() {
-            read_row(&mut line, &mut listing).map_err(|message| (line.number_of_line(), message))?;
-            line = Line { symbols: Vec::new(), at: 0 };
-        }
+        reader.line(at + 1, bytes);
     }
-    if let Some((at, _)) = line.symbols.first() {
-        return Err((*at, "this record has no END".to_string()));
+    reader.end();
+    let (listing, mut wrong) = resolve(reader.rows);
+    if wrong.is_empty() {
+        return Ok(listing);
     }
-    all_there(&listing.tables).map_err(|message| (last, message))?;
-    Ok(listing)
+    wrong.sort_by_key(|wrong| (wrong.line, wrong.column));
+    Err(wrong)
 }
 
-/// Whether each table has its fewest rows.
-fn all_there(tables: &Tables) -> Result<(), String> {
-    for (table, (name, least, _)) in tables.iter().zip(ROWS) {
-        if table.len() < least {
-            return Err(format!("the listing ends without {name} {}", table.len()));
-        }
-    }
-    Ok(())
+/// A row of a listing.
+#[derive(Clone, Debug, Default)]
+pub struct Declared<'a> {
+    pub name: Option<Symbol<'a>>,
+    /// How many `procedure` lines there are up to this one: names are looked up there.
+    pub part: usize,
+    /// Nothing where the line is wrong or missing: the row counts as there.
+    pub form: Option<Form<'a>>,
 }
 
-/// The symbols of a line: words, numbers and signs, without its comment.
-fn symbols(line: &str) -> Result<Vec<&str>, String> {
-    let mut found = Vec::new();
-    let mut rest = line.split("--").next().unwrap_or("").trim();
-    while let Some(first) = rest.chars().next() {
-        let length = if first.is_ascii_alphanumeric() {
-            rest.find(|c: char| !c.is_ascii_alphanumeric()).unwrap_or(rest.len())
-        } else if [":=", "..", "<=", ">="].iter().any(|sign| rest.starts_with(sign)) {
-            2
-        } else if "+-*/=#<>&~:;,(){}".contains(first) {
-            1
-        } else {
-            return Err(format!("'{first}' begins no symbol"));
+/// The rows of a listing as they are written, and the mistakes so far.
+#[derive(Default)]
+pub struct Rows<'a> {
+    pub tables: [Vec<Declared<'a>>; 6],
+    pub wrong: Vec<Wrong>,
+    /// The words of wrong lines: they may declare a name that seems to be missing.
+    pub spoilt: HashSet<&'a str>,
+}
+
+/// Which number the next row of a table has; after a mistake there may be two.
+#[derive(Clone, Copy, Default)]
+struct Next {
+    number: usize,
+    or: Option<usize>,
+}
+
+#[derive(Default)]
+struct Reader<'a> {
+    rows: Rows<'a>,
+    next: [Next; 6],
+    /// Whether a line names no table.
+    strange: bool,
+    part: usize,
+    /// The symbols of a record that has no END yet.
+    record: Vec<Symbol<'a>>,
+    /// Whether the lines of the row being read have wrong characters.
+    garbled: bool,
+    last: Option<Symbol<'a>>,
+}
+
+impl<'a> Reader<'a> {
+    fn line(&mut self, number: usize, bytes: &'a [u8]) {
+        let (found, wrong) = symbols(number, bytes);
+        if begins_row(&found) {
+            self.end_of_record();
+        }
+        self.garbled |= !wrong.is_empty();
+        self.rows.wrong.extend(wrong);
+        self.last = found.last().copied().or(self.last);
+        let has = |word: &str| found.iter().any(|symbol| symbol.text == word);
+        let goes_on = !has("END") && (!self.record.is_empty() || is_type(&found) && has("RECORD"));
+        self.record.extend(found);
+        if !goes_on {
+            let symbols = std::mem::take(&mut self.record);
+            self.row(symbols);
+        }
+    }
+
+    /// A record that is still without its END gets none.
+    fn end_of_record(&mut self) {
+        let symbols = std::mem::take(&mut self.record);
+        if let Some(first) = symbols.first() {
+            self.rows.wrong.push(first.wrong("this record has no END".to_string()));
+            self.garbled = true;
+            self.row(symbols);
+        }
+    }
+
+    /// The listing ends: each table must have its fewest rows.
+    fn end(&mut self) {
+        self.end_of_record();
+        for (next, (name, least, _)) in self.next.iter().zip(ROWS) {
+            if next.number < least && !self.strange {
+                let message = format!("the listing ends without {name} {}", next.number);
+                self.rows.wrong.push(match self.last {
+                    Some(last) => last.wrong_behind(message),
+                    None => Wrong { line: 1, column: 1, message },
+                });
+            }
+        }
+    }
+
+    /// Reads the symbols of a row. If its characters are wrong, no more is said of it.
+    fn row(&mut self, symbols: Vec<Symbol<'a>>) {
+        let garbled = std::mem::take(&mut self.garbled);
+        if symbols.is_empty() {
+            return;
+        }
+        let mistakes = self.rows.wrong.len();
+        let mut line = Line::new(symbols);
+        let read = self.read_row(&mut line);
+        self.rows.wrong.extend(read.err().filter(|_| !garbled));
+        if garbled || self.rows.wrong.len() > mistakes {
+            self.rows.spoilt.extend(line.symbols.iter().map(|symbol| symbol.text));
+        }
+    }
+
+    fn read_row(&mut self, line: &mut Line<'a>) -> Result<(), Wrong> {
+        let first = line.symbols[0];
+        let Some(table) = line.takes_one(&ROWS.map(|(name, _, _)| name)) else {
+            self.strange = true;
+            self.next = self.next.map(|next| Next { or: Some(next.number + 1), ..next });
+            // A misspelt `procedure` begins one all the same.
+            self.part += line.symbols.iter().any(|symbol| symbol.text == "parameters") as usize;
+            return Err(line.expected("type, field, var, procedure, node or statement"));
         };
-        found.push(&rest[..length]);
-        rest = rest[length..].trim_start();
-    }
-    Ok(found)
-}
-
-/// What gives a row: its symbols, each with the number of its line, and which one is next.
-struct Line<'a> {
-    symbols: Vec<(usize, &'a str)>,
-    at: usize,
-}
-
-impl<'a> Line<'a> {
-    /// Whether the symbols give a row: a record may go on in the next lines.
-    fn is_complete(&self) -> bool {
-        let has = |word: &str| self.symbols.iter().any(|(_, symbol)| *symbol == word);
-        !self.symbols.is_empty() && (!has("RECORD") || has("END"))
+        self.part += (table == PROCEDURES) as usize;
+        let mut row = Declared { part: self.part, ..Declared::default() };
+        let mut number = self.next[table].number;
+        let read = self.read_declaration(table, line, &mut number, &mut row);
+        self.place(table, number, first, row);
+        read
     }
 
-    fn is_at_number(&self) -> bool {
-        self.peek().starts_with(|c: char| c.is_ascii_digit())
-    }
-
-    fn peek(&self) -> &'a str {
-        self.symbols.get(self.at).map_or("", |(_, symbol)| symbol)
-    }
-
-    fn number_of_line(&self) -> usize {
-        self.symbols.get(self.at).or(self.symbols.last()).map_or(0, |(line, _)| *line)
-    }
-
-    fn expected(&self, what: &str) -> String {
-        match self.peek() {
-            "" => format!("expected {what}, and the line ends"),
-            found => format!("expected {what}, not '{found}'"),
+    /// What follows the table's name: the row's number and name, each of which may be absent, a mark, and its form.
+    fn read_declaration(
+        &mut self,
+        table: usize,
+        line: &mut Line<'a>,
+        number: &mut usize,
+        row: &mut Declared<'a>,
+    ) -> Result<(), Wrong> {
+        if line.is_at_number() {
+            *number = self.read_number(table, line)?;
         }
-    }
-
-    /// Whether that symbol is next; if so, goes past it.
-    fn takes(&mut self, symbol: &str) -> bool {
-        let there = self.peek() == symbol;
-        self.at += there as usize;
-        there
-    }
-
-    fn take(&mut self, symbol: &str) -> Result<(), String> {
-        if self.takes(symbol) {
-            Ok(())
-        } else {
-            Err(self.expected(&format!("'{symbol}'")))
+        if line.is_at_word() && table != VARIABLES && !begins_procedure(table, line) {
+            row.name = Some(line.free_name()?);
         }
-    }
-
-    fn number_to(&mut self, most: u32) -> Result<u32, String> {
-        if !self.is_at_number() {
-            return Err(self.expected("a number"));
+        let has_mark = !begins_procedure(table, line);
+        if has_mark {
+            line.take(if table == STATEMENTS { ":" } else { "=" })?;
         }
-        match self.peek().parse::<u32>() {
-            Ok(number) if number <= most => {
-                self.at += 1;
-                Ok(number)
-            }
-            _ => Err(self.expected(&format!("a number of 0 to {most}"))),
+        let body = if has_mark && line.takes("row") { read_numbers(line)?.into() } else { read_body(table, line)? };
+        line.end()?;
+        row.name = row.name.or(body.name);
+        row.form = Some(self.with_fields(body));
+        Ok(())
+    }
+
+    /// A row's number, which must be the next one.
+    fn read_number(&mut self, table: usize, line: &mut Line<'a>) -> Result<usize, Wrong> {
+        let not_next = line.next();
+        let number = line.number()? as usize;
+        let next = self.next[table];
+        let is_next = number == next.number || Some(number) == next.or;
+        self.next[table].or = (!is_next).then_some(next.number + 1);
+        if !is_next {
+            let message = format!("the next one is {} {}, not {number}", ROWS[table].0, next.number);
+            self.rows.wrong.extend(not_next.map(|symbol| symbol.wrong(message)));
         }
+        Ok(number)
     }
 
-    fn number(&mut self) -> Result<u16, String> {
-        self.number_to(65535).map(|number| number as u16)
-    }
-
-    fn name(&mut self) -> Result<&'a str, String> {
-        let name = self.peek();
-        if name.starts_with(|c: char| c.is_ascii_alphabetic()) {
-            self.at += 1;
-            return Ok(name);
+    /// The form of a row; a record's fields become the next field rows.
+    fn with_fields(&mut self, body: Body<'a>) -> Form<'a> {
+        let mut form = body.form;
+        let Some(fields) = body.fields else { return form };
+        form.numbers[1] = Operand::Number(self.next[FIELDS].number as u16);
+        for (name, form) in fields {
+            let field = Declared { name: Some(name), part: self.part, form: Some(form) };
+            self.place(FIELDS, self.next[FIELDS].number, name, field);
         }
-        Err(self.expected("a name"))
+        form
     }
 
-    /// A type: a scalar's name or a row's number.
-    fn type_row(&mut self) -> Result<u16, String> {
-        match SCALARS.iter().position(|scalar| *scalar == self.peek()) {
-            Some(row) => {
-                self.at += 1;
-                Ok(row as u16)
-            }
-            None if self.is_at_number() => self.number(),
-            None => Err(self.expected("BOOLEAN, INTEGER, SET or a type's number")),
+    /// Puts a row in its place, or says at a symbol that it is the first for which there is none.
+    fn place(&mut self, table: usize, number: usize, at: Symbol<'a>, row: Declared<'a>) {
+        self.next[table].number = number + 1;
+        let (name, _, most) = ROWS[table];
+        if number < most {
+            let rows = &mut self.rows.tables[table];
+            rows.resize_with(rows.len().max(number + 1), Declared::default);
+            rows[number] = row;
+            return;
+        }
+        self.rows.spoilt.extend(row.name.map(|name| name.text));
+        if number == most {
+            self.rows.wrong.push(at.wrong(format!("{name} {most} is one too many")));
         }
     }
 }
 
-fn row(kind: usize, a: u16, b: u16, c: u16) -> Row {
-    Row { kind: kind as u8, zero: 0, a, b, c }
+fn is_type(symbols: &[Symbol]) -> bool {
+    symbols.first().is_some_and(|first| first.text == ROWS[TYPES].0)
 }
 
-fn read_row(line: &mut Line, listing: &mut Listing) -> Result<(), String> {
-    let Some(table) = ROWS.iter().position(|(name, _, _)| line.takes(name)) else {
-        return Err(line.expected("type, field, var, procedure, node or statement"));
-    };
-    let (name, count) = (ROWS[table].0, listing.tables[table].len());
-    let number = line.number()?;
-    if number as usize != count {
-        return Err(format!("the next one is {name} {count}, not {number}"));
-    }
-    let has_mark = table != PROCEDURES || line.peek() != "at";
-    if has_mark {
-        line.take(if table == STATEMENTS { ":" } else { "=" })?;
-    }
-    let found = if has_mark && line.takes("row") { read_numbers(line)? } else { read_form(table, line, listing)? };
-    if !line.peek().is_empty() {
-        return Err(line.expected("the end of the line"));
-    }
-    add(&mut listing.tables, table, found)
+/// Whether a line begins a row, and no field of a record that has such a name.
+fn begins_row(symbols: &[Symbol]) -> bool {
+    let [first, second, ..] = symbols else { return false };
+    ROWS.iter().any(|(name, _, _)| *name == first.text) && second.text != ":"
 }
 
-/// A row of any bytes.
-fn read_numbers(line: &mut Line) -> Result<Row, String> {
-    let (kind, zero) = (line.number_to(255)? as u8, line.number_to(255)? as u8);
-    Ok(Row { kind, zero, a: line.number()?, b: line.number()?, c: line.number()? })
-}
-
-fn read_form(table: usize, line: &mut Line, listing: &mut Listing) -> Result<Row, String> {
-    match table {
-        TYPES => read_type(line, listing),
-        FIELDS => Ok(row(0, line.type_row()?, 0, 0)),
-        VARIABLES => read_variable(line, listing),
-        PROCEDURES => read_procedure(line),
-        NODES => read_node(line),
-        _ => read_statement(line),
-    }
-}
-
-fn add(tables: &mut Tables, table: usize, row: Row) -> Result<(), String> {
-    let (name, _, most) = ROWS[table];
-    if tables[table].len() == most {
-        return Err(format!("{name} {most} is one too many"));
-    }
-    tables[table].push(row);
-    Ok(())
-}
-
-fn read_type(line: &mut Line, listing: &mut Listing) -> Result<Row, String> {
-    if let Some(scalar) = SCALARS.iter().position(|scalar| line.takes(scalar)) {
-        return Ok(row(scalar, 0, 0, 0));
-    }
-    if line.takes("ARRAY") {
-        let length = line.number()?;
-        line.take("OF")?;
-        return Ok(row(3, line.type_row()?, length, 0));
-    }
-    if line.takes("RECORD") {
-        return read_record(line, listing);
-    }
-    Err(line.expected("BOOLEAN, INTEGER, SET, ARRAY, RECORD or row"))
-}
-
-/// What follows RECORD; the fields become the next field rows.
-fn read_record(line: &mut Line, listing: &mut Listing) -> Result<Row, String> {
-    let mut base = 0;
-    if line.takes("(") {
-        base = line.number_to(65534)? as u16 + 1;
-        line.take(")")?;
-    }
-    let first = listing.tables[FIELDS].len();
-    while !line.takes("END") {
-        let next = listing.tables[FIELDS].len();
-        if next > first {
-            line.take(";")?;
-        }
-        listing.names.give(FIELDS, next, line.name()?);
-        line.take(":")?;
-        let field = row(0, line.type_row()?, 0, 0);
-        add(&mut listing.tables, FIELDS, field)?;
-    }
-    Ok(row(4, base, first as u16, (listing.tables[FIELDS].len() - first) as u16))
-}
-
-fn read_variable(line: &mut Line, listing: &mut Listing) -> Result<Row, String> {
-    let Some(kind) = KINDS_OF_VARIABLES.iter().position(|kind| line.takes(kind)) else {
-        return Err(line.expected("global, local, value, VAR or row"));
-    };
-    listing.names.give(VARIABLES, listing.tables[VARIABLES].len(), line.name()?);
-    line.take(":")?;
-    Ok(row(kind, line.type_row()?, 0, 0))
-}
-
-fn read_procedure(line: &mut Line) -> Result<Row, String> {
-    line.take("at")?;
-    let first = line.number()?;
-    line.take("parameters")?;
-    let parameters = line.number()?;
-    line.take("locals")?;
-    Ok(row(0, first, parameters, line.number()?))
-}
-
-fn read_node(line: &mut Line) -> Result<Row, String> {
-    if line.is_at_number() {
-        return read_dyadic(line);
-    }
-    if let Some(scalar) = SCALARS.iter().position(|scalar| line.takes(scalar)) {
-        return read_constant(line, scalar as u16);
-    }
-    for (word, kind) in [("variable", 1), ("argument", 8)] {
-        if line.takes(word) {
-            return Ok(row(kind, line.number()?, 0, 0));
-        }
-    }
-    for (sign, operator) in [("-", 1), ("~", 2)] {
-        if line.takes(sign) {
-            return Ok(row(6, line.number()?, 0, operator));
-        }
-    }
-    for (word, kind, before_type) in [("guard", 4, "to"), ("test", 7, "for")] {
-        if line.takes(word) {
-            let variable = line.number()?;
-            line.take(before_type)?;
-            return Ok(row(kind, variable, line.type_row()?, 0));
-        }
-    }
-    if line.takes("field") {
-        let field = line.number()?;
-        line.take("of")?;
-        return Ok(row(2, line.number()?, field, 0));
-    }
-    if line.takes("element") {
-        let array = line.number()?;
-        line.take("at")?;
-        return Ok(row(3, array, line.number()?, 0));
-    }
-    Err(line.expected("a node"))
-}
-
-fn read_dyadic(line: &mut Line) -> Result<Row, String> {
-    let left = line.number()?;
-    let Some(operator) = OPERATORS.iter().position(|operator| line.takes(operator)) else {
-        return Err(line.expected("an operator"));
-    };
-    Ok(row(5, left, line.number()?, operator as u16 + 1))
-}
-
-fn read_constant(line: &mut Line, scalar: u16) -> Result<Row, String> {
-    let value = match scalar {
-        0 => read_boolean(line)? as u32,
-        1 => read_integer(line)?,
-        _ => read_set(line)?,
-    };
-    Ok(row(0, scalar, (value >> 16) as u16, value as u16))
-}
-
-fn read_boolean(line: &mut Line) -> Result<bool, String> {
-    if line.takes("TRUE") {
-        return Ok(true);
-    }
-    if line.takes("FALSE") {
-        return Ok(false);
-    }
-    Err(line.expected("FALSE or TRUE"))
-}
-
-/// An INTEGER in two's complement.
-fn read_integer(line: &mut Line) -> Result<u32, String> {
-    if line.takes("-") {
-        return Ok(line.number_to(1 << 31)?.wrapping_neg());
-    }
-    line.number_to((1 << 31) - 1)
-}
-
-fn read_set(line: &mut Line) -> Result<u32, String> {
-    line.take("{")?;
-    let mut set = 0;
-    let mut more = !line.takes("}");
-    while more {
-        let first = line.number_to(31)?;
-        let last = if line.takes("..") { line.number_to(31)? } else { first };
-        for element in first..=last {
-            set |= 1 << element;
-        }
-        more = line.takes(",");
-        if !more {
-            line.take("}")?;
-        }
-    }
-    Ok(set)
-}
-
-fn read_statement(line: &mut Line) -> Result<Row, String> {
-    if line.is_at_number() {
-        let target = line.number()?;
-        line.take(":=")?;
-        return Ok(row(0, target, line.number()?, 0));
-    }
-    if line.takes("call") {
-        let procedure = line.number()?;
-        return Ok(row(1, procedure, read_first_argument(line)?, 0));
-    }
-    if line.takes("IF") {
-        line.take("NOT")?;
-        let condition = line.number()?;
-        line.take("GOTO")?;
-        return Ok(row(2, condition, line.number()?, 0));
-    }
-    if line.takes("GOTO") {
-        return Ok(row(3, 0, line.number()?, 0));
-    }
-    if line.takes("RETURN") {
-        return Ok(row(4, 0, 0, 0));
-    }
-    for (word, kind) in [("READ", 5), ("WRITE", 6), ("HALT", 7)] {
-        if line.takes(word) {
-            return Ok(row(kind, line.number()?, 0, 0));
-        }
-    }
-    Err(line.expected("a statement"))
-}
-
-/// The node row of a call's first argument, 0 without any.
-fn read_first_argument(line: &mut Line) -> Result<u16, String> {
-    if !line.takes("(") {
-        return Ok(0);
-    }
-    for word in ["arguments", "from", "node"] {
-        line.take(word)?;
-    }
-    let first = line.number()?;
-    line.take(")")?;
-    Ok(first)
+/// Whether the form of a procedure is next, which has no mark before it.
+fn begins_procedure(table: usize, line: &Line) -> bool {
+    table == PROCEDURES && line.is_at("at")
 }
