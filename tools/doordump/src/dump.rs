@@ -1,7 +1,7 @@
 //! The tables of an image in words. It asks nothing of their rows: a row that has no words stands with its numbers, as
 //! in a listing.
 use crate::line::{Line, Sign};
-use crate::text::{leading, node_line, Text};
+use crate::text::{leading, led, node_line, Text};
 use listing::{
     children, fields_before, named, row_line, row_text, Names, Row, Tables, Words, FIELDS, KINDS_OF_VARIABLES, NODES,
     PROCEDURES, ROWS, STATEMENTS, TYPES, VARIABLES,
@@ -43,6 +43,51 @@ impl Mark {
 pub struct Named<'a> {
     pub tables: &'a Tables,
     pub names: &'a Names,
+}
+
+impl Named<'_> {
+    /// The procedure whose body has a statement, as far as the rows say.
+    fn procedure_of(&self, statement: usize) -> Option<usize> {
+        self.tables[PROCEDURES].iter().rposition(|procedure| procedure.a as usize <= statement)
+    }
+
+    fn is_same_body(&self, statement: usize, other: usize) -> bool {
+        self.procedure_of(statement) == self.procedure_of(other)
+    }
+
+    /// The parameters and locals of the procedure whose body has a statement.
+    fn own_variables(&self, statement: usize) -> std::ops::Range<usize> {
+        let count = |row: &Row| row.b as usize + row.c as usize;
+        let Some(procedure) = self.procedure_of(statement) else { return 0..0 };
+        let before: usize = self.tables[PROCEDURES][..procedure].iter().map(count).sum();
+        let first = self.globals() + before;
+        first..first + count(&self.tables[PROCEDURES][procedure])
+    }
+
+    fn globals(&self) -> usize {
+        self.tables[VARIABLES].iter().take_while(|row| row.kind == 0).count()
+    }
+
+    /// The variable that a statement knows by the name of this one: its procedure's own, else a global; none where
+    /// several have the name.
+    fn known_as(&self, statement: usize, variable: usize) -> Option<usize> {
+        let name = self.names.of(VARIABLES, variable)?;
+        let called = |rows: std::ops::Range<usize>| -> Vec<usize> {
+            rows.filter(|row| self.names.of(VARIABLES, *row) == Some(name)).collect()
+        };
+        match called(self.own_variables(statement))[..] {
+            [own] => Some(own),
+            [] => Some(called(0..self.globals())).filter(|globals| globals.len() == 1).map(|globals| globals[0]),
+            _ => None,
+        }
+    }
+
+    /// Whether another variable has the name of this one.
+    fn is_shared(&self, variable: usize) -> bool {
+        let name = self.names.of(VARIABLES, variable);
+        let others = (0..self.tables[VARIABLES].len()).filter(|other| *other != variable);
+        name.is_some() && others.into_iter().any(|other| self.names.of(VARIABLES, other) == name)
+    }
 }
 
 /// What is to be dumped, with sizes and places where there is a program.
@@ -114,27 +159,51 @@ fn differs(tables: &Tables, others: &Tables, place: Mark) -> bool {
 
 /// A statement in words.
 pub fn statement(tables: &Tables, names: &Names, at: usize) -> String {
-    statement_words(tables, names, at).0
+    let number = |row: usize| format!("v{row}");
+    statement_words(Named { tables, names }, names, &number, at).0
 }
 
-/// A statement in words, and the nodes that are in these words.
-fn statement_words(tables: &Tables, names: &Names, at: usize) -> (String, Vec<usize>) {
-    let row = tables[STATEMENTS][at];
-    let mut words = Words::new(tables, names, NODES_IN_WORDS);
-    let text = match row_text(STATEMENTS, at, row) {
-        Some(form) => words.statement(row).unwrap_or(form),
-        None => format!("row {} {} {} {} {}", row.kind, row.zero, row.a, row.b, row.c),
+/// A statement in words, and the nodes that are in these words. It has the names as they are `shown`, but for variables
+/// that its procedure does not know by their names: these have their `number`.
+fn statement_words(image: Named, shown: &Names, number: &dyn Fn(usize) -> String, at: usize) -> (String, Vec<usize>) {
+    let (tables, row) = (image.tables, image.tables[STATEMENTS][at]);
+    let Some(form) = row_text(STATEMENTS, at, row) else {
+        return (format!("row {} {} {} {} {}", row.kind, row.zero, row.a, row.b, row.c), Vec::new());
     };
-    (with_label(text, names, row), words.nodes)
+    let in_words = |names: &Names| {
+        let mut words = Words::new(tables, names, NODES_IN_WORDS);
+        let text = words.statement(row).unwrap_or_else(|| form.clone());
+        (with_label(text, image, at), words.nodes)
+    };
+    let (text, nodes) = in_words(shown);
+    let unknown = unknown_variables(image, at, &nodes);
+    if unknown.is_empty() {
+        return (text, nodes);
+    }
+    let mut names = shown.clone();
+    unknown.into_iter().for_each(|variable| names.give(VARIABLES, variable, &number(variable)));
+    in_words(&names)
 }
 
-/// A jump to a row that has a name, with this name.
-fn with_label(text: String, names: &Names, row: Row) -> String {
-    let target = names.of(STATEMENTS, row.b as usize).filter(|_| matches!(row.kind, 2 | 3));
-    match (target, text.strip_suffix(&format!("GOTO {}", row.b))) {
+/// A jump to a row of its own body that has a name, with this name.
+fn with_label(text: String, image: Named, at: usize) -> String {
+    let row = image.tables[STATEMENTS][at];
+    let target = Some(row.b as usize).filter(|target| matches!(row.kind, 2 | 3) && image.is_same_body(at, *target));
+    let label = target.and_then(|target| image.names.of(STATEMENTS, target));
+    match (label, text.strip_suffix(&format!("GOTO {}", row.b))) {
         (Some(label), Some(before)) => format!("{before}GOTO {label}"),
         _ => text,
     }
+}
+
+/// The variables in some nodes of a statement whose names mean others there, or several.
+fn unknown_variables(image: Named, at: usize, nodes: &[usize]) -> Vec<usize> {
+    let rows = nodes.iter().map(|node| image.tables[NODES][*node]);
+    let variables = rows.filter(|row| matches!(row.kind, 1 | 4 | 7)).map(|row| row.a as usize);
+    variables
+        .filter(|variable| image.names.of(VARIABLES, *variable).is_some())
+        .filter(|variable| image.known_as(at, *variable) != Some(*variable))
+        .collect()
 }
 
 struct Dump<'a> {
@@ -275,7 +344,7 @@ impl Dump<'_> {
     }
 
     fn globals(&mut self) {
-        let globals = self.tables[VARIABLES].iter().take_while(|row| row.kind == 0).count();
+        let globals = self.wanted.image.globals();
         if globals > 0 {
             self.heading("VAR");
         }
@@ -286,7 +355,8 @@ impl Dump<'_> {
 
     fn variable(&mut self, at: usize, note: impl Fn(&Program) -> String) {
         let row = self.tables[VARIABLES][at];
-        let declared = format!("{}: {}", self.names.variable(at), self.type_name(row.a as usize));
+        let number = if self.wanted.image.is_shared(at) { format!(" (v{at})") } else { String::new() };
+        let declared = format!("{}{number}: {}", self.names.variable(at), self.type_name(row.a as usize));
         let text = match (row_text(VARIABLES, at, row), row.kind) {
             (None, _) => row_line(VARIABLES, at, row),
             (Some(_), 0) => declared,
@@ -336,7 +406,8 @@ impl Dump<'_> {
     }
 
     fn statement(&mut self, at: usize) {
-        let (text, nodes) = statement_words(self.tables, &self.names, at);
+        let number = |row: usize| led(Mark { table: VARIABLES, row }, &format!("v{row}"));
+        let (text, nodes) = statement_words(self.wanted.image, &self.names, &number, at);
         for node in nodes {
             self.said[NODES][node] = true;
         }
@@ -481,5 +552,29 @@ mod tests {
         assert_eq!(text, expected);
         assert_eq!(lines[2].text.pieces.last().unwrap().to, Some(Mark { table: STATEMENTS, row: 2 }));
         assert_eq!(lines[4].text.pieces.iter().find_map(|piece| piece.to), Some(Mark { table: NODES, row: 0 }));
+    }
+
+    #[test]
+    fn a_name_is_shown_where_it_is_known() {
+        let tables = listing::read_listing(
+            b"type 0 = BOOLEAN\ntype 1 = INTEGER\ntype 2 = SET\nvar 0 = global x: 1\nvar 1 = global y: 1\n\
+              var 2 = local x: 1\nprocedure 0 at 0 parameters 0 locals 0\nprocedure 1 at 3 parameters 0 locals 1\n\
+              node 0 = variable 0\nnode 1 = variable 2\nnode 2 = variable 0\nnode 3 = variable 2\n\
+              node 4 = variable 1\nnode 5 = variable 1\n\
+              statement 0: 0 := 1\nstatement 1: READ 4\nstatement 2: GOTO 4\nstatement 3: 2 := 3\n\
+              statement 4: READ 5\nstatement 5: GOTO 4\n",
+        );
+        let listing::Listing { tables, mut names } = tables.unwrap();
+        names.give(STATEMENTS, 4, "loop");
+        let words = |at: usize| statement(&tables, &names, at);
+        // Procedure 0 knows the global x alone, procedure 1 its own x, and both the global y.
+        assert_eq!([words(0), words(1), words(2)], ["x := v2", "READ y", "GOTO 4"]);
+        assert_eq!([words(3), words(4), words(5)], ["v0 := x", "READ y", "GOTO loop"]);
+        let image = Named { tables: &tables, names: &names };
+        let lines = of(&Wanted { image, program: None, mark: None, reported: None, good: None });
+        let text: Vec<String> = lines.iter().map(Line::plain).collect();
+        for line in ["     x (v0): INTEGER", "     y: INTEGER", "     local x (v2): INTEGER", "      3: v0 := x"] {
+            assert!(text.contains(&line.to_string()), "{text:?}");
+        }
     }
 }

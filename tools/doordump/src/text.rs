@@ -25,7 +25,7 @@ impl Text {
     pub fn of(words: &str) -> Text {
         let mut text = Text::default();
         for part in words.split(BEGIN) {
-            match led(part) {
+            match parted(part) {
                 Some((to, name, rest)) => {
                     text.push(name, Some(to));
                     text.push(rest, None);
@@ -54,11 +54,16 @@ impl Text {
 }
 
 /// The row, the name that leads to it, and what follows, of a part that begins with a name.
-fn led(part: &str) -> Option<(Mark, &str, &str)> {
+fn parted(part: &str) -> Option<(Mark, &str, &str)> {
     let (place, rest) = part.split_once(MIDDLE)?;
     let (name, rest) = rest.split_once(END)?;
     let (table, row) = place.split_once(' ')?;
     Some((Mark { table: table.parse().ok()?, row: row.parse().ok()? }, name, rest))
+}
+
+/// A name that leads to a row.
+pub fn led(Mark { table, row }: Mark, name: &str) -> String {
+    format!("{BEGIN}{table} {row}{MIDDLE}{name}{END}")
 }
 
 /// The names, so that those of types, variables and procedures lead to their rows.
@@ -66,7 +71,7 @@ pub fn leading(tables: &Tables, names: &Names) -> Names {
     let mut leading = names.clone();
     let mut give = |table: usize, name: &dyn Fn(usize) -> String| {
         for row in 0..tables[table].len() {
-            leading.give(table, row, &format!("{BEGIN}{table} {row}{MIDDLE}{}{END}", name(row)));
+            leading.give(table, row, &led(Mark { table, row }, &name(row)));
         }
     };
     give(TYPES, &|row| names.declared_type(row));
