@@ -19,6 +19,13 @@ extern "C" {
  * result that was kept under another number has other fields, and is none to go on from. */
 #define DOOR_INTERFACE 3
 
+/* The release that this header comes with: three numbers. */
+#define DOOR_VERSION "1.1.0"
+
+/* "door " DOOR_VERSION " interface " DOOR_INTERFACE of a library, as text: in the libraries that tools/targets makes; the
+ * one that `rt staticlib door` writes has none. */
+extern const char door_version[];
+
 /* The longest image that is accepted, in bytes; the largest store that is taken, in cells. */
 #define DOOR_IMAGE_MAX 29713
 #define DOOR_STORE_MAX 65536
