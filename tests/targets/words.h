@@ -1,0 +1,41 @@
+/* Text and numbers by host.h, for programs that may have no C library. */
+#ifndef WORDS_H
+#define WORDS_H
+
+#include "host.h"
+
+static inline void say(const char *text) {
+    size_t size = 0;
+    while (text[size] != '\0')
+        size++;
+    put(text, size);
+}
+
+static inline void say_digits(uint64_t number, unsigned base) {
+    char digits[20];
+    size_t at = sizeof digits;
+    do {
+        digits[--at] = "0123456789abcdef"[number % base];
+        number /= base;
+    } while (number > 0);
+    put(digits + at, sizeof digits - at);
+}
+
+static inline void say_number(int64_t number) {
+    if (number < 0)
+        say("-");
+    say_digits(number < 0 ? 0 - (uint64_t)number : (uint64_t)number, 10);
+}
+
+static inline void say_count(const char *before, uint64_t number) {
+    say(before);
+    say_digits(number, 10);
+}
+
+_Noreturn static inline void stop(const char *what) {
+    say(what);
+    say("\n");
+    finish(2);
+}
+
+#endif
