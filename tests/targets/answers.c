@@ -1,7 +1,5 @@
 /* What check, run and continue answer to the calls of a file, one line a call. README.md has the file's form and the
  * line's. The same calls must give the same lines on every target. */
-#include <string.h>
-
 #include "door.h"
 #include "words.h"
 
@@ -166,7 +164,7 @@ static void answer(const struct call *call, unsigned number) {
     say("\n");
 }
 
-int main(void) {
+void program(void) {
     struct call call;
     unsigned number = 0;
     while (take(&call, sizeof call))

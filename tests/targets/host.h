@@ -1,14 +1,20 @@
-/* What answers.c and starred.c need of the machine that they run on: hosted.c has it for Linux with a C library, bare.c
- * for a board or a processor without one. */
+/* What answers.c and starred.c need of the machine that they run on, and it of them: hosted.c is for Linux with a C
+ * library, bare.c for a board or a processor without one. */
 #ifndef HOST_H
 #define HOST_H
 
-#include <stdbool.h>
 #include <stddef.h>
 #include <stdint.h>
 
+/* The program; it ends by finish(). */
+void program(void);
+
+/* The stack that it is called on. */
+enum { STACK = 1 << 20 };
+extern unsigned char stack_bottom[STACK];
+
 /* Takes so many bytes of the cases; false where they are used up. */
-bool take(void *to, size_t size);
+_Bool take(void *to, size_t size);
 
 /* Prints so many bytes. */
 void put(const char *bytes, size_t size);

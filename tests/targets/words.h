@@ -11,12 +11,24 @@ static inline void say(const char *text) {
     put(text, size);
 }
 
+/* Divides by 16 bits at a time, since 64 at once would need a helper of the compiler's; gives the remainder. */
+static inline unsigned divide(uint64_t *number, unsigned by) {
+    uint64_t quotient = 0;
+    uint32_t rest = 0;
+    for (int shift = 48; shift >= 0; shift -= 16) {
+        rest = rest << 16 | (uint32_t)(*number >> shift & 0xffff);
+        quotient = quotient << 16 | rest / by;
+        rest %= by;
+    }
+    *number = quotient;
+    return rest;
+}
+
 static inline void say_digits(uint64_t number, unsigned base) {
     char digits[20];
     size_t at = sizeof digits;
     do {
-        digits[--at] = "0123456789abcdef"[number % base];
-        number /= base;
+        digits[--at] = "0123456789abcdef"[divide(&number, base)];
     } while (number > 0);
     put(digits + at, sizeof digits - at);
 }
