@@ -1,5 +1,5 @@
-/* Starred cases of document 01, a door program and the deepest expressions. Of the images that are linked in it prints
- * what vectors/ has: the name, the nine numbers of its run, its outputs. Of these and of tests/bench/shapes.h it prints,
+/* Starred cases of document 01, a door program and the deepest expressions. It prints the library's version; of the
+ * images that are linked in what vectors/ has: the name, the nine numbers of its run, its outputs. Of these and of tests/bench/shapes.h it prints,
  * behind "stack", the stack that check, run and a continue from the fresh state took, in bytes, by painting. It ends
  * with another status than 0 where that is more than door.h states. */
 #include "door.h"
@@ -115,6 +115,8 @@ static void measure_shape(size_t number) {
 }
 
 void program(void) {
+    say(door_version);
+    say("\n");
     for (size_t i = 0; i < linked_count; i++) {
         measure(&linked[i]);
         say_run(&linked[i]);
