@@ -1,4 +1,4 @@
-//! The calls of cases, in the form that tests/targets/README.md gives: what a program for another target is to answer.
+//! The calls of cases as bytes, in the form of tests/targets/README.md: what a program for another target is to answer.
 
 use crate::surroundings::Surroundings;
 use std::io::{self, Write};
