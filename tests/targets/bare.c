@@ -57,17 +57,13 @@ void put(const char *bytes, size_t size) {
 }
 
 _Bool take(void *to, size_t size) {
-    static unsigned char taken[BUFFER];
-    static size_t at, end;
-    unsigned char *bytes = to;
-    for (; size > 0; size--) {
-        if (at == end) {
-            at = 0;
-            end = take_some(taken, BUFFER);
-            if (end == 0)
-                return 0;
-        }
-        *bytes++ = taken[at++];
+    unsigned char *at = to;
+    while (size > 0) {
+        const size_t taken = take_some(at, size);
+        if (taken == 0)
+            return 0;
+        at += taken;
+        size -= taken;
     }
     return 1;
 }
