@@ -31,8 +31,6 @@ void *memcpy(void *restrict to, const void *restrict from, size_t size) {
 
 #ifdef __arm__
 void __aeabi_memcpy(void *to, const void *from, size_t size) { memcpy(to, from, size); }
-void __aeabi_memcpy4(void *to, const void *from, size_t size) { memcpy(to, from, size); }
-void __aeabi_memcpy8(void *to, const void *from, size_t size) { memcpy(to, from, size); }
 void __aeabi_memclr(void *to, size_t size) { memset(to, 0, size); }
 void __aeabi_memclr4(void *to, size_t size) { memset(to, 0, size); }
 void __aeabi_memclr8(void *to, size_t size) { memset(to, 0, size); }
