@@ -14,8 +14,9 @@ struct call {
     uint64_t numbers[NUMBERS];
 };
 
-/* What is lent, between others that nobody may write. */
-static uint8_t image[MOST_BYTES];
+/* What is lent: an image at an odd address, store and output between numbers that nobody may write. */
+static _Alignas(8) uint8_t room[1 + MOST_BYTES];
+static uint8_t *const image = room + 1;
 static int32_t input[MOST_NUMBERS], output[BESIDE + MOST_NUMBERS + BESIDE];
 static int64_t store[BESIDE + MOST_CELLS + BESIDE];
 static size_t bytes, inputs;
@@ -57,7 +58,6 @@ static void take_all(void *to, size_t size) {
         stop("answers: the file ends within a call");
 }
 
-/* The first BESIDE numbers, and those behind the lent ones, are for nobody. */
 static void take_cells(const struct call *call) {
     int64_t *cells = store + BESIDE;
     if (call->cells_follow == 0)

@@ -1,4 +1,4 @@
-/* What tools/targets adds to the engine: the library's version and, for each target but x86-64, the functions of door.h.
+/* What tools/targets adds to the engine: the library's version and, but for x86-64, the functions of door.h.
  *
  * The kit's module keeps to the conventions of x86-64 in its three functions: lengths have 64 bits, and the result goes
  * where a first pointer says. tools/targets renames them, and has them take the earlier result by its address. The

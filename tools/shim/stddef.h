@@ -1,4 +1,4 @@
-/* What door.h needs of <stddef.h>: the kit's clang brings no headers of its own. */
+/* What door.h needs of <stddef.h>: the kit's clang brings no headers. */
 #ifndef SHIM_STDDEF_H
 #define SHIM_STDDEF_H
 

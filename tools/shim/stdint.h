@@ -1,4 +1,4 @@
-/* What door.h, and tests/targets/ without a C library, need of <stdint.h>: the kit's clang brings no headers of its own. */
+/* What door.h, and tests/targets/ without a C library, need of <stdint.h>: the kit's clang brings no headers. */
 #ifndef SHIM_STDINT_H
 #define SHIM_STDINT_H
 
