@@ -22,9 +22,9 @@ extern "C" {
 #define DOOR_INTERFACE 3
 
 /* The release that this header comes with: three numbers. */
-#define DOOR_VERSION "1.1.0"
+#define DOOR_VERSION "1.0.0"
 
-/* The library's own word for both, "door 1.1.0 interface 3": in the libraries that tools/targets makes; the one that
+/* The library's own word for both, "door 1.0.0 interface 3": in the libraries that tools/targets makes; the one that
  * `rt staticlib door` writes has none. */
 extern const char door_version[];
 
