@@ -454,17 +454,17 @@ static bool image_event(const char *words) {
 }
 
 /* The numbers of a line, at most `most`; false where there is something else, or more. */
-static bool numbers_of(const char *text, long least, long last, long *numbers, size_t most, size_t *count) {
+static bool numbers_of(const char *text, int64_t least, int64_t last, int64_t *numbers, size_t most, size_t *count) {
     *count = 0;
     for (;;) {
         char *end;
-        long number;
+        int64_t number;
         text += strspn(text, " \t");
         if (*text == '\0') {
             return true;
         }
         errno = 0;
-        number = strtol(text, &end, 10);
+        number = strtoll(text, &end, 10);
         if ((end == text) || (errno != 0) || (number < least) || (number > last) || (*count == most)) {
             return false;
         }
@@ -475,7 +475,7 @@ static bool numbers_of(const char *text, long least, long last, long *numbers, s
 }
 
 static bool fob_event(const char *text) {
-    long numbers[READER_INPUTS];
+    int64_t numbers[READER_INPUTS];
     int32_t input[READER_INPUTS];
     size_t count;
     if (!numbers_of(text, INT32_MIN, INT32_MAX, numbers, READER_INPUTS, &count)) {
@@ -489,7 +489,7 @@ static bool fob_event(const char *text) {
 }
 
 /* The one number of an event, 0 to `last`. */
-static bool setting_of(const char *text, long last, long *number) {
+static bool setting_of(const char *text, int64_t last, int64_t *number) {
     size_t count;
     return numbers_of(text, 0, last, number, 1, &count) && (count == 1U);
 }
@@ -507,7 +507,7 @@ static bool between_event(const char *words) {
 }
 
 static bool event(const char *line) {
-    long number;
+    int64_t number;
     if (is_event(line, "image ")) {
         return image_event(line + 6);
     }
@@ -530,7 +530,7 @@ static bool event(const char *line) {
         return true;
     }
     if (is_event(line, "fault ") && (in_force_length > 0U) &&
-        setting_of(line + 6, (long)in_force_length - 1, &number)) {
+        setting_of(line + 6, (int64_t)in_force_length - 1, &number)) {
         images[in_force][number] ^= 0xffU;
         show("inverted\n");
         return true;

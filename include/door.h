@@ -2,9 +2,11 @@
  * and 02 (docs/spec/) ask for them. For C99 and C++11 and later. docs/FIRMWARE.md is the guide, examples/firmware.c a
  * reader's main loop.
  *
- * Link libdoor.a, which `rt staticlib door` writes to target/staticlib/, for x86-64; of other libraries it needs memset
- * alone. There is no heap, no file, no clock and no state between calls: nothing is touched but what is lent, and the
- * stack. So several threads may call at once, each with its own store and output. */
+ * Link libdoor.a. `rt staticlib door` writes it for x86-64 to target/staticlib/, and `bash tools/targets` for this and
+ * for ARM and RISC-V processors to target/targets/NAME/; the interface is the same for all, which are little-endian. Of
+ * other libraries it needs memset, and for some processors memcpy and a division (docs/FIRMWARE.md, "Targets"). There
+ * is no heap, no file, no clock and no state between calls: nothing is touched but what is lent, and the stack. So
+ * several threads may call at once, each with its own store and output. */
 #ifndef DOOR_H
 #define DOOR_H
 
@@ -19,13 +21,21 @@ extern "C" {
  * result that was kept under another number has other fields, and is none to go on from. */
 #define DOOR_INTERFACE 3
 
+/* The release that this header comes with: three numbers. */
+#define DOOR_VERSION "1.0.0"
+
+/* The library's own word for both, "door 1.0.0 interface 3": in the libraries that tools/targets makes; the one that
+ * `rt staticlib door` writes has none. */
+extern const char door_version[];
+
 /* The longest image that is accepted, in bytes; the largest store that is taken, in cells. */
 #define DOOR_IMAGE_MAX 29713
 #define DOOR_STORE_MAX 65536
 
 /* The stack that a call needs, in bytes: measured, by painting the stack, and rounded up. It is no proven bound, and
- * holds for the library that this kit builds. `bash tests/stack` measures it. Check: 16,440 at most, for the longest
- * image and all of vectors/; no function of it calls itself. Run and continue: expressions of 2,048 nodes, the deepest
+ * holds for the libraries that this kit builds. `bash tests/stack` measures it on x86-64, `bash tests/targets/run` on
+ * the other targets, of which none needs more. Check: 16,440 at most, for the longest image and all of vectors/, and
+ * 16,696 on riscv64-linux; no function of it calls itself. Run and continue: expressions of 2,048 nodes, the deepest
  * that an accepted image can have, in a thread with this stack and four pages more for the thread itself. A continue
  * needs hardly more than a run: what question 14 takes is given back before the first step. */
 #define DOOR_CHECK_STACK 16896

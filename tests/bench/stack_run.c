@@ -11,9 +11,9 @@
  * of 0 steps of the same image, which is the check alone; and where the continue of a deep expression takes more than
  * 1 KB above its run, since what question 14 took is to be given back before the first step. */
 #define _GNU_SOURCE
-#include "builder.h"
 #include "door.h"
 #include "painted.h"
+#include "shapes.h"
 #include "states.h"
 
 #include <stdbool.h>
@@ -29,90 +29,6 @@
 static int64_t store[CELLS], fresh[CELLS]; /* the fresh state's cells are 0 */
 static int32_t output[PLACES];
 static const int32_t input[1];
-
-static unsigned constant(struct builder *b, unsigned number) { return add(b, NODES, CONSTANT, 1, 0, number); }
-
-/* -(-(... 5)), of n nodes: n - 1 is to be even, so that it is 5. */
-static unsigned negations(struct builder *b, unsigned n) {
-    unsigned node = constant(b, 5);
-    while (--n > 0)
-        node = add(b, NODES, MONADIC, node, 0, 1);
-    return node;
-}
-
-/* write -(-(... 5)) */
-static void shape_negations(struct builder *b) {
-    unsigned node = negations(b, 2047);
-    node = add(b, NODES, MONADIC, node, 0, 1);
-    add(b, STATEMENTS, WRITE, node, 0, 0);
-    add(b, STATEMENTS, RETURN, 0, 0, 0);
-}
-
-/* P(-(-(... 5))), which writes it */
-static void shape_argument(struct builder *b) {
-    const unsigned v = add(b, VARIABLES, VALUE, 1, 0, 0), node = negations(b, 2045);
-    add(b, STATEMENTS, CALL, 1, add(b, NODES, ARGUMENT, add(b, NODES, MONADIC, node, 0, 1), 0, 0), 0);
-    add(b, STATEMENTS, RETURN, 0, 0, 0);
-    add(b, PROCEDURES, 0, 2, 1, 0);
-    add(b, STATEMENTS, WRITE, add(b, NODES, VARIABLE, v, 0, 0), 0, 0);
-    add(b, STATEMENTS, RETURN, 0, 0, 0);
-}
-
-/* write ((5 + 0) + 0) + .. , or 0 + (0 + (.. + 5)) */
-static void shape_sums(struct builder *b, int right) {
-    unsigned node = constant(b, 5);
-    while (b->count[NODES] + 2 <= MOST_NODES) {
-        const unsigned zero = constant(b, 0);
-        node = right ? add(b, NODES, DYADIC, zero, node, 1) : add(b, NODES, DYADIC, node, zero, 1);
-    }
-    add(b, STATEMENTS, WRITE, node, 0, 0);
-    add(b, STATEMENTS, RETURN, 0, 0, 0);
-}
-
-static void shape_left(struct builder *b) { shape_sums(b, 0); }
-static void shape_right(struct builder *b) { shape_sums(b, 1); }
-
-/* a[a[.. a[0]]] := 5, then write a[0] */
-static void shape_index(struct builder *b) {
-    const unsigned t = add(b, TYPES, 3, 1, 2, 0), a = add(b, VARIABLES, GLOBAL, t, 0, 0);
-    const unsigned zero = constant(b, 0), first = add(b, NODES, VARIABLE, a, 0, 0);
-    const unsigned written = add(b, NODES, ELEMENT, first, zero, 0);
-    unsigned node = constant(b, 0);
-    const unsigned five = constant(b, 5);
-    while (b->count[NODES] + 2 <= MOST_NODES)
-        node = add(b, NODES, ELEMENT, add(b, NODES, VARIABLE, a, 0, 0), node, 0);
-    add(b, STATEMENTS, ASSIGN, node, five, 0);
-    add(b, STATEMENTS, WRITE, written, 0, 0);
-    add(b, STATEMENTS, RETURN, 0, 0, 0);
-}
-
-/* write 5 + a[a[.. a[0].f].f].f: evaluating and finding take turns */
-static void shape_fields(struct builder *b) {
-    const unsigned r = add(b, TYPES, 4, 0, add(b, FIELDS, 0, 1, 0, 0), 1), t = add(b, TYPES, 3, r, 2, 0);
-    const unsigned a = add(b, VARIABLES, GLOBAL, t, 0, 0), five = constant(b, 5);
-    unsigned node = constant(b, 0);
-    while (b->count[NODES] + 4 <= MOST_NODES) {
-        node = add(b, NODES, ELEMENT, add(b, NODES, VARIABLE, a, 0, 0), node, 0);
-        node = add(b, NODES, FIELD, node, 0, 0);
-    }
-    add(b, STATEMENTS, WRITE, add(b, NODES, DYADIC, five, node, 1), 0, 0);
-    add(b, STATEMENTS, RETURN, 0, 0, 0);
-}
-
-static const struct {
-    const char *name;
-    void (*make)(struct builder *b);
-} shapes[] = {
-    {"negations", shape_negations}, {"an argument", shape_argument}, {"sums, left", shape_left},
-    {"sums, right", shape_right},   {"indices", shape_index},        {"indices and fields", shape_fields},
-};
-
-static size_t build(void (*make)(struct builder *b), uint8_t *image) {
-    static struct builder b;
-    begin(&b);
-    make(&b);
-    return bytes(&b, image);
-}
 
 /* ---- the stack */
 
@@ -170,7 +86,7 @@ static bool is_right(const char *name, struct door_result result) {
 static bool measure_shapes(struct painted *stack, struct most *runs, struct most *continues) {
     static uint8_t image[LONGEST];
     printf("stack in bytes:         door_run  door_continue\n");
-    for (size_t i = 0; i < sizeof shapes / sizeof shapes[0]; i++) {
+    for (size_t i = 0; i < SHAPES; i++) {
         struct program program = {
             .image = image, .length = build(shapes[i].make, image), .steps = STEPS, .cells = fresh};
         const size_t used = painted_bytes(stack, run, &program);

@@ -4,11 +4,13 @@
 //!     differential case SEED NUMBER       make one image again, print its listing and what comes of it, and compare
 //!     differential replay FILE...         compare both on the images in the files
 //!     differential write DIR COUNT [SEED] write accepted images to files
+//!     differential cases COUNT SEED FILE  compare both, in one thread, and write their calls to a file
 //!
 //! It exits with 1 where something differs, where a generated image is refused, or, from 20,000 images on, where
 //! something is never reached.
 
 mod case;
+mod cases;
 mod compare;
 mod counts;
 mod damage;
@@ -26,7 +28,8 @@ mod traps;
 use case::{Case, Watcher};
 use counts::Counts;
 use listing::{listing_of, tables_of};
-use std::io::{self, Write};
+use std::fs::File;
+use std::io::{self, BufWriter, Write};
 use std::panic::{catch_unwind, AssertUnwindSafe};
 use std::path::{Path, PathBuf};
 use std::process::ExitCode;
@@ -57,7 +60,7 @@ fn main() -> ExitCode {
     ExitCode::FAILURE
 }
 
-const USAGE: &str = "COUNT [SEED] | case SEED NUMBER | replay FILE... | write DIR COUNT [SEED]";
+const USAGE: &str = "COUNT [SEED] | case SEED NUMBER | replay FILE... | write DIR COUNT [SEED] | cases COUNT SEED FILE";
 
 /// Whether all went well; nothing where the words are no command.
 fn command(words: &[&str]) -> Option<bool> {
@@ -67,6 +70,7 @@ fn command(words: &[&str]) -> Option<bool> {
         ["replay", files @ ..] => replay(files),
         ["write", folder, count] => write(folder, number(count)?, SEED),
         ["write", folder, count, seed] => write(folder, number(count)?, number(seed)?),
+        ["cases", count, seed, file] => write_cases(number(count)?, number(seed)?, file),
         [count] => compare_all(number(count)?, SEED),
         [count, seed] => compare_all(number(count)?, number(seed)?),
         _ => return None,
@@ -227,4 +231,33 @@ fn write_image(folder: &str, seed: u64, number: u64) -> io::Result<PathBuf> {
     std::fs::create_dir_all(folder)?;
     std::fs::write(&file, Case::new(seed, number).image)?;
     Ok(file)
+}
+
+/// Compares cases one after the other, and writes the calls that both sides agree on.
+fn write_cases(count: u64, seed: u64, file: &str) -> bool {
+    let mut counts = Counts::new();
+    let written = File::create(file).map(BufWriter::new).and_then(|mut out| {
+        (0..count).try_for_each(|number| write_case(&mut out, seed, number, &mut counts))?;
+        out.flush()
+    });
+    match &written {
+        Ok(()) => say(&counts.sum()),
+        Err(error) => say(&format!("{file}: {error}")),
+    }
+    written.is_ok()
+}
+
+/// The calls of one case; a difference is an error too.
+fn write_case(out: &mut impl Write, seed: u64, number: u64, counts: &mut Counts) -> io::Result<()> {
+    let case = Case::new(seed, number);
+    let image = case.image.clone();
+    let mut any_written = Ok(false);
+    let mut watcher = |lent: &Surroundings, from: Option<&door::Numbers>, _: &door::Numbers| {
+        if let Ok(any) = any_written {
+            let new = (!any).then_some(&image[..]);
+            any_written = cases::write_call(out, new, lent, from).map(|written| any || written);
+        }
+    };
+    let compared = compare(|| case, counts, &mut watcher);
+    any_written.and(compared.map_err(|what| io::Error::other(format!("image {number} of seed {seed}: {what}"))))
 }
