@@ -10,7 +10,7 @@ use model::words::counted;
 use model::Program;
 
 /// How many nodes a statement has in words; those after them are listed by themselves.
-pub const NODES_IN_WORDS: usize = 200;
+const NODES_IN_WORDS: usize = 200;
 
 /// How much of what names a node is shown.
 const NAMES_SHOWN: usize = 8;
@@ -163,6 +163,20 @@ pub fn statement(tables: &Tables, names: &Names, at: usize) -> String {
     statement_words(Named { tables, names }, names, &number, at).0
 }
 
+/// A node below a statement in words, with the names that the statement has.
+pub fn expression(tables: &Tables, names: &Names, statement: usize, node: usize) -> String {
+    let unknown = unknown_variables(Named { tables, names }, statement, &below(tables, statement));
+    let known = numbered(names, unknown, &|row| format!("v{row}"));
+    Words::new(tables, &known, NODES_IN_WORDS).node(node as u16)
+}
+
+/// The names, but for some variables that have their number.
+fn numbered(names: &Names, variables: Vec<usize>, number: &dyn Fn(usize) -> String) -> Names {
+    let mut names = names.clone();
+    variables.into_iter().for_each(|variable| names.give(VARIABLES, variable, &number(variable)));
+    names
+}
+
 /// A statement in words, and the nodes that are in these words. It has the names as they are `shown`, but for variables
 /// that its procedure does not know by their names: these have their `number`.
 fn statement_words(image: Named, shown: &Names, number: &dyn Fn(usize) -> String, at: usize) -> (String, Vec<usize>) {
@@ -180,9 +194,7 @@ fn statement_words(image: Named, shown: &Names, number: &dyn Fn(usize) -> String
     if unknown.is_empty() {
         return (text, nodes);
     }
-    let mut names = shown.clone();
-    unknown.into_iter().for_each(|variable| names.give(VARIABLES, variable, &number(variable)));
-    in_words(&names)
+    in_words(&numbered(shown, unknown, number))
 }
 
 /// A jump to a row of its own body that has a name, with this name.

@@ -65,17 +65,19 @@ fn the_worked_example_is_the_image_of_its_listing() {
     assert_eq!(image, image_of(&tables_of_listing(&listing)), "the lines on the right give other bytes");
 }
 
+/// The nine numbers and what was written, as doorrun prints them.
+fn printed(numbers: &door::Numbers, output: &[i32]) -> String {
+    let written = output[..numbers.written as usize].iter().map(|number| format!("{number}\n"));
+    format!("{numbers}\n") + &written.collect::<String>()
+}
+
 #[test]
 fn the_worked_example_runs_as_stated() {
     let document = text_of("docs/IMAGE.md");
     let image = first_image();
     let (mut store, mut output) = ([-1; 11], [7; 4]);
     let numbers = door::run_numbers(&image, &[], &mut store, &mut output, 100);
-    let mut printed = format!("{numbers}\n");
-    for number in &output[..numbers.written as usize] {
-        printed += &format!("{number}\n");
-    }
-    assert_eq!(printed, block_with(&document, "0 0 1 0 0 "));
+    assert_eq!(printed(&numbers, &output), block_with(&document, "0 0 1 0 0 "));
     let cells: Vec<String> = store.iter().map(i64::to_string).collect();
     assert_eq!(cells.join(" ") + "\n", block_with(&document, "0 0 18 "));
 
@@ -180,10 +182,26 @@ fn the_questions_in_the_document_are_document_01s() {
     }
 }
 
+/// The nine numbers of a run with what doorrun lends, and its output places.
+fn run_with_output(image: &str) -> (door::Numbers, Vec<i32>) {
+    let image = std::fs::read(top().join(image)).unwrap_or_else(|error| panic!("{image}: {error}"));
+    let mut output = vec![0; 4096];
+    let numbers = door::run_numbers(&image, &[], &mut vec![0; 8192], &mut output, 100_000);
+    (numbers, output)
+}
+
 /// The nine numbers of a run with what doorrun lends.
 fn run(image: &str) -> door::Numbers {
-    let image = std::fs::read(top().join(image)).unwrap_or_else(|error| panic!("{image}: {error}"));
-    door::run_numbers(&image, &[], &mut vec![0; 8192], &mut vec![0; 4096], 100_000)
+    run_with_output(image).0
+}
+
+#[test]
+fn the_first_command_prints_what_the_readme_has() {
+    let document = text_of("README.md");
+    let (_, command) = document.split_once("target/bin/doorrun <").expect("the first command");
+    let (numbers, output) = run_with_output(command.lines().next().unwrap());
+    let shown = printed(&numbers, &output);
+    assert_eq!(shown, block_with(&document, shown.lines().next().unwrap()));
 }
 
 /// The statement row that a section gives for its image.

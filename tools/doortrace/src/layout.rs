@@ -1,6 +1,6 @@
 //! Where variables lie: frames by their links, and cells as paths of variables.
 use doordump::dump;
-use listing::{set_words, Names, Tables, Words};
+use listing::{set_words, Names, Tables};
 use model::program::VAR_PARAMETER;
 use model::types::{BOOLEAN, SET};
 use model::Program;
@@ -151,9 +151,9 @@ impl Layout<'_> {
         dump::statement(self.tables, self.names, row)
     }
 
-    /// A node in words.
-    pub fn node(&self, node: usize) -> String {
-        Words::new(self.tables, self.names, dump::NODES_IN_WORDS).node(node as u16)
+    /// A node of a statement in words.
+    pub fn node(&self, statement: usize, node: usize) -> String {
+        dump::expression(self.tables, self.names, statement, node)
     }
 
     /// A statement row with its procedure.

@@ -45,7 +45,7 @@ fn trap_words(numbers: &Numbers) -> String {
 
 /// The statement, the expression in it that trapped, why, and with which values.
 fn why(layout: &Layout, row: usize, found: &Found) -> String {
-    let expression = found.node.map(|node| layout.node(node)).unwrap_or_default();
+    let expression = found.node.map(|node| layout.node(row, node)).unwrap_or_default();
     [
         labelled("statement", &layout.statement(row)),
         labelled("expression", &expression),

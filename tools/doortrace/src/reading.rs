@@ -310,7 +310,8 @@ impl Reader<'_> {
         let mut values = Vec::new();
         for (node, value) in self.taken.iter().filter(|(node, _)| below.contains(node)) {
             let t = self.layout.program.type_of(*node);
-            let told = format!("{} = {}", self.layout.node(*node), value_words(t, *value));
+            let words = self.layout.node(self.before.numbers.row as usize, *node);
+            let told = format!("{words} = {}", value_words(t, *value));
             if !values.contains(&told) {
                 values.push(told);
             }
