@@ -2,4 +2,5 @@
 pub mod dump;
 pub mod line;
 pub mod refusals;
+pub mod statement;
 pub mod text;

@@ -5,8 +5,9 @@ use crate::header;
 use crate::named::Source;
 use crate::report::Report;
 use crate::verdict::Verdict;
-use doordump::dump::{self, Mark, Named, Wanted};
+use doordump::dump::{self, Mark, Wanted};
 use doordump::line::Line;
+use doordump::statement::{statement, Named};
 use listing::{tables_of, Names, Tables, STATEMENTS};
 use model::words::counted;
 
@@ -109,7 +110,7 @@ fn stopped(verdict: &Verdict, tables: Option<&Tables>, names: &Names, asked: &As
     if row >= statements {
         return Err(format!("has statement rows 0 to {}, and no {row}", statements - 1));
     }
-    let (procedure, words) = (names.procedure(program.procedure_at(row)), dump::statement(tables, names, row));
+    let (procedure, words) = (names.procedure(program.procedure_at(row)), statement(tables, names, row));
     Ok(Some(format!("a run that stops at statement row {row} stops in {procedure}: {words}")))
 }
 

@@ -1,5 +1,5 @@
 //! Where variables lie: frames by their links, and cells as paths of variables.
-use doordump::dump;
+use doordump::statement;
 use listing::{set_words, Names, Tables};
 use model::program::VAR_PARAMETER;
 use model::types::{BOOLEAN, SET};
@@ -148,12 +148,12 @@ impl Layout<'_> {
 
     /// A statement in words.
     pub fn statement(&self, row: usize) -> String {
-        dump::statement(self.tables, self.names, row)
+        statement::statement(self.tables, self.names, row)
     }
 
     /// A node of a statement in words.
     pub fn node(&self, statement: usize, node: usize) -> String {
-        dump::expression(self.tables, self.names, statement, node)
+        statement::expression(self.tables, self.names, statement, node)
     }
 
     /// A statement row with its procedure.
