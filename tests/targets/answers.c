@@ -123,16 +123,8 @@ static struct door_result called(const struct call *call) {
 }
 
 static void say_result(struct door_result r) {
-    say_count("; ", r.refusal);
-    say_count(" ", r.fault);
-    say_count(" ", r.outcome);
-    say_count(" ", r.trap);
-    say(" ");
-    say_number(r.halt);
-    say_count(" ", r.row);
-    say_count(" ", r.steps);
-    say_count(" ", r.read);
-    say_count(" ", r.written);
+    say("; ");
+    say_nine(r);
     say_count(" ", r.base);
     say_count(" ", r.top);
     say_count(" ", r.mark);

@@ -60,16 +60,8 @@ static size_t stack_of(measured *volatile call, const struct linked *program) {
 
 static void say_run(const struct linked *program) {
     say(program->name);
-    say_count("\n", ran.refusal);
-    say_count(" ", ran.fault);
-    say_count(" ", ran.outcome);
-    say_count(" ", ran.trap);
-    say(" ");
-    say_number(ran.halt);
-    say_count(" ", ran.row);
-    say_count(" ", ran.steps);
-    say_count(" ", ran.read);
-    say_count(" ", ran.written);
+    say("\n");
+    say_nine(ran);
     say("\n");
     for (size_t i = 0; i < ran.written; i++) {
         say_number(output[i]);

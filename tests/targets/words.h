@@ -2,6 +2,7 @@
 #ifndef WORDS_H
 #define WORDS_H
 
+#include "door.h"
 #include "host.h"
 
 static inline void say(const char *text) {
@@ -42,6 +43,20 @@ static inline void say_number(int64_t number) {
 static inline void say_count(const char *before, uint64_t number) {
     say(before);
     say_digits(number, 10);
+}
+
+/* The nine numbers, in document 01's order. */
+static inline void say_nine(struct door_result r) {
+    say_digits(r.refusal, 10);
+    say_count(" ", r.fault);
+    say_count(" ", r.outcome);
+    say_count(" ", r.trap);
+    say(" ");
+    say_number(r.halt);
+    say_count(" ", r.row);
+    say_count(" ", r.steps);
+    say_count(" ", r.read);
+    say_count(" ", r.written);
 }
 
 _Noreturn static inline void stop(const char *what) {
