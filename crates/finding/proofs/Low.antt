@@ -21,6 +21,7 @@ use Rattle.values.specs.declared.Value.the-variants as Vs
 use Rattle.values.specs.declared.Trap.{Trap}
 use Rattle.values.specs.declared.Answer.{Answer}
 use Rattle.values.specs.declared.Answer.the-variants as As
+use Rattle.values.proofs.Cases.{integer-has}
 use Rattle.semantics.specs.declared.Place.{Place}
 use Rattle.semantics.specs.declared.Found.{Found}
 use Rattle.semantics.specs.declared.Found.the-variants as Fs
@@ -72,9 +73,7 @@ module _ {image : List ℕ} where
   index-low : {n : ℕ} (answer : Answer) (next : ℤ → Found) → ((z : ℤ) → Low image n (next z))
       → Low image n (index answer next)
   unfolding index
-  index-low (As.Val (Vs.Int z)) next h = h z
-  index-low (As.Val (Vs.Bool b)) next h = low-stuck
-  index-low (As.Val (Vs.Set s)) next h = low-stuck
+  index-low {n} (As.Val v) next h = integer-has (Low image n) low-stuck v next h
   index-low (As.Trap t) next h = low-trap
   index-low As.Stuck next h = low-stuck
 

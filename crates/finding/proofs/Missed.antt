@@ -15,6 +15,7 @@ use Rattle.values.specs.declared.Answer.the-variants as As
 use Rattle.values.proofs.Value.{the-type as valueType}
 use Rattle.values.proofs.Answer.{the-type as answerType}
 use Rattle.values.proofs.Binding.{neither}
+use Rattle.values.proofs.Cases.{is-integer, no-integer}
 use Rattle.semantics.specs.declared.Place.{Place}
 use Rattle.semantics.specs.declared.Found.{Found}
 use Rattle.semantics.specs.declared.Found.the-variants as Fs
@@ -83,15 +84,13 @@ index-handed As.Stuck t next value = refl
 pub index-none : {x : Answer} (v : Value) → x ≡ As.Val v → OneOf (0 ∷ 2 ∷ []) (tagOf valueType v)
     → (next : ℤ → Found) → index x next ≡ Fs.Stuck
 unfolding index
-index-none (Vs.Bool b) e t next = rw e
-index-none (Vs.Int z) e t next = neither (omega arith) (omega arith) t
-index-none (Vs.Set s) e t next = rw e
+index-none v e t next = rw e (no-integer v next t)
 
 -- an INTEGER is one
 pub index-value : {x : Answer} {v : Value} {z : ℤ} → x ≡ As.Val v → v ≡ Vs.Int z → (next : ℤ → Found)
     → index x next ≡ next z
 unfolding index
-index-value e f next = rw (e, f)
+index-value e f next = rw e (is-integer next f)
 
 -- an array without an index
 pub array-stuck : (g : Program) (whole : Place) → arrayPlace g whole As.Stuck ≡ Fs.Stuck

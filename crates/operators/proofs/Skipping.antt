@@ -9,7 +9,7 @@ use borrow.Author.Tests.{eqb-true, not-true}
 use lib.Dec.{eqb}
 use Rattle.prelude.specs.Choice.{choose}
 use Rattle.prelude.proofs.Choice.{clash, choose-cases}
-use Rattle.values.specs.Values.{BOOLEAN, kindOf, InRange, bind, Gives}
+use Rattle.values.specs.Values.{BOOLEAN, kindOf, InRange, asBoolean, bind, Gives}
 use Rattle.operators.specs.Operators.{booleansOf, dyadicOf, decides, appliedTo}
 use Rattle.kinds.specs.Kinds.{booleansKind, dyadicKind}
 use Rattle.values.specs.Values.Gives.{value, trapped}
@@ -36,7 +36,7 @@ data Decided : ℕ → Value → Type 0 where
   or-true : Decided 14 (Vs.Bool true)
 
 decided : (op : ℕ) (v : Value) → decides op v ≡ true → Decided op v
-unfolding decides
+unfolding decides asBoolean
 decided op (Vs.Int x) e = clash (sym e)
 decided op (Vs.Set s) e = clash (sym e)
 decided op (Vs.Bool p) e =
@@ -51,7 +51,7 @@ decided op (Vs.Bool p) e =
 
 -- whatever the right operand would have given
 pub decides-same : (op : ℕ) (v : Value) (q : Bool) → decides op v ≡ true → dyadicOf op v (Vs.Bool q) ≡ As.Val v
-unfolding dyadicOf booleansOf choose
+unfolding dyadicOf booleansOf asBoolean choose
 decides-same op v q e = go (decided op v e)
   where
     go : {op : ℕ} {v : Value} → Decided op v → dyadicOf op v (Vs.Bool q) ≡ As.Val v

@@ -12,7 +12,7 @@ use mir.Syntax.{w32}
 use mir.Val.{SFits}
 use Rattle.prelude.specs.Choice.{choose}
 use Rattle.prelude.proofs.Choice.{choose-same}
-use Rattle.values.specs.Values.{BOOLEAN, SET, kindOf, InRange, isSet, Gives}
+use Rattle.values.specs.Values.{BOOLEAN, SET, kindOf, InRange, isSet, asBoolean, asInteger, asSet, Gives}
 use Rattle.values.specs.Values.InRange.{integer, set}
 use Rattle.sets.specs.Sets.{complementOf}
 use Rattle.operators.specs.Operators.{integersOf, setsOf, booleansOf, membershipOf, dyadicOf, monadicOf}
@@ -131,7 +131,7 @@ set-in (set h) = ltb-true _ _ h
 
 pub dyadic-agree : (op : ℕ) (v w : Value)
     → Agree (InRange v × InRange w) (dyadicKind op (kindOf v) (kindOf w)) (dyadicOf op v w)
-unfolding dyadicKind dyadicOf membershipOf kindOf choose
+unfolding dyadicKind dyadicOf asBoolean asInteger asSet membershipOf kindOf choose
 dyadic-agree op (Vs.Bool p) (Vs.Bool q) = booleans-agree op p q
 dyadic-agree op (Vs.Bool p) (Vs.Int y) = untyped
 dyadic-agree op (Vs.Bool p) (Vs.Set t) = untyped

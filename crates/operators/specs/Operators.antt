@@ -6,7 +6,7 @@ use lib.IntN.{ℤ, pos, negsuc, negℤ}
 use lib.Signed.{ltZ}
 use lib.Bits.{bitAnd, bitOr, bitXor}
 use Rattle.prelude.specs.Choice.{choose}
-use Rattle.values.specs.Values.{bind}
+use Rattle.values.specs.Values.{asBoolean, asInteger, asSet, bind}
 use Rattle.integers.specs.Integers.{integerOf, arithmeticOf}
 use Rattle.sets.specs.Sets.{containsOf, rangeOf, complementOf}
 use Rattle.values.specs.declared.Value.{Value}
@@ -59,17 +59,11 @@ booleansOf op p q =
 unfoldable pub membershipOf : ℕ → ℤ → ℕ → Answer
 membershipOf op x t = choose (eqb op 15) (containsOf x t) As.Stuck
 
--- "5 dyadic a, b, operator c", both operands found
+-- "5 dyadic a, b, operator c", both operands found: by the left one's kind, then the right one's
 unfoldable pub dyadicOf : ℕ → Value → Value → Answer
-dyadicOf op (Vs.Bool p) (Vs.Bool q) = booleansOf op p q
-dyadicOf op (Vs.Bool p) (Vs.Int y) = As.Stuck
-dyadicOf op (Vs.Bool p) (Vs.Set t) = As.Stuck
-dyadicOf op (Vs.Int x) (Vs.Bool q) = As.Stuck
-dyadicOf op (Vs.Int x) (Vs.Int y) = integersOf op x y
-dyadicOf op (Vs.Int x) (Vs.Set t) = membershipOf op x t
-dyadicOf op (Vs.Set s) (Vs.Bool q) = As.Stuck
-dyadicOf op (Vs.Set s) (Vs.Int y) = As.Stuck
-dyadicOf op (Vs.Set s) (Vs.Set t) = setsOf op s t
+dyadicOf op (Vs.Bool p) w = asBoolean As.Stuck w (booleansOf op p)
+dyadicOf op (Vs.Int x) w = asInteger (asSet As.Stuck w (membershipOf op x)) w (integersOf op x)
+dyadicOf op (Vs.Set s) w = asSet As.Stuck w (setsOf op s)
 
 -- "6 monadic a, operator c: 1 -, 2 ~."
 unfoldable pub monadicOf : ℕ → Value → Answer
@@ -79,9 +73,7 @@ monadicOf op (Vs.Set s) = choose (eqb op 1) (As.Val (Vs.Set (complementOf s))) A
 
 -- "& and OR skip the right one when the left decides": FALSE decides 13 &, TRUE decides 14 OR
 unfoldable pub decides : ℕ → Value → Bool
-decides op (Vs.Bool p) = choose (eqb op 13) (not p) (choose (eqb op 14) p false)
-decides op (Vs.Int x) = false
-decides op (Vs.Set s) = false
+decides op v = asBoolean false v λ p. choose (eqb op 13) (not p) (choose (eqb op 14) p false)
 
 -- "Operands go left to right": a dyadic operator whose left operand is found, and whose right one gives an answer
 -- if it is asked

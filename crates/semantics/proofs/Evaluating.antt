@@ -32,6 +32,7 @@ use Rattle.values.specs.declared.Answer.the-variants as As
 use Rattle.values.proofs.Cells.{cell-held}
 use Rattle.values.proofs.Giving.{gives-boolean}
 use Rattle.values.proofs.Ranges.{constant-typed}
+use Rattle.values.proofs.Cases.{integer-only}
 use Rattle.kinds.specs.declared.KindAnswer.{KindAnswer}
 use Rattle.kinds.specs.declared.KindAnswer.the-variants.{Untyped, Kind}
 use Rattle.kinds.specs.Kinds.{dyadicKind, monadicKind}
@@ -85,14 +86,6 @@ pub data Designates (g : Program) (r : ℕ) : Type 0 where
 
 -- ---- one law a combinator
 
-bool-other : (b : Bool) → kindOf (Vs.Bool b) ≡ INTEGER → ⊥
-unfolding kindOf
-bool-other b e = absurd (omega arith)
-
-set-other : (b : ℕ) → kindOf (Vs.Set b) ≡ INTEGER → ⊥
-unfolding kindOf
-set-other b e = absurd (omega arith)
-
 module _ {g : Program} {fs : List Frame} where
   reach-ok : {x y : ℕ} {m : Found} (k : Place → Found) → FoundOk g fs x m
       → ((place : Place) → place .declared ≡ x → extends (g .types) (place .dynamic) (place .declared) ≡ true
@@ -111,9 +104,7 @@ module _ {g : Program} {fs : List Frame} where
   index-ok : {y : ℕ} {m : Answer} (k : ℤ → Found) → Gives INTEGER m → ((z : ℤ) → FoundOk g fs y (k z))
       → FoundOk g fs y (index m k)
   unfolding index
-  index-ok k (value {v = Vs.Int z} e range) next = next z
-  index-ok k (value {v = Vs.Bool b} e range) next = absurd (bool-other b e)
-  index-ok k (value {v = Vs.Set b} e range) next = absurd (set-other b e)
+  index-ok {y} k (value {v = v} e range) next = integer-only (FoundOk g fs y) v k e next
   index-ok k trapped next = found-trap
 
   -- "every other object's is its declared type"

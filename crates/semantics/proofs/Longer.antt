@@ -17,6 +17,7 @@ use Rattle.values.specs.declared.Value.the-variants as Vs
 use Rattle.values.specs.declared.Trap.{Trap}
 use Rattle.values.specs.declared.Answer.{Answer}
 use Rattle.values.specs.declared.Answer.the-variants as As
+use Rattle.values.proofs.Cases.{boolean-alike, integer-alike}
 use Rattle.semantics.specs.declared.Found.{Found}
 use Rattle.semantics.specs.declared.Found.the-variants as Fs
 use Rattle.semantics.specs.declared.Place.{Place}
@@ -26,7 +27,7 @@ use Rattle.semantics.specs.Memory.{LINK, Memory, cellAt, markAt, partAt,
 use Rattle.semantics.specs.Layout.{Program}
 use Rattle.semantics.specs.Finding.{findOf, evalOf}
 use Rattle.semantics.specs.Stepping.{State, Next, Next.goes, Next.finished, Next.trapped, Next.stuck, onPlace, onValue}
-use Rattle.semantics.specs.Stepping.{onInteger, onBoolean, onMark, goTo, following, withCells, written, onPart}
+use Rattle.semantics.specs.Stepping.{onMark, goTo, following, withCells, written, onPart}
 use Rattle.semantics.specs.Stepping.{afterRead, copied, assigned, jumped, returned, received, sent, halted}
 use Rattle.semantics.proofs.Holding.{put-length}
 use Rattle.semantics.proofs.Below.{find-below, eval-below, mark-below}
@@ -93,20 +94,6 @@ module _ {X : Type 0} (rest : List X) (n : ℕ) where
     value-longer (As.Val v) k k′ h = h v
     value-longer (As.Trap t) k k′ h = longer-trap size refl
     value-longer As.Stuck k k′ h = longer-stuck size refl
-
-    integer-longer : (v : Value) (k k′ : ℤ → Next X) → ((z : ℤ) → Longer rest n (k z) (k′ z))
-        → Longer rest n (onInteger s v k) (onInteger (longer rest s) v k′)
-    unfolding onInteger
-    integer-longer (Vs.Int z) k k′ h = h z
-    integer-longer (Vs.Bool b) k k′ h = longer-stuck size refl
-    integer-longer (Vs.Set t) k k′ h = longer-stuck size refl
-
-    boolean-longer : (v : Value) (k k′ : Bool → Next X) → ((b : Bool) → Longer rest n (k b) (k′ b))
-        → Longer rest n (onBoolean s v k) (onBoolean (longer rest s) v k′)
-    unfolding onBoolean
-    boolean-longer (Vs.Bool b) k k′ h = h b
-    boolean-longer (Vs.Int z) k k′ h = longer-stuck size refl
-    boolean-longer (Vs.Set t) k k′ h = longer-stuck size refl
 
     number-longer : (x : Mark) (k k′ : ℕ → Next X) → ((r : ℕ) → Longer rest n (k r) (k′ r))
         → Longer rest n (onMark s x k) (onMark (longer rest s) x k′)
@@ -194,7 +181,8 @@ module _ {X : Type 0} (m : Memory X) (g : Program) (rest : List X) (n : ℕ) (s 
 
   pub jumped-longer : (row : Row) → Longer rest n (jumped m g row s) (jumped m g row (longer rest s))
   unfolding jumped longer following choose
-  jumped-longer row = on-eval (row .a) _ _ (λ v. boolean-longer rest n s size v _ _ go)
+  jumped-longer row = on-eval (row .a) _ _ (λ v.
+      boolean-alike (Longer rest n) (longer-stuck size refl) v _ _ go)
     where
       go : (holds : Bool) → Longer rest n (goes (choose holds (goTo s (s .at .row + 1)) (goTo s (row .b))))
           (goes (choose holds (goTo (longer rest s) (s .at .row + 1)) (goTo (longer rest s) (row .b))))
@@ -221,10 +209,11 @@ module _ {X : Type 0} (m : Memory X) (g : Program) (rest : List X) (n : ℕ) (s 
   pub sent-longer : (row : Row) → Longer rest n (sent m g row s) (sent m g row (longer rest s))
   unfolding sent longer
   sent-longer row =
-      on-eval (row .a) _ _ (λ v. integer-longer rest n s size v _ _ (λ z. choose-longer rest n _
-      (λ e. longer-goes high size refl) (λ e. longer-trap size refl)))
+      on-eval (row .a) _ _ (λ v. integer-alike (Longer rest n) (longer-stuck size refl) v _ _ (λ z.
+      choose-longer rest n _ (λ e. longer-goes high size refl) (λ e. longer-trap size refl)))
 
   pub halted-longer : (row : Row) → Longer rest n (halted m g row s) (halted m g row (longer rest s))
   unfolding halted longer
   halted-longer row =
-      on-eval (row .a) _ _ (λ v. integer-longer rest n s size v _ _ (λ z. longer-trap size refl))
+      on-eval (row .a) _ _ (λ v. integer-alike (Longer rest n) (longer-stuck size refl) v _ _ (λ z.
+      longer-trap size refl))

@@ -46,7 +46,7 @@ use Rattle.semantics.specs.Layout.{ownerFrom, ownerOf, placeOf, kindsOf,
 use Rattle.semantics.specs.Finding.{reach, content, index, withMark, parameterPlace, variablePlace, fieldPlace}
 use Rattle.semantics.specs.Finding.{elementPlace, arrayPlace, guardPlace, testOf, designator, meaningBy}
 use Rattle.semantics.specs.Finding.{meaningOf, findOf, evalOf}
-use Rattle.semantics.specs.Stepping.{onPlace, onValue, onInteger, onBoolean, onMark, goTo, following, withCells}
+use Rattle.semantics.specs.Stepping.{onPlace, onValue, onMark, goTo, following, withCells}
 use Rattle.semantics.specs.Stepping.{written, onPart, otherRecord, copied, assigned, argumentCells, passed}
 use Rattle.semantics.specs.Stepping.{entered, called, jumped, returned, inputAt, afterRead, received, sent}
 use Rattle.semantics.specs.Stepping.{halted, perform, stepOf}
@@ -77,7 +77,7 @@ unfolding isInteger trapNumber integerOf quotientOf divOf modOf divisionOf arith
 integers = tt
 
 unfoldable pub operators : Unit {0}
-unfolding bind bitOf containsOf elementsOf complementOf setsOf booleansOf membershipOf dyadicOf monadicOf decides
+unfolding asBoolean asInteger asSet bind bitOf containsOf elementsOf complementOf setsOf booleansOf membershipOf dyadicOf monadicOf decides
     appliedTo
 operators = tt
 
@@ -136,7 +136,7 @@ unfolding reach content index withMark parameterPlace variablePlace fieldPlace e
 finding = tt
 
 unfoldable pub stepping : Unit {0}
-unfolding onPlace onValue onInteger onBoolean onMark goTo following withCells written onPart otherRecord copied
+unfolding onPlace onValue onMark goTo following withCells written onPart otherRecord copied
     assigned argumentCells passed entered called jumped returned inputAt afterRead received sent halted perform
     stepOf
 stepping = tt

@@ -23,6 +23,7 @@ use Rattle.values.specs.declared.Value.{Value}
 use Rattle.values.specs.declared.Value.the-variants as Vs
 use Rattle.values.specs.declared.Answer.{Answer}
 use Rattle.values.proofs.Cells.{cell-back}
+use Rattle.values.proofs.Cases.{boolean-only, integer-only}
 use Rattle.kinds.specs.declared.KindAnswer.the-variants.{Kind}
 use Rattle.nodes.specs.Nodes.{isDesignator}
 use Rattle.nodes.proofs.Accepted.{Plain, constant-is}
@@ -48,7 +49,7 @@ use Rattle.semantics.specs.declared.Mark.the-variants.{Number}
 use Rattle.semantics.specs.Memory.{LINK, Cell, tagged, markAt, partAt, overwrite}
 use Rattle.semantics.specs.Layout.{Program}
 use Rattle.semantics.specs.Finding.{findOf, evalOf}
-use Rattle.semantics.specs.Stepping.{State, Next, Next.goes, onPlace, onValue, onInteger, onBoolean, onMark}
+use Rattle.semantics.specs.Stepping.{State, Next, Next.goes, onPlace, onValue, onMark}
 use Rattle.semantics.specs.Stepping.{goTo, following, withCells, written, onPart, copied, assigned, jumped}
 use Rattle.semantics.specs.Stepping.{returned, inputAt, afterRead, received, sent, halted, perform, stepOf}
 use Rattle.semantics.specs.Sound.{Want, any-value, exactly, Fits, fits-value, Matched, no-more, one-more, Frame}
@@ -99,20 +100,6 @@ module _ (g : Program) (s : State Cell) where
     unfolding onValue
     on-value-ok k (value {v = v} kind range) f = f v kind range
     on-value-ok k gives-trap f = ok-trapped same
-
-  pub on-integer-ok : (v : Value) (k : ℤ → Next Cell) → kindOf v ≡ INTEGER → ((z : ℤ) → NextOk g s (k z))
-      → NextOk g s (onInteger s v k)
-  unfolding onInteger kindOf
-  on-integer-ok (Vs.Int z) k e f = f z
-  on-integer-ok (Vs.Bool b) k e f = absurd (omega arith)
-  on-integer-ok (Vs.Set t) k e f = absurd (omega arith)
-
-  pub on-boolean-ok : (v : Value) (k : Bool → Next Cell) → kindOf v ≡ BOOLEAN → ((b : Bool) → NextOk g s (k b))
-      → NextOk g s (onBoolean s v k)
-  unfolding onBoolean kindOf
-  on-boolean-ok (Vs.Bool b) k e f = f b
-  on-boolean-ok (Vs.Int z) k e f = absurd (omega arith)
-  on-boolean-ok (Vs.Set t) k e f = absurd (omega arith)
 
   pub on-mark-ok : {m : Mark} {n : ℕ} (k : ℕ → Next Cell) → m ≡ Number n → NextOk g s (k n) → NextOk g s (onMark s m k)
   unfolding onMark
@@ -401,7 +388,7 @@ module _ (g : Program)
       let inside = kind-inside 2 kind (omega arith) (omega arith) (omega arith) in
       let known = form .condition .within in
       on-value-ok g s (unchanged g s) _ (given-here (row .a) BOOLEAN known (ruled .type) (ruled .own) (omega arith))
-      (λ v k range. on-boolean-ok g s v _ k (λ holds.
+      (λ v k range. boolean-only (NextOk g s) v _ k (λ holds.
       ok-either g s holds (gone-ok (s .at .row + 1) inside)
       (gone-ok (row .b) (target-inside (row .b) (form .target)))))
 
@@ -500,7 +487,7 @@ module _ (g : Program)
       let inside = kind-inside 6 kind (omega arith) (omega arith) (omega arith) in
       on-value-ok g s (unchanged g s) _ (given-here (row .a) INTEGER (form .value .within) (ruled .type) (ruled .own)
       (omega arith))
-      (λ v k range. on-integer-ok g s v _ k (λ z.
+      (λ v k range. integer-only (NextOk g s) v _ k (λ z.
       ok-choose g s _
       (λ more. ok-goes (sound-with (s .at .row + 1) (s .at .read) (s .at .written + 1) (s .cells)
       _ inside (sound .holding) refl) refl (length-set (s .output) _ z))
@@ -513,7 +500,7 @@ module _ (g : Program)
       let ruled = rules (ok .questions .rules) (s .at .row) row-within kind .value in
       on-value-ok g s (unchanged g s) _ (given-here (row .a) INTEGER (form .value .within) (ruled .type) (ruled .own)
       (omega arith))
-      (λ v k range. on-integer-ok g s v _ k (λ z. ok-trapped (unchanged g s)))
+      (λ v k range. integer-only (NextOk g s) v _ k (λ z. ok-trapped (unchanged g s)))
 
   -- ---- by the kind
 

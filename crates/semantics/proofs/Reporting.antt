@@ -24,6 +24,7 @@ use Rattle.values.specs.declared.Answer.{Answer}
 use Rattle.values.specs.declared.Answer.the-variants as As
 use Rattle.values.specs.Values.{trapNumber}
 use Rattle.values.proofs.Ranges.{halt-number}
+use Rattle.values.proofs.Cases.{boolean-has, integer-has}
 use Rattle.semantics.specs.declared.Place.{Place}
 use Rattle.semantics.specs.declared.Found.{Found}
 use Rattle.semantics.specs.declared.Found.the-variants as Fs
@@ -32,7 +33,7 @@ use Rattle.semantics.specs.declared.Mark.the-variants.{Number, Nothing}
 use Rattle.semantics.specs.Memory.{LINK, Memory, cellAt, markAt}
 use Rattle.semantics.specs.Layout.{Program}
 use Rattle.semantics.specs.Stepping.{State, Next, Next.goes, Next.finished, Next.trapped, Next.stuck}
-use Rattle.semantics.specs.Stepping.{onPlace, onValue, onInteger, onBoolean, onMark, goTo, following, withCells}
+use Rattle.semantics.specs.Stepping.{onPlace, onValue, onMark, goTo, following, withCells}
 use Rattle.semantics.specs.Stepping.{written, onPart, afterRead, copied, assigned, argumentCells, passed, entered}
 use Rattle.semantics.specs.Stepping.{called, jumped, returned, received, sent, halted, perform, stepOf}
 use Rattle.semantics.specs.Running.{askedBy, raised}
@@ -110,18 +111,6 @@ module _ {X : Type 0} (input : List ℤ) where
     value-reports (As.Val v) k f = f v
     value-reports (As.Trap t) k f = reports-trapped kept (no-number t)
     value-reports As.Stuck k f = reports-stuck kept
-
-    integer-reports : (v : Value) (k : ℤ → Next X) → ((z : ℤ) → Reports asked s (k z)) → Reports asked s (onInteger s′ v k)
-    unfolding onInteger
-    integer-reports (Vs.Int z) k f = f z
-    integer-reports (Vs.Bool b) k f = reports-stuck kept
-    integer-reports (Vs.Set t) k f = reports-stuck kept
-
-    boolean-reports : (v : Value) (k : Bool → Next X) → ((b : Bool) → Reports asked s (k b)) → Reports asked s (onBoolean s′ v k)
-    unfolding onBoolean
-    boolean-reports (Vs.Bool b) k f = f b
-    boolean-reports (Vs.Int z) k f = reports-stuck kept
-    boolean-reports (Vs.Set t) k f = reports-stuck kept
 
     mark-reports : (mark : Mark) (k : ℕ → Next X) → ((n : ℕ) → Reports asked s (k n)) → Reports asked s (onMark s′ mark k)
     unfolding onMark
@@ -207,7 +196,7 @@ module _ {X : Type 0} (input : List ℤ) where
     jumped-reports : (row : Row) → Reports 0 s (jumped m g row s)
     unfolding jumped following
     jumped-reports row =
-        value-reports here _ _ (λ v. boolean-reports here v _ (λ holds.
+        value-reports here _ _ (λ v. boolean-has (Reports 0 s) (reports-stuck here) v _ (λ holds.
         choose-has (λ u. Reports 0 s (goes u)) holds (λ e. went-reports s _) (λ e. went-reports s _)))
 
     -- a link is found below top alone
@@ -254,7 +243,7 @@ module _ {X : Type 0} (input : List ℤ) where
     sent-reports : (row : Row) → Reports 0 s (sent m g row s)
     unfolding sent
     sent-reports row =
-        value-reports here _ _ (λ v. integer-reports here v _ (λ z. choose-has (Reports 0 s) _
+        value-reports here _ _ (λ v. integer-has (Reports 0 s) (reports-stuck here) v _ (λ z. choose-has (Reports 0 s) _
         (λ e. reports-below (record {
           count = omega arith;
           places = length-set (s .output) (s .at .written) z;
@@ -267,7 +256,7 @@ module _ {X : Type 0} (input : List ℤ) where
     halted-reports : (row : Row) → Reports 0 s (halted m g row s)
     unfolding halted
     halted-reports row =
-        value-reports here _ _ (λ v. integer-reports here v _ (λ z.
+        value-reports here _ _ (λ v. integer-has (Reports 0 s) (reports-stuck here) v _ (λ z.
         reports-trapped here (record { halt = λ other. absurd (other halt-number) })))
 
     -- by the kind: a call asks for a top

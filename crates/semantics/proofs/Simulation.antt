@@ -13,6 +13,7 @@ use Rattle.values.specs.declared.Value.the-variants as Vs
 use Rattle.values.specs.declared.Trap.{Trap}
 use Rattle.values.specs.declared.Answer.{Answer}
 use Rattle.values.specs.declared.Answer.the-variants as As
+use Rattle.values.proofs.Cases.{boolean-alike, integer-alike}
 use Rattle.semantics.specs.declared.Place.{Place}
 use Rattle.semantics.specs.declared.Found.{Found}
 use Rattle.semantics.specs.declared.Found.the-variants as Fs
@@ -22,7 +23,7 @@ use Rattle.semantics.specs.Memory.{LINK, ADDRESS, TYPE, Cell, tagged, ba
 use Rattle.semantics.specs.Layout.{Program, placeOf}
 use Rattle.semantics.specs.Finding.{findOf, evalOf}
 use Rattle.semantics.specs.Stepping.{State, Next, Next.goes, Next.finished, Next.trapped, Next.stuck}
-use Rattle.semantics.specs.Stepping.{onPlace, onValue, onInteger, onBoolean, onMark, goTo}
+use Rattle.semantics.specs.Stepping.{onPlace, onValue, onMark, goTo}
 use Rattle.semantics.specs.Stepping.{following, withCells, written, onPart}
 use Rattle.semantics.specs.Stepping.{copied, assigned, argumentCells, passed, entered}
 use Rattle.semantics.specs.Stepping.{called, jumped, returned}
@@ -66,20 +67,6 @@ module _ (s : State Cell) where
   follows-value k l (same {x = As.Val v}) f = f v
   follows-value k l (same {x = As.Trap t}) f = traps refl
   follows-value k l (same {x = As.Stuck}) f = astray
-
-  pub follows-integer : (v : Value) (k : ℤ → Next Cell) (l : ℤ → Next ℤ) → ((z : ℤ) → Follows (k z) (l z))
-      → Follows (onInteger s v k) (onInteger (erase s) v l)
-  unfolding onInteger
-  follows-integer (Vs.Int z) k l f = f z
-  follows-integer (Vs.Bool b) k l f = astray
-  follows-integer (Vs.Set t) k l f = astray
-
-  pub follows-boolean : (v : Value) (k : Bool → Next Cell) (l : Bool → Next ℤ) → ((b : Bool) → Follows (k b) (l b))
-      → Follows (onBoolean s v k) (onBoolean (erase s) v l)
-  unfolding onBoolean
-  follows-boolean (Vs.Int z) k l f = astray
-  follows-boolean (Vs.Bool b) k l f = f b
-  follows-boolean (Vs.Set t) k l f = astray
 
   pub follows-mark : {x y : Mark} (k : ℕ → Next Cell) (l : ℕ → Next ℤ) → Marks x y → ((n : ℕ) → Follows (k n) (l n))
       → Follows (onMark s x k) (onMark (erase s) y l)
@@ -192,7 +179,7 @@ module _ (g : Program) where
 
   jumped-follows : (row : Row) (s : State Cell) → Follows (jumped tagged g row s) (jumped bare g row (erase s))
   unfolding jumped
-  jumped-follows row s = eval-follows g s (row .a) _ _ (λ v. follows-boolean s v _ _ (λ holds.
+  jumped-follows row s = eval-follows g s (row .a) _ _ (λ v. boolean-alike Follows astray v _ _ (λ holds.
       goes-on (choose-rel (λ u u′. u′ ≡ erase u) holds (following-erased s) (went-erased s (row .b)))))
 
   returned-follows : (s : State Cell) → Follows (returned tagged g s) (returned bare g (erase s))
@@ -219,12 +206,12 @@ module _ (g : Program) where
   sent-follows : (row : Row) (s : State Cell) → Follows (sent tagged g row s) (sent bare g row (erase s))
   unfolding sent
   sent-follows row s =
-      eval-follows g s (row .a) _ _ (λ v. follows-integer s v _ _ (λ z.
+      eval-follows g s (row .a) _ _ (λ v. integer-alike Follows astray v _ _ (λ z.
       choose-rel Follows _ (goes-on refl) (traps refl)))
 
   halted-follows : (row : Row) (s : State Cell) → Follows (halted tagged g row s) (halted bare g row (erase s))
   unfolding halted
-  halted-follows row s = eval-follows g s (row .a) _ _ (λ v. follows-integer s v _ _ (λ z. traps refl))
+  halted-follows row s = eval-follows g s (row .a) _ _ (λ v. integer-alike Follows astray v _ _ (λ z. traps refl))
 
   pub perform-follows : (input : List ℤ) (kind : ℕ) (row : Row) (s : State Cell)
       → Follows (perform tagged g input kind row s) (perform bare g input kind row (erase s))

@@ -13,7 +13,7 @@ use Rattle.relations.specs.declared.FieldAnswer.{FieldAnswer}
 use Rattle.relations.specs.declared.FieldAnswer.the-variants.{Missing, Field}
 use Rattle.relations.specs.Extends.{extends}
 use Rattle.relations.specs.Fields.{fieldOf}
-use Rattle.values.specs.Values.{constantOf, bind}
+use Rattle.values.specs.Values.{constantOf, asInteger, bind}
 use Rattle.values.specs.declared.Value.{Value}
 use Rattle.values.specs.declared.Value.the-variants as Vs
 use Rattle.values.specs.declared.Trap.the-variants as Ts
@@ -43,9 +43,7 @@ content Fs.Stuck next = As.Stuck
 
 -- what follows from an index
 unfoldable pub index : Answer → (ℤ → Found) → Found
-index (As.Val (Vs.Int z)) next = next z
-index (As.Val (Vs.Bool b)) next = Fs.Stuck
-index (As.Val (Vs.Set s)) next = Fs.Stuck
+index (As.Val v) next = asInteger Fs.Stuck v next
 index (As.Trap t) next = Fs.Trap t
 index As.Stuck next = Fs.Stuck
 

@@ -13,15 +13,15 @@ use Rattle.values.specs.declared.Answer.the-variants as As
 use Rattle.semantics.specs.declared.Mark.{Mark}
 use Rattle.semantics.specs.declared.Mark.the-variants.{Number, Nothing}
 
--- "A cell is a kind (BOOLEAN, INTEGER, SET, link, address, type)": 0 to 2 are the scalar kinds
+-- "A cell is a kind (BOOLEAN, INTEGER, SET, link, address, type)": the lowest are the scalar kinds
 abbrev pub LINK : ℕ
-LINK = 3
+LINK = 5
 
 abbrev pub ADDRESS : ℕ
-ADDRESS = 4
+ADDRESS = 6
 
 abbrev pub TYPE : ℕ
-TYPE = 5
+TYPE = 7
 
 -- ".. and a number"
 pub record Cell : Type 0 where

@@ -12,7 +12,7 @@ use Rattle.shapes.specs.Sizes.{sizeOf}
 use Rattle.frames.specs.Procedures.{firstVariable}
 use Rattle.statements.specs.Statements.{procedureAt}
 use Rattle.places.specs.Places.{roomFrom, frameSize}
-use Rattle.values.specs.Values.{isInteger}
+use Rattle.values.specs.Values.{isInteger, asBoolean, asInteger}
 use Rattle.values.specs.declared.Value.{Value}
 use Rattle.values.specs.declared.Value.the-variants as Vs
 use Rattle.values.specs.declared.Trap.{Trap}
@@ -66,16 +66,6 @@ module _ {X : Type 0} where
   onValue s (As.Val v) next = next v
   onValue s (As.Trap t) next = trapped t (pos 0) s
   onValue s As.Stuck next = stuck s
-
-  unfoldable pub onInteger : State X → Value → (ℤ → Next X) → Next X
-  onInteger s (Vs.Int z) next = next z
-  onInteger s (Vs.Bool b) next = stuck s
-  onInteger s (Vs.Set t) next = stuck s
-
-  unfoldable pub onBoolean : State X → Value → (Bool → Next X) → Next X
-  onBoolean s (Vs.Bool b) next = next b
-  onBoolean s (Vs.Int z) next = stuck s
-  onBoolean s (Vs.Set t) next = stuck s
 
   unfoldable pub onMark : State X → Mark → (ℕ → Next X) → Next X
   onMark s (Number n) next = next n
@@ -203,7 +193,7 @@ module _ {X : Type 0} where
     unfoldable pub jumped : Row → State X → Next X
     jumped row s =
         onValue s (eval m g s (row .a)) λ v.
-        onBoolean s v λ holds.
+        asBoolean (stuck s) v λ holds.
         goes (choose holds (following s) (goTo s (row .b)))
 
     -- ---- "4 RETURN.": "restores row, base and top (the ended frame's base); in procedure 0 it finishes"
@@ -233,7 +223,7 @@ module _ {X : Type 0} where
     unfoldable pub sent : Row → State X → Next X
     sent row s =
         onValue s (eval m g s (row .a)) λ v.
-        onInteger s v λ z.
+        asInteger (stuck s) v λ z.
         choose (ltb (s .at .written) (length (s .output)))
         (goes (record {
           at = record {
@@ -250,7 +240,7 @@ module _ {X : Type 0} where
 
     -- trap "10 HALT"
     unfoldable pub halted : Row → State X → Next X
-    halted row s = onValue s (eval m g s (row .a)) λ v. onInteger s v λ z. trapped Ts.Halt z s
+    halted row s = onValue s (eval m g s (row .a)) λ v. asInteger (stuck s) v λ z. trapped Ts.Halt z s
 
     -- ---- by the kind
 

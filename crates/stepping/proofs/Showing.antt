@@ -19,10 +19,11 @@ use Rattle.values.specs.declared.Value.{Value}
 use Rattle.values.specs.declared.Value.the-variants as Vs
 use Rattle.values.specs.declared.Answer.{Answer}
 use Rattle.values.specs.declared.Answer.the-variants as As
-use Rattle.values.specs.Values.{numberOf}
+use Rattle.values.specs.Values.{numberOf, asBoolean, asInteger}
 use Rattle.values.proofs.Value.{the-type as valueType}
 use Rattle.values.proofs.Answer.{the-type as answerType}
 use Rattle.values.proofs.Binding.{neither}
+use Rattle.values.proofs.Cases.{is-boolean, is-integer, no-boolean, no-integer}
 use Rattle.values.proofs.Numbers.{fits-integer}
 use Rattle.semantics.specs.declared.Registers.{Registers}
 use Rattle.semantics.specs.declared.Place.{Place}
@@ -32,7 +33,7 @@ use Rattle.semantics.specs.declared.Mark.{Mark}
 use Rattle.semantics.specs.declared.Mark.the-variants.{Number, Nothing}
 use Rattle.semantics.specs.Memory.{Memory, bare, markAt, partAt, overwrite}
 use Rattle.semantics.specs.Layout.{Program}
-use Rattle.semantics.specs.Stepping.{State, Next, Next.goes, Next.stuck, onPlace, onValue, onInteger, onBoolean}
+use Rattle.semantics.specs.Stepping.{State, Next, Next.goes, Next.stuck, onPlace, onValue}
 use Rattle.semantics.specs.Stepping.{onMark, goTo, following, withCells, written, onPart, inputAt, afterRead}
 use Rattle.semantics.proofs.Found.{the-type as foundType}
 use Rattle.cells.proofs.Overwriting.{overwrite-length}
@@ -71,16 +72,14 @@ module _ {s : State ℤ} {r : Step} {cells output : List ℤ} where
   shows-value next e t h = rw (← e, t) h
 
   -- with an INTEGER's number
-  pub shows-integer : {v : Value} {z : ℤ} (next : ℤ → Next ℤ) → v ≡ Vs.Int z
-      → Shows s (next z) r cells output → Shows s (onInteger s v next) r cells output
-  unfolding onInteger
-  shows-integer next t h = rw t h
+  pub shows-integer : {v : Value} {z : ℤ} {x : Next ℤ} (next : ℤ → Next ℤ) → v ≡ Vs.Int z
+      → Shows s (next z) r cells output → Shows s (asInteger x v next) r cells output
+  shows-integer next t h = shows-by (is-integer next t) h
 
   -- with a BOOLEAN's
-  pub shows-boolean : {v : Value} {b : Bool} (next : Bool → Next ℤ) → v ≡ Vs.Bool b
-      → Shows s (next b) r cells output → Shows s (onBoolean s v next) r cells output
-  unfolding onBoolean
-  shows-boolean next t h = rw t h
+  pub shows-boolean : {v : Value} {b : Bool} {x : Next ℤ} (next : Bool → Next ℤ) → v ≡ Vs.Bool b
+      → Shows s (next b) r cells output → Shows s (asBoolean x v next) r cells output
+  shows-boolean next t h = shows-by (is-boolean next t) h
 
   -- with a link's
   pub shows-mark : {mark x : Mark} {n : ℕ} (next : ℕ → Next ℤ) → mark ≡ x → mark ≡ Number n
@@ -127,19 +126,13 @@ module _ {s : State ℤ} {p : Passing} {r : Step} where
 module _ {s : State ℤ} where
   -- a value that is no INTEGER
   pub shows-no-integer : (v : Value) (next : ℤ → Next ℤ) → OneOf (0 ∷ 2 ∷ []) (tagOf valueType v)
-      → Shows s (onInteger s v next) Steps.Stuck (s .cells) (s .output)
-  unfolding onInteger
-  shows-no-integer (Vs.Bool b) next t = shows-stuck refl refl
-  shows-no-integer (Vs.Int z) next t = neither (omega arith) (omega arith) t
-  shows-no-integer (Vs.Set u) next t = shows-stuck refl refl
+      → Shows s (asInteger (stuck s) v next) Steps.Stuck (s .cells) (s .output)
+  shows-no-integer v next t = shows-by (no-integer v next t) (shows-stuck refl refl)
 
   -- no BOOLEAN
   pub shows-no-boolean : (v : Value) (next : Bool → Next ℤ) → OneOf (1 ∷ 2 ∷ []) (tagOf valueType v)
-      → Shows s (onBoolean s v next) Steps.Stuck (s .cells) (s .output)
-  unfolding onBoolean
-  shows-no-boolean (Vs.Bool b) next t = neither (omega arith) (omega arith) t
-  shows-no-boolean (Vs.Int z) next t = shows-stuck refl refl
-  shows-no-boolean (Vs.Set u) next t = shows-stuck refl refl
+      → Shows s (asBoolean (stuck s) v next) Steps.Stuck (s .cells) (s .output)
+  shows-no-boolean v next t = shows-by (no-boolean v next t) (shows-stuck refl refl)
 
   -- a cell that holds no link
   pub shows-no-mark : {mark x : Mark} (next : ℕ → Next ℤ) → mark ≡ x → mark ≡ Nothing

@@ -1,5 +1,6 @@
 pub mod Numbers
 pub mod Binding
+pub mod Cases
 pub mod Cells
 pub mod Giving
 pub mod Ranges

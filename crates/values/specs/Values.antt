@@ -98,6 +98,25 @@ constantOf kind b c =
     (choose (eqb kind INTEGER) (As.Val (Vs.Int (signedOf (b * 65536 + c))))
     (choose (eqb kind SET) (As.Val (Vs.Set (b * 65536 + c))) As.Stuck))
 
+-- ---- what follows from a value of one kind; `other` where it is of another
+
+unfoldable pub asBoolean : {X : Type 0} → X → Value → (Bool → X) → X
+asBoolean other (Vs.Bool b) next = next b
+asBoolean other (Vs.Int z) next = other
+asBoolean other (Vs.Set s) next = other
+
+unfoldable pub asInteger : {X : Type 0} → X → Value → (ℤ → X) → X
+asInteger other (Vs.Bool b) next = other
+asInteger other (Vs.Int z) next = next z
+asInteger other (Vs.Set s) next = other
+
+unfoldable pub asSet : {X : Type 0} → X → Value → (ℕ → X) → X
+asSet other (Vs.Bool b) next = other
+asSet other (Vs.Int z) next = other
+asSet other (Vs.Set s) next = next s
+
+-- ---- answers
+
 -- "A trap in an operand ends the step with that trap": the next operand's turn comes only after a value
 unfoldable pub bind : Answer → (Value → Answer) → Answer
 bind (As.Val v) next = next v

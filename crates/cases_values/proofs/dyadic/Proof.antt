@@ -1,7 +1,7 @@
 -- `cases_values::dyadic` meets its contract: by the kinds of the operands.
 use mathlib.Core.Path.{sym, _∙_}
-use Rattle.operators.specs.Operators.{dyadicOf}
-use Rattle.operators.proofs.Operands.{not-booleans, not-sets}
+use Rattle.operators.proofs.Operands.{two-booleans, two-integers, integer-and-set, two-sets}
+use Rattle.operators.proofs.Operands.{not-booleans, not-integer, not-sets}
 use Rattle.values.proofs.Numbers.{plain32}
 use borrow.Author.Needs.{needs}
 use Rattle.cases_values.proofs.dyadic.Statement.{statement}
@@ -50,34 +50,32 @@ sets-requires : tie.Need-sets-requires
 sets-requires c κs = search needs
 
 returns-3 : tie.Need-returns-3
-unfolding dyadicOf
 returns-3 c =
     c .booleans .ensures
     ∙ rw (c .before .before .before .before .before .left .given .1, c .before .before .right .given .1)
+    (sym (two-booleans _ _ _))
 
 returns-4 : tie.Need-returns-4
-unfolding dyadicOf
-returns-4 c = rw (c .before .before .before .left2 .given .1, c .enum-told .given .1)
+returns-4 c = rw (c .before .before .before .left2 .given .1, c .enum-told .given .1) (sym (not-integer _ _ _))
 
 returns-5 : tie.Need-returns-5
-unfolding dyadicOf
 returns-5 c =
     let v = c .before .before .before .before .before .left2 .given in
     let w = c .before .before .right2 .given in
     c .integers .ensures ∙ rw (v .1, w .1, plain32 (v .0 .0) (search needs), plain32 (w .0 .0) (search needs))
+    (sym (two-integers _ _ _))
 
 returns-6 : tie.Need-returns-6
-unfolding dyadicOf
 returns-6 c =
     let v = c .before .before .before .before .before .left2 .given in
     let w = c .before .before .right3 .given in
-    c .membership .ensures ∙ rw (v .1, w .1, plain32 (v .0 .0) (search needs))
+    c .membership .ensures ∙ rw (v .1, w .1, plain32 (v .0 .0) (search needs)) (sym (integer-and-set _ _ _))
 
 returns-7 : tie.Need-returns-7
-unfolding dyadicOf
 returns-7 c =
     c .sets .ensures
     ∙ rw (c .before .before .before .before .before .left3 .given .1, c .before .before .right4 .given .1)
+    (sym (two-sets _ _ _))
 
 pub dyadic-spec : {M : Type 1} → statement M
 dyadic-spec =

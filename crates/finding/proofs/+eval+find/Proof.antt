@@ -12,7 +12,8 @@ use Rattle.values.specs.declared.Answer.{Answer}
 use Rattle.values.proofs.Binding.{bind-value, bind-other}
 use Rattle.values.proofs.Numbers.{plain32}
 use Rattle.operators.specs.Operators.{dyadicOf, monadicOf, appliedTo}
-use Rattle.operators.proofs.Operands.{not-booleans, not-sets}
+use Rattle.operators.proofs.Operands.{two-booleans, two-integers, integer-and-set, two-sets}
+use Rattle.operators.proofs.Operands.{not-booleans, not-integer, not-sets}
 use Rattle.relations.specs.Fields.{fieldOf}
 use Rattle.semantics.specs.declared.Place.{Place}
 use Rattle.semantics.specs.declared.Found.{Found}
@@ -748,43 +749,38 @@ eval-returns-29 t c =
     ∙ sym (at-narrowed t (o .before .before) ∙ content-object (o .narrowed .given .1) _)
 
 eval-returns-30 : (t : ℕ) → eval-lts.Need-returns-30 (eval-claims t) (eval-at t) eval.Post
-unfolding dyadicOf
 eval-returns-30 t c =
     let x = c .before .before .before .before .before in
     c .booleans .ensures
-    ∙ sym (at-operands t (x .before .before) ∙ rw (x .x .given .1, c .before .before .y .given .1))
+    ∙ sym (at-operands t (x .before .before) ∙ rw (x .x .given .1, c .before .before .y .given .1) (two-booleans _ _ _))
 
 eval-returns-31 : (t : ℕ) → eval-lts.Need-returns-31 (eval-claims t) (eval-at t) eval.Post
-unfolding dyadicOf
 eval-returns-31 t c =
     let x = c .before .before .before in
-    sym (at-operands t (x .before .before) ∙ rw (x .x2 .given .1, c .enum-told .given .1))
+    sym (at-operands t (x .before .before) ∙ rw (x .x2 .given .1, c .enum-told .given .1) (not-integer _ _ _))
 
 eval-returns-32 : (t : ℕ) → eval-lts.Need-returns-32 (eval-claims t) (eval-at t) eval.Post
-unfolding dyadicOf
 eval-returns-32 t c =
     let x = c .before .before .before .before .before in
     let v = x .x2 .given in
     let w = c .before .before .y2 .given in
     c .integers .ensures
     ∙ sym (at-operands t (x .before .before)
-    ∙ rw (v .1, w .1, plain32 (v .0 .0) (search needs), plain32 (w .0 .0) (search needs)))
+    ∙ rw (v .1, w .1, plain32 (v .0 .0) (search needs), plain32 (w .0 .0) (search needs)) (two-integers _ _ _))
 
 eval-returns-33 : (t : ℕ) → eval-lts.Need-returns-33 (eval-claims t) (eval-at t) eval.Post
-unfolding dyadicOf
 eval-returns-33 t c =
     let x = c .before .before .before .before .before in
     let v = x .x2 .given in
     c .membership .ensures
     ∙ sym (at-operands t (x .before .before)
-    ∙ rw (v .1, c .before .before .y3 .given .1, plain32 (v .0 .0) (search needs)))
+    ∙ rw (v .1, c .before .before .y3 .given .1, plain32 (v .0 .0) (search needs)) (integer-and-set _ _ _))
 
 eval-returns-34 : (t : ℕ) → eval-lts.Need-returns-34 (eval-claims t) (eval-at t) eval.Post
-unfolding dyadicOf
 eval-returns-34 t c =
     let x = c .before .before .before .before .before in
     c .sets .ensures
-    ∙ sym (at-operands t (x .before .before) ∙ rw (x .x3 .given .1, c .before .before .y4 .given .1))
+    ∙ sym (at-operands t (x .before .before) ∙ rw (x .x3 .given .1, c .before .before .y4 .given .1) (two-sets _ _ _))
 
 eval-returns-35 : (t : ℕ) → eval-lts.Need-returns-35 (eval-claims t) (eval-at t) eval.Post
 eval-returns-35 t c =
