@@ -1,5 +1,6 @@
 pub mod Choice
 pub mod Rec
 pub mod Parts
+pub mod Each
 pub mod Cells
 pub mod Bits

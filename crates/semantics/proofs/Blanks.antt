@@ -2,25 +2,19 @@
 use mathlib.Core.Path.{_≡_, refl, sym, _∙_, ap}
 use mathlib.Core.Bool.{true}
 use mathlib.Core.List.{List, [], _∷_, _++_, map, append-nil}
-use mathlib.Core.Logic.{_⊎_, inl, inr}
 use Prim.Native.Nat.{ℕ, zero, suc, _+_, _≤_, _<_}
 use native.Mathlib.Omega.{arith}
-use native.Mathlib.Decide.{decLt}
 use borrow.Author.Tests.{leb-true}
-use lib.ListN.{replicate}
-use Rattle.prelude.specs.Choice.{choose}
 use Rattle.prelude.specs.Parts.{joined}
 use Rattle.prelude.proofs.Choice.{also-true}
 use Rattle.prelude.proofs.Parts.{map-append}
-use Rattle.prelude.proofs.Rec.{rec-ind}
-use Rattle.image.specs.declared.Row.{Row}
+use Rattle.prelude.proofs.Each.{Each, Each.none, Each.more, each-append}
 use Rattle.image.specs.Rows.{rowAt}
-use Rattle.shapes.specs.Forms.{formOf, form, ofBase, ownTypes}
-use Rattle.shapes.specs.Sizes.{layoutBy, layoutOf}
-use Rattle.shapes.proofs.Rows.{form-scalar, form-array, form-record, form-none}
-use Rattle.shapes.proofs.Layouts.{decide}
+use Rattle.shapes.specs.Sizes.{layoutOf}
+use Rattle.shapes.proofs.Layouts.{layout-kinds}
 use Rattle.frames.specs.Variables.{isLocal, kindWithin}
-use Rattle.values.specs.Values.{cellOf, booleanCell, integerCell, isInteger, setCell, isSet}
+use Rattle.values.specs.Values.{Scalar}
+use Rattle.values.proofs.Scalars.{below-scalar, scalar-zero}
 use Rattle.semantics.specs.Memory.{Cell, tagged}
 use Rattle.semantics.specs.Layout.{Program, kindsOf, kindsFrom}
 use Rattle.semantics.specs.Sound.{Want, Want.any-value, Fits, Fits.fits-value, Matched, Matched.no-more}
@@ -28,70 +22,17 @@ use Rattle.semantics.specs.Sound.{Matched.one-more, Frame, valuesOf, Slo
 use Rattle.names.specs.Names.{rowsFrom}
 use Rattle.semantics.proofs.Objects.{kinds-value}
 
--- ---- layouts are made of scalar kinds
-
-pub data Scalars : List ℕ → Type 0 where
-  no-kind : Scalars []
-  a-kind : {k : ℕ} {l : List ℕ} → k ≤ 2 → Scalars l → Scalars (k ∷ l)
-
-scalars-append : {l m : List ℕ} → Scalars l → Scalars m → Scalars (l ++ m)
-scalars-append no-kind h = h
-scalars-append (a-kind low s) h = a-kind low (scalars-append s h)
-
-scalars-repeated : (n : ℕ) {l : List ℕ} → Scalars l → Scalars (joined (replicate n l))
-unfolding joined
-scalars-repeated zero h = no-kind
-scalars-repeated (suc n) h = scalars-append h (scalars-repeated n h)
-
-module _ (layout : ℕ → List ℕ) (scalars : (k : ℕ) → Scalars (layout k)) where
-  scalars-joined : (l : List ℕ) → Scalars (joined (map layout l))
-  unfolding joined
-  scalars-joined [] = no-kind
-  scalars-joined (k ∷ l) = scalars-append (scalars k) (scalars-joined l)
-
-  scalars-base : (a : ℕ) → Scalars (ofBase [] layout a)
-  unfolding ofBase
-  scalars-base zero = no-kind
-  scalars-base (suc b) = scalars b
-
-  scalars-by : (f : List ℕ) (row : Row) → Scalars (layoutBy f layout (formOf row))
-  unfolding layoutBy
-  scalars-by f row = go (decLt (row .kind) 3) (decLt 4 (row .kind)) (decide (row .kind) 3)
-    where
-      go : Dec (row .kind < 3) → Dec (4 < row .kind) → (row .kind ≡ 3) ⊎ (row .kind ≡ 3 → ⊥)
-          → Scalars (layoutBy f layout (formOf row))
-      go (yes h) more array = rw (form-scalar row h) (a-kind {k = row .kind} (omega arith) no-kind)
-      go (no h) (yes none) array = rw (form-none row none) no-kind
-      go (no h) (no some) (inl array) = rw (form-array row array) (scalars-repeated (row .b) (scalars (row .a)))
-      go (no h) (no some) (inr other) =
-          rw (form-record row (omega arith))
-          (scalars-append (scalars-base (row .a)) (scalars-joined (ownTypes f (row .b) (row .c))))
-
-pub layout-scalar : (t f : List ℕ) (r : ℕ) → Scalars (layoutOf t f r)
-unfolding layoutOf form
-layout-scalar t f r =
-    rec-ind [] (λ layout k. layoutBy f layout (form t k)) (λ k l. Scalars l)
-    (λ k layout low high. scalars-by layout (λ j. every layout k low high j (decLt j k)) f (rowAt t k)) r
-  where
-    every : (layout : ℕ → List ℕ) (k : ℕ) → ((j : ℕ) → j < k → Scalars (layout j)) → ((j : ℕ) → k ≤ j → layout j ≡ [])
-        → (j : ℕ) → Dec (j < k) → Scalars (layout j)
-    every layout k low high j (yes h) = low j h
-    every layout k low high j (no h) = rw (high j (omega arith)) no-kind
-
 -- ---- a zeroed cell has a value of its kind
 
-blank-fits : (k : ℕ) → k ≤ 2 → Fits (tagged .blank k) (any-value k)
-unfolding tagged cellOf booleanCell integerCell isInteger setCell isSet choose
-blank-fits zero h = fits-value refl refl
-blank-fits (suc zero) h = fits-value refl refl
-blank-fits (suc (suc zero)) h = fits-value refl refl
-blank-fits (suc (suc (suc k))) h = absurd (omega arith)
+blank-fits : {k : ℕ} → Scalar k → Fits (tagged .blank k) (any-value k)
+unfolding tagged
+blank-fits scalar = let (v, e) = scalar-zero scalar in fits-value {v = v} refl e
 
 -- and so have many, before others
-pub blanks-fit : {kinds : List ℕ} {l : List Cell} {w : List Want} → Scalars kinds → Matched Fits l w
+pub blanks-fit : {kinds : List ℕ} {l : List Cell} {w : List Want} → Each Scalar kinds → Matched Fits l w
     → Matched Fits (map (tagged .blank) kinds ++ l) (map any-value kinds ++ w)
-blanks-fit no-kind h = h
-blanks-fit (a-kind {k = k} low s) h = one-more (blank-fits k low) (blanks-fit s h)
+blanks-fit none h = h
+blanks-fit (more scalar s) h = one-more (blank-fits scalar) (blanks-fit s h)
 
 -- ---- variables that are no VAR parameters
 
@@ -105,13 +46,13 @@ module _ (g : Program) where
   slotsFrom k n = map (λ j. valuesOf g (rowAt (g .variables) j .a)) (rowsFrom k n)
 
   pub kinds-scalar : (n k : ℕ) → ((j : ℕ) → k ≤ j → j < k + n → rowAt (g .variables) j .kind ≤ 2)
-      → Scalars (kindsFrom g k n)
+      → Each Scalar (kindsFrom g k n)
   unfolding kindsFrom
-  kinds-scalar zero k low = no-kind
+  kinds-scalar zero k low = none
   kinds-scalar (suc n) k low =
-      scalars-append {l = kindsOf g k}
+      each-append {l = kindsOf g k}
       (rw (kinds-value g k (low k (omega arith) (omega arith)))
-      (layout-scalar (g .types) (g .fields) (rowAt (g .variables) k .a)))
+      (layout-kinds below-scalar (g .types) (g .fields) (rowAt (g .variables) k .a)))
       (kinds-scalar n (k + 1) (λ j a b. low j (omega arith) (omega arith)))
 
   pub slots-matched : (fs : List Frame) (n k : ℕ) → ((j : ℕ) → k ≤ j → j < k + n → rowAt (g .variables) j .kind ≤ 2)

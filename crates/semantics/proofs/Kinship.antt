@@ -1,4 +1,4 @@
--- Laws of extension, of scalar types, of guards, and of the globals that come first.
+-- Laws of extension, of guards, and of the globals that come first.
 use mathlib.Core.Path.{_≡_, refl, _∙_}
 use mathlib.Core.Bool.{Bool, true, false}
 use mathlib.Core.List.{List, [], _∷_, _++_, map}
@@ -16,11 +16,11 @@ use Rattle.prelude.proofs.Choice.{choose-yes, choose-no, choose-cases}
 use Rattle.image.specs.Rows.{rowAt, rowsOf}
 use Rattle.image.specs.Faults.{KeptIn}
 use Rattle.image.proofs.Faults.{kept-next}
-use Rattle.shapes.specs.Forms.{Form, form, baseOf}
-use Rattle.shapes.specs.Sizes.{layoutBy, layoutOf, fieldsOf, offsetOf, sizeOf}
-use Rattle.shapes.proofs.Rows.{form-record}
-use Rattle.shapes.proofs.Accepted.{TypesKept, Shape, Shape.is-scalar, Shape.is-array, Shape.is-record, record-is}
-use Rattle.shapes.proofs.Accepted.{Based, Based.no-base, Based.on-base, layout-is}
+use Rattle.shapes.specs.Forms.{Form, form, baseOf, isSingle}
+use Rattle.shapes.specs.Sizes.{fieldsOf, offsetOf, sizeOf}
+use Rattle.shapes.proofs.Singles.{single-base, single-low}
+use Rattle.shapes.proofs.Accepted.{TypesKept, Shape, Shape.is-scalar, Shape.is-array, Shape.is-record}
+use Rattle.shapes.proofs.Accepted.{Based, Based.no-base, Based.on-base}
 use Rattle.relations.specs.declared.FieldAnswer.{FieldAnswer}
 use Rattle.relations.specs.declared.FieldAnswer.the-variants.{Missing, Field}
 use Rattle.relations.specs.Extends.{extends}
@@ -49,11 +49,13 @@ module _ {t f : List ℕ} {used r : ℕ} where
   shape-base (is-array l a b c) e = absurd (omega arith)
   shape-base (is-record l on rows own) e = base-record on e
 
-  shape-scalar : {x : Form} (layout : ℕ → List ℕ) → r ≤ 2 → Shape t f used r x → layoutBy f layout x ≡ r ∷ []
-  unfolding layoutBy
-  shape-scalar layout h (is-scalar l) = refl
-  shape-scalar layout h (is-array l a b c) = absurd (omega arith)
-  shape-scalar layout h (is-record l on rows own) = absurd (omega arith)
+-- a single cell's type extends itself alone
+pub single-extends : (t : List ℕ) (r u : ℕ) → isSingle t r ≡ true → extends t r u ≡ true → r ≡ u
+single-extends t r u single e = go (extends-yes t r u e)
+  where
+    go : {u : ℕ} → Extends t r u → r ≡ u
+    go same = refl
+    go (up base low e) = absurd (omega (arith, single-base t r single))
 
 -- an extension stands in no lower row
 pub extends-low : (t : List ℕ) (r u : ℕ) → extends t r u ≡ true → u ≤ r
@@ -70,20 +72,10 @@ module _ (t f : List ℕ) (kept : TypesKept t f) where
   pub extends-other : (r u : ℕ) → extends t r u ≡ true → r < rowsOf t → (rowAt t u .kind ≡ 4 → ⊥) → r ≡ u
   extends-other r u e h other = extended-other (extends-yes t r u e) h other
 
-  -- a scalar type is no record
-  pub scalar-other : (r : ℕ) → r ≤ 2 → r < rowsOf t → rowAt t r .kind ≡ 4 → ⊥
-  unfolding form
-  scalar-other r h low kind =
-      let later = record-is (kept .row r low .shape) (form-record (rowAt t r) kind) .later in
-      omega arith
-
-  pub extends-scalar : (r u : ℕ) → u ≤ 2 → u < rowsOf t → extends t r u ≡ true → r < rowsOf t → r ≡ u
-  extends-scalar r u h low e within = extends-other r u e within (scalar-other u h low)
-
-  pub scalar-layout : (r : ℕ) → r ≤ 2 → r < rowsOf t → layoutOf t f r ≡ r ∷ []
-  scalar-layout r h low =
-      let shape = kept .row r low .shape in
-      layout-is t f r shape ∙ shape-scalar (layoutOf t f) h shape
+  -- nor has a single cell's type any extension but itself
+  pub extends-single : (r u : ℕ) → isSingle t u ≡ true → extends t r u ≡ true → r < rowsOf t → r ≡ u
+  extends-single r u single e within =
+      extends-other r u e within (λ kind. let low = single-low t u single in absurd (omega arith))
 
   -- a record's fields are an extension's too, at the same places
   pub extension-field : (r u n : ℕ) {offset x : ℕ} → extends t r u ≡ true → r < rowsOf t

@@ -8,6 +8,7 @@ use Rattle.prelude.specs.Choice.{choose}
 use Rattle.prelude.specs.Rec.{rec}
 use Rattle.image.specs.declared.Row.{Row}
 use Rattle.image.specs.Rows.{rowAt}
+use Rattle.shapes.specs.Forms.{kindIn}
 use Rattle.shapes.specs.Sizes.{sizeOf}
 use Rattle.relations.specs.declared.FieldAnswer.{FieldAnswer}
 use Rattle.relations.specs.declared.FieldAnswer.the-variants.{Missing, Field}
@@ -113,21 +114,23 @@ abbrev pub expression : Answer → Meaning
 expression answer = record { place = Fs.Stuck; value = answer }
 
 -- "an expression's operand may be a designator, found first": then its cell is read
-unfoldable pub designator : {X : Type 0} → Memory X → ℕ → List X → Found → Meaning
-designator m top cells found =
-    record { place = found; value = content found λ place. valueAt m top cells (place .declared) (place .address) }
+unfoldable pub designator : {X : Type 0} → Memory X → Program → ℕ → List X → Found → Meaning
+designator m g top cells found = record {
+  place = found;
+  value = content found λ place. valueAt m top cells (kindIn (g .types) (place .declared)) (place .address);
+}
 
 -- "Operands go left to right", by the kind; "8 argument holding a"
 unfoldable pub meaningBy : {X : Type 0} → Memory X → Program → ℕ → ℕ → List X → (ℕ → Meaning) → ℕ → Row → Meaning
 meaningBy m g base top cells child kind row =
     let variable : Found = variablePlace m g base top cells (row .a) (rowAt (g .variables) (row .a)) in
     choose (eqb kind 0) (expression (constantOf (row .a) (row .b) (row .c)))
-    (choose (eqb kind 1) (designator m top cells variable)
-    (choose (eqb kind 2) (designator m top cells (reach (child (row .a) .place) λ whole.
+    (choose (eqb kind 1) (designator m g top cells variable)
+    (choose (eqb kind 2) (designator m g top cells (reach (child (row .a) .place) λ whole.
     fieldPlace whole (fieldOf (g .types) (g .fields) (whole .declared) (row .b))))
-    (choose (eqb kind 3) (designator m top cells (reach (child (row .a) .place) λ whole.
+    (choose (eqb kind 3) (designator m g top cells (reach (child (row .a) .place) λ whole.
     arrayPlace g whole (child (row .b) .value)))
-    (choose (eqb kind 4) (designator m top cells (reach variable (guardPlace g (row .b))))
+    (choose (eqb kind 4) (designator m g top cells (reach variable (guardPlace g (row .b))))
     (choose (eqb kind 5) (expression (bind (child (row .a) .value) λ left.
     appliedTo (row .c) left (child (row .b) .value)))
     (choose (eqb kind 6) (expression (bind (child (row .a) .value) λ operand. monadicOf (row .c) operand))

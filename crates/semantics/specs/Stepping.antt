@@ -8,6 +8,7 @@ use lib.ListN.{length, getD, set}
 use Rattle.prelude.specs.Choice.{choose, _also_}
 use Rattle.image.specs.declared.Row.{Row}
 use Rattle.image.specs.Rows.{rowAt}
+use Rattle.shapes.specs.Forms.{isSingle}
 use Rattle.shapes.specs.Sizes.{sizeOf}
 use Rattle.frames.specs.Procedures.{firstVariable}
 use Rattle.statements.specs.Statements.{procedureAt}
@@ -132,7 +133,7 @@ module _ {X : Type 0} where
     unfoldable pub assigned : Row → Next X
     assigned row =
         onPlace s (find (row .a)) λ target.
-        choose (leb (target .declared) 2)
+        choose (isSingle (g .types) (target .declared))
         (onValue s (eval (row .b)) λ v. written s (target .address) (m .put v ∷ []))
         (onPlace s (find (row .b)) λ source. copied target source)
 
@@ -143,7 +144,7 @@ module _ {X : Type 0} where
     argumentCells k parameter next =
         choose (eqb (parameter .kind) 3)
         (onPlace s (find k) λ place. next (m .mark ADDRESS (place .address) ∷ m .mark TYPE (place .dynamic) ∷ []))
-        (choose (leb (parameter .a) 2)
+        (choose (isSingle (g .types) (parameter .a))
         (onValue s (eval k) λ v. next (m .put v ∷ []))
         (onPlace s (find k) λ place. onPart s (place .address) (sizeOf (g .types) (g .fields) (parameter .a)) next))
 

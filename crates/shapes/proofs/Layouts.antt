@@ -12,13 +12,14 @@ use lib.Dec.{eqb}
 use lib.ListN.{length, take, replicate, length-append}
 use Rattle.prelude.specs.Parts.{joined, sum, Nth, Part}
 use Rattle.prelude.proofs.Parts.{nth-nil, nth-map, nth-replicate, part-joined, joined-replicate, joined-map-append, take-map}
-use Rattle.prelude.proofs.Rec.{rec-rel}
+use Rattle.prelude.proofs.Each.{Each, Each.none, Each.more, each-append, each-repeated, each-joined}
+use Rattle.prelude.proofs.Rec.{rec-rel, rec-ind}
 use Rattle.image.specs.declared.Row.{Row}
 use Rattle.image.specs.Rows.{rowAt, rowsOf}
 use Rattle.shapes.specs.Forms.{Form, Form.scalar, Form.array, Form.recordOf, Form.noForm, formOf, form, ofBase}
 use Rattle.shapes.specs.Forms.{ownTypes}
 use Rattle.shapes.specs.Sizes.{sizeBy, sizeOf, layoutBy, layoutOf, fieldsBy, fieldsOf, offsetOf}
-use Rattle.shapes.proofs.Rows.{form-record, by-form}
+use Rattle.shapes.proofs.Rows.{form-record, by-form, by-any-form}
 use Rattle.shapes.proofs.Accepted.{Based, Based.no-base, Based.on-base, TypesKept, record-is, layout-is}
 use Rattle.shapes.proofs.Accepted.{fields-are}
 
@@ -62,6 +63,35 @@ layout-length t f r =
         → ((j : ℕ) → k ≤ j → (g j ≡ []) × (g′ j ≡ 0)) → (j : ℕ) → Dec (j < k) → length (g j) ≡ g′ j
     both g g′ k low high j (yes h) = low j h
     both g g′ k low high j (no h) = let (p, q) = high j (omega arith) in rw (p, q)
+
+-- ---- a layout is made of scalar kinds
+
+module _ {P : ℕ → Type 0} (scalars : (k : ℕ) → k < 3 → P k) where
+  base-kinds : (layout : ℕ → List ℕ) → ((r : ℕ) → Each P (layout r)) → (a : ℕ) → Each P (ofBase [] layout a)
+  unfolding ofBase
+  base-kinds layout h zero = none
+  base-kinds layout h (suc b) = h b
+
+  kinds-by : (f : List ℕ) (layout : ℕ → List ℕ) → ((r : ℕ) → Each P (layout r)) → (row : Row)
+      → Each P (layoutBy f layout (formOf row))
+  unfolding layoutBy
+  kinds-by f layout h row =
+      by-any-form row (λ x. Each P (layoutBy f layout x))
+      (λ k low. more (scalars k low) none)
+      (λ e n. each-repeated n (h e))
+      (λ base first count. each-append (base-kinds layout h base) (each-joined layout h (ownTypes f first count)))
+      none
+
+  pub layout-kinds : (t f : List ℕ) (r : ℕ) → Each P (layoutOf t f r)
+  unfolding layoutOf form
+  layout-kinds t f r =
+      rec-ind [] (λ layout k. layoutBy f layout (form t k)) (λ k l. Each P l)
+      (λ k layout low high. kinds-by f layout (λ j. every layout k low high j (decLt j k)) (rowAt t k)) r
+    where
+      every : (layout : ℕ → List ℕ) (k : ℕ) → ((j : ℕ) → j < k → Each P (layout j)) → ((j : ℕ) → k ≤ j → layout j ≡ [])
+          → (j : ℕ) → Dec (j < k) → Each P (layout j)
+      every layout k low high j (yes h) = low j h
+      every layout k low high j (no h) = rw (high j (omega arith)) none
 
 -- ---- parts of an accepted table's layouts
 

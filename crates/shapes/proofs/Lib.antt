@@ -1,3 +1,4 @@
 pub mod Rows
 pub mod Accepted
+pub mod Singles
 pub mod Layouts

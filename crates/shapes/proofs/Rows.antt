@@ -41,6 +41,17 @@ module _ (r : Row) where
   unfolding formOf choose
   form-none h = rw (lt-leb (r .kind) 2 (omega arith), ne-eqb (r .kind) 3 (omega arith), ne-eqb (r .kind) 4 (omega arith))
 
+  -- what holds of every form holds of a row's
+  pub by-any-form : (P : Form → Type 0) → ((k : ℕ) → k < 3 → P (scalar k)) → ((e n : ℕ) → P (array e n))
+      → ((base first count : ℕ) → P (recordOf base first count)) → P noForm → P (formOf r)
+  by-any-form P s a c n = go (decLt (r .kind) 3) (decLt 3 (r .kind)) (decLt 4 (r .kind))
+    where
+      go : Dec (r .kind < 3) → Dec (3 < r .kind) → Dec (4 < r .kind) → P (formOf r)
+      go (yes l) d e = rw (form-scalar l) (s (r .kind) l)
+      go (no l) (no m) e = rw (form-array (omega arith)) (a (r .a) (r .b))
+      go (no l) (yes m) (no h) = rw (form-record (omega arith)) (c (r .a) (r .b) (r .c))
+      go (no l) (yes m) (yes h) = rw (form-none h) n
+
   -- what holds of every other form holds of a row that is no record
   pub by-form : (P : Form → Type 0) → ((k : ℕ) → P (scalar k)) → ((e n : ℕ) → P (array e n)) → P noForm → (r .kind ≡ 4 → ⊥) → P (formOf r)
   by-form P s a n h = go (decLt (r .kind) 3) (decLt 4 (r .kind))

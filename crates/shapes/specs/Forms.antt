@@ -1,5 +1,6 @@
 -- What a row of the types table is.
 use Prim.Native.Nat.{ℕ, zero, suc, _+_}
+use mathlib.Core.Bool.{Bool, not}
 use mathlib.Core.List.{List, [], _∷_}
 use lib.Dec.{leb, eqb}
 use Rattle.prelude.specs.Choice.{choose}
@@ -37,6 +38,24 @@ countOf (scalar kind) = 0
 countOf (array element n) = 0
 countOf (recordOf base first count) = count
 countOf noForm = 0
+
+-- "A type's layout is its list of scalar kinds": the kind of a scalar's one cell; an array or a record has none
+abbrev pub NO_KIND : ℕ
+NO_KIND = 255
+
+unfoldable pub kindBy : Form → ℕ
+kindBy (scalar kind) = kind
+kindBy (array element n) = NO_KIND
+kindBy (recordOf base first count) = NO_KIND
+kindBy noForm = NO_KIND
+
+-- of type row r of the table t
+unfoldable pub kindIn : List ℕ → ℕ → ℕ
+kindIn t r = kindBy (form t r)
+
+-- an object of type row r is a single cell with a value of that kind
+unfoldable pub isSingle : List ℕ → ℕ → Bool
+isSingle t r = not (eqb (kindIn t r) NO_KIND)
 
 -- what a record takes over from its base: `none` where it has no base
 unfoldable pub ofBase : {X : Type 0} → X → (ℕ → X) → ℕ → X

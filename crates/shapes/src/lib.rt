@@ -4,7 +4,7 @@ ghost use mathlib.Core.Path.{_≡_};
 ghost use Prim.Native.Nat.{_+_, _≤_, _<_};
 ghost use Rattle.image.specs.Faults.{allFrom};
 ghost use Rattle.image.specs.Rows.{rowsOf};
-ghost use Rattle.shapes.specs.Forms.{formOf, baseOf, countOf};
+ghost use Rattle.shapes.specs.Forms.{formOf, baseOf, countOf, kindBy, kindIn};
 ghost use Rattle.shapes.specs.Shapes.{scalarKept, arrayKept, fieldKept, baseKept, recordKept, laterKept};
 ghost use Rattle.shapes.specs.Shapes.{shapeKept};
 
@@ -162,4 +162,21 @@ pub fn base_of(row: Row) -> u16
     let kind = row.kind;
     let a = row.a;
     if kind == 4 { a } else { 0 }
+}
+
+// The kind of a type row whose objects are single cells; 255 of any other.
+pub const NO_KIND: u16 = 255;
+
+pub fn kind_of(row: Row) -> u16
+    ensures { λ x. ⌜ x ≡ kindBy (formOf row) ⌝ }
+{
+    let kind = row.kind;
+    if kind < 3 { kind as u16 } else { NO_KIND }
+}
+
+// That of type row r.
+pub fn kind_in(t: &[u8], r: u16) -> u16
+    ensures { λ x. ⌜ x ≡ kindIn (now (t .entry)) r ⌝ }
+{
+    kind_of(image::row_at(t, r as usize))
 }

@@ -15,7 +15,10 @@ use Rattle.image.specs.declared.Verdict.the-variants.{Kept}
 use Rattle.image.specs.Rows.{rowAt, rowsOf}
 use Rattle.image.proofs.Faults.{verdict-kept}
 use Rattle.values.specs.Values.{BOOLEAN, INTEGER}
+use Rattle.values.proofs.Scalars.{scalar-below}
 use Rattle.kinds.specs.Kinds.{dyadicKind, monadicKind}
+use Rattle.kinds.proofs.Scalars.{dyadic-scalar, monadic-scalar}
+use Rattle.shapes.specs.Forms.{kindIn}
 use Rattle.kinds.specs.declared.KindAnswer.{KindAnswer}
 use Rattle.kinds.specs.declared.KindAnswer.the-variants.{Untyped, Kind}
 use Rattle.relations.specs.declared.FieldAnswer.{FieldAnswer}
@@ -35,7 +38,7 @@ use Rattle.frames.proofs.Accepted.{variables-kept}
 use Rattle.typing.specs.Typing.{typed, variableNode, fieldType, fieldNode, elementType, elementNode, narrows}
 use Rattle.typing.specs.Typing.{narrowNode, dyadicNode, monadicNode, typeBy, typeOf, hasType, question10}
 use Rattle.typing.proofs.Passing.{type-missing}
-use Rattle.typing.proofs.Lower.{dyadic-low, monadic-low, field-row, element-row}
+use Rattle.typing.proofs.Lower.{field-row, element-row}
 
 -- ---- the types that the kinds ask for
 
@@ -67,12 +70,12 @@ pub record DyadicTyped (t f v n : List ℕ) (r x : ℕ) : Type 0 where
   pub right : ℕ
   pub left-type : typeOf t f v n (rowAt n r .a) ≡ Kind left
   pub right-type : typeOf t f v n (rowAt n r .b) ≡ Kind right
-  pub result : dyadicKind (rowAt n r .c) left right ≡ Kind x
+  pub result : dyadicKind (rowAt n r .c) (kindIn t left) (kindIn t right) ≡ Kind x
 
 pub record MonadicTyped (t f v n : List ℕ) (r x : ℕ) : Type 0 where
   pub operand : ℕ
   pub operand-type : typeOf t f v n (rowAt n r .a) ≡ Kind operand
-  pub result : monadicKind (rowAt n r .c) operand ≡ Kind x
+  pub result : monadicKind (rowAt n r .c) (kindIn t operand) ≡ Kind x
 
 pub record TestTyped (t v n : List ℕ) (r x : ℕ) : Type 0 where
   pub narrowing : Narrowing t v (rowAt n r .a) (rowAt n r .b)
@@ -270,9 +273,11 @@ module _ (t f v n : List ℕ) (types : TypesKept t f) (scalars : 3 ≤ rowsOf t)
       rw (e .element) (element-row t f types (e .whole) whole (e .array))
   low-node r x h ih (by-guard k e) = rw (e .guarded) (guard-is t v n nodes r h k .typed)
   low-node r x h ih (by-dyadic k e) =
-      let low = dyadic-low (rowAt n r .c) (e .left) (e .right) x (e .result) in
+      let low = scalar-below (dyadic-scalar (rowAt n r .c) _ _ x (e .result) .given-scalar) in
       omega arith
-  low-node r x h ih (by-monadic k e) = let low = monadic-low (rowAt n r .c) (e .operand) x (e .result) in omega arith
+  low-node r x h ih (by-monadic k e) =
+      let low = scalar-below (monadic-scalar (rowAt n r .c) _ x (e .result) .1) in
+      omega arith
   low-node r x h ih (by-test k e) = let zero-row = e .boolean in omega arith
   low-node r x h ih (by-argument k e) = ih (rowAt n r .a) (argument-is t v n nodes r h k .holds .low) x e
 

@@ -17,11 +17,12 @@ use Rattle.relations.specs.declared.FieldAnswer.the-variants.{Missing, Field}
 use Rattle.relations.specs.Extends.{extends}
 use Rattle.relations.specs.Fields.{fieldOf}
 use Rattle.values.specs.Values.{BOOLEAN, INTEGER}
+use Rattle.shapes.specs.Forms.{kindIn}
 use Rattle.kinds.specs.Kinds.{dyadicKind, monadicKind}
 use Rattle.kinds.specs.declared.KindAnswer.{KindAnswer}
 use Rattle.kinds.specs.declared.KindAnswer.the-variants.{Untyped, Kind}
 
--- A type is a row of the types table. A scalar's row is its kind, so that operators give types too.
+-- A type is a row of the types table. A scalar's row is its kind, so that the kind that an operator gives is a type.
 
 -- what follows from a child's type; no type where the child has none
 unfoldable pub typed : KindAnswer → (ℕ → KindAnswer) → KindAnswer
@@ -59,12 +60,13 @@ unfoldable pub narrowNode : List ℕ → List ℕ → Row → ℕ → KindAnswer
 narrowNode t v row r = choose (narrows t v (row .a) (row .b)) (Kind r) Untyped
 
 -- "5 dyadic a, b, operator c"
-unfoldable pub dyadicNode : (ℕ → KindAnswer) → Row → KindAnswer
-dyadicNode type row = typed (type (row .a)) λ left. typed (type (row .b)) λ right. dyadicKind (row .c) left right
+unfoldable pub dyadicNode : List ℕ → (ℕ → KindAnswer) → Row → KindAnswer
+dyadicNode t type row =
+    typed (type (row .a)) λ left. typed (type (row .b)) λ right. dyadicKind (row .c) (kindIn t left) (kindIn t right)
 
 -- "6 monadic a, operator c"
-unfoldable pub monadicNode : (ℕ → KindAnswer) → Row → KindAnswer
-monadicNode type row = typed (type (row .a)) λ operand. monadicKind (row .c) operand
+unfoldable pub monadicNode : List ℕ → (ℕ → KindAnswer) → Row → KindAnswer
+monadicNode t type row = typed (type (row .a)) λ operand. monadicKind (row .c) (kindIn t operand)
 
 -- by the kind, from the types of lower rows; "8 argument holding a, with its type"
 unfoldable pub typeBy : List ℕ → List ℕ → List ℕ → (ℕ → KindAnswer) → ℕ → Row → KindAnswer
@@ -74,8 +76,8 @@ typeBy t f v type kind row =
     (choose (eqb kind 2) (fieldNode t f type row)
     (choose (eqb kind 3) (elementNode t type row)
     (choose (eqb kind 4) (narrowNode t v row (row .b))
-    (choose (eqb kind 5) (dyadicNode type row)
-    (choose (eqb kind 6) (monadicNode type row)
+    (choose (eqb kind 5) (dyadicNode t type row)
+    (choose (eqb kind 6) (monadicNode t type row)
     (choose (eqb kind 7) (narrowNode t v row BOOLEAN)
     (choose (eqb kind 8) (type (row .a)) Untyped))))))))
 

@@ -91,8 +91,8 @@ fn narrow_node(t: &[u8], v: &[u8], row: Row, given: u16) -> KindAnswer
     KindAnswer::Untyped
 }
 
-fn dyadic_node(types: &[u16], row: Row) -> KindAnswer
-    ensures { λ x. ⌜ x ≡ dyadicNode (typeIn (now (types .entry))) row ⌝ }
+fn dyadic_node(t: &[u8], types: &[u16], row: Row) -> KindAnswer
+    ensures { λ x. ⌜ x ≡ dyadicNode (now (t .entry)) (typeIn (now (types .entry))) row ⌝ }
 {
     let a = row.a;
     let b = row.b;
@@ -103,18 +103,21 @@ fn dyadic_node(types: &[u16], row: Row) -> KindAnswer
     let KindAnswer::Kind(right) = type_at(types, b as usize) else {
         return KindAnswer::Untyped;
     };
-    kinds::dyadic_kind(c, left, right)
+    let first = shapes::kind_in(t, left);
+    let second = shapes::kind_in(t, right);
+    kinds::dyadic_kind(c, first, second)
 }
 
-fn monadic_node(types: &[u16], row: Row) -> KindAnswer
-    ensures { λ x. ⌜ x ≡ monadicNode (typeIn (now (types .entry))) row ⌝ }
+fn monadic_node(t: &[u8], types: &[u16], row: Row) -> KindAnswer
+    ensures { λ x. ⌜ x ≡ monadicNode (now (t .entry)) (typeIn (now (types .entry))) row ⌝ }
 {
     let a = row.a;
     let c = row.c;
     let KindAnswer::Kind(operand) = type_at(types, a as usize) else {
         return KindAnswer::Untyped;
     };
-    kinds::monadic_kind(c, operand)
+    let kind = shapes::kind_in(t, operand);
+    kinds::monadic_kind(c, kind)
 }
 
 fn variable_node(v: &[u8], row: Row) -> KindAnswer
@@ -138,8 +141,8 @@ fn node_type(t: &[u8], f: &[u8], plan: &[u32], v: &[u8], types: &[u16], row: Row
         2 => field_node(t, f, plan, types, row),
         3 => element_node(t, types, row),
         4 => narrow_node(t, v, row, row.b),
-        5 => dyadic_node(types, row),
-        6 => monadic_node(types, row),
+        5 => dyadic_node(t, types, row),
+        6 => monadic_node(t, types, row),
         7 => narrow_node(t, v, row, 0),
         8 => type_at(types, row.a as usize),
         _ => KindAnswer::Untyped,

@@ -23,6 +23,12 @@ INTEGER = 1
 abbrev pub SET : ℕ
 SET = 2
 
+-- the scalar kinds
+pub data Scalar : ℕ → Type 0 where
+  a-boolean : Scalar BOOLEAN
+  an-integer : Scalar INTEGER
+  a-set : Scalar SET
+
 -- the kind of a value
 unfoldable pub kindOf : Value → ℕ
 kindOf (Vs.Bool b) = BOOLEAN

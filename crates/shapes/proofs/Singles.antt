@@ -1,0 +1,99 @@
+-- Laws of types whose objects are single cells.
+use mathlib.Core.Path.{_≡_, refl, sym, _∙_, ap}
+use mathlib.Core.Bool.{true, false}
+use mathlib.Core.List.{List, [], _∷_}
+use Prim.Native.Nat.{ℕ, _≤_, _<_}
+use native.Mathlib.Omega.{arith}
+use native.Mathlib.Decide.{decLt}
+use borrow.Author.Tests.{eqb-false, ne-eqb, not-true}
+use Rattle.image.specs.declared.Row.{Row}
+use Rattle.image.specs.Rows.{rowAt, rowsOf}
+use Rattle.image.proofs.Bytes.{row-there}
+use Rattle.shapes.specs.Forms.{Form, Form.scalar, Form.array, Form.recordOf, Form.noForm, formOf, form}
+use Rattle.shapes.specs.Forms.{baseOf, NO_KIND, kindBy, kindIn, isSingle}
+use Rattle.shapes.specs.Sizes.{sizeBy, sizeOf, layoutBy, layoutOf, fieldsBy, fieldsOf}
+use Rattle.shapes.proofs.Rows.{form-scalar, form-array, form-record, form-none}
+use Rattle.shapes.proofs.Accepted.{Shape, Shape.is-scalar, Shape.is-array, Shape.is-record, TypesKept, size-is}
+use Rattle.shapes.proofs.Accepted.{layout-is, fields-are}
+
+-- ---- a row's kind
+
+module _ (row : Row) where
+  pub scalar-kind : row .kind < 3 → kindBy (formOf row) ≡ row .kind
+  unfolding kindBy
+  scalar-kind h = rw (form-scalar row h)
+
+  pub no-scalar : 3 ≤ row .kind → kindBy (formOf row) ≡ NO_KIND
+  unfolding kindBy
+  no-scalar h = go (decLt 3 (row .kind)) (decLt 4 (row .kind))
+    where
+      go : Dec (3 < row .kind) → Dec (4 < row .kind) → kindBy (formOf row) ≡ NO_KIND
+      go (no l) d = rw (form-array row (omega arith))
+      go (yes l) (no m) = rw (form-record row (omega arith))
+      go (yes l) (yes m) = rw (form-none row m)
+
+-- what has a kind is a scalar
+kind-form : (x : Form) → (kindBy x ≡ NO_KIND → ⊥) → x ≡ scalar (kindBy x)
+unfolding kindBy
+kind-form (scalar kind) h = refl
+kind-form (array element n) h = absurd (h refl)
+kind-form (recordOf base first count) h = absurd (h refl)
+kind-form noForm h = absurd (h refl)
+
+-- ---- a type row's
+
+module _ (t : List ℕ) (r : ℕ) where
+  pub single-kind : isSingle t r ≡ true → kindIn t r ≡ NO_KIND → ⊥
+  unfolding isSingle
+  single-kind e = eqb-false (kindIn t r) NO_KIND (not-true _ e)
+
+  pub kind-single : (kindIn t r ≡ NO_KIND → ⊥) → isSingle t r ≡ true
+  unfolding isSingle
+  kind-single h = rw (ne-eqb (kindIn t r) NO_KIND h)
+
+  single-form : isSingle t r ≡ true → form t r ≡ scalar (kindIn t r)
+  unfolding kindIn
+  single-form e = kind-form (form t r) (single-kind e)
+
+  -- it has no base
+  pub single-base : isSingle t r ≡ true → baseOf (form t r) ≡ 0
+  unfolding baseOf
+  single-base e = rw (single-form e)
+
+  -- it is neither an array nor a record
+  pub single-low : isSingle t r ≡ true → rowAt t r .kind < 3
+  single-low e = go (decLt (rowAt t r .kind) 3)
+    where
+      go : Dec (rowAt t r .kind < 3) → rowAt t r .kind < 3
+      go (yes l) = l
+      go (no l) = absurd (single-kind e (unfold kindIn form in no-scalar (rowAt t r) (omega arith)))
+
+  pub single-there : isSingle t r ≡ true → r < rowsOf t
+  single-there e = let low = single-low e in row-there t r (omega arith)
+
+-- ---- of an accepted table
+
+module _ (t f : List ℕ) (kept : TypesKept t f) (r : ℕ) where
+  module _ (single : isSingle t r ≡ true) where
+    pub single-size : sizeOf t f r ≡ 1
+    unfolding sizeBy
+    single-size = size-is t f r (kept .row r (single-there t r single) .shape) ∙ rw (single-form t r single)
+
+    pub single-layout : layoutOf t f r ≡ kindIn t r ∷ []
+    unfolding layoutBy
+    single-layout = layout-is t f r (kept .row r (single-there t r single) .shape) ∙ rw (single-form t r single)
+
+    pub single-fields : fieldsOf t f r ≡ []
+    unfolding fieldsBy
+    single-fields = fields-are t f r (kept .row r (single-there t r single) .shape) ∙ rw (single-form t r single)
+
+  shape-kind : {used : ℕ} {x : Form} → Shape t f used r x → r < 3 → kindBy x ≡ r
+  unfolding kindBy
+  shape-kind (is-scalar l) h = refl
+  shape-kind (is-array l a b c) h = absurd (omega arith)
+  shape-kind (is-record l on rows own) h = absurd (omega arith)
+
+  -- "Rows 0, 1, 2 are kinds 0 BOOLEAN, 1 INTEGER, 2 SET."
+  pub scalar-row : r < 3 → r < rowsOf t → kindIn t r ≡ r
+  unfolding kindIn
+  scalar-row h low = shape-kind (kept .row r low .shape) h
