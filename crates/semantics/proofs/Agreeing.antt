@@ -12,6 +12,7 @@ use Rattle.prelude.proofs.Rec.{rec-rel}
 use Rattle.prelude.proofs.Parts.{take-map, map-append}
 use Rattle.image.specs.declared.Row.{Row}
 use Rattle.image.specs.Rows.{rowAt}
+use Rattle.shapes.specs.Forms.{kindIn}
 use Rattle.values.specs.Values.{bind}
 use Rattle.values.specs.declared.Value.{Value}
 use Rattle.values.specs.declared.Answer.{Answer}
@@ -202,11 +203,12 @@ module _ (g : Program) (base top : ℕ) (cells : List Cell) where
       (choose-rel Founds _ (parameter-agrees (base + placeOf g a) (row .a)) lost))
 
   designator-agrees : {x y : Found} → Founds x y
-      → Meanings (designator tagged top cells x) (designator bare top (numbers cells) y)
+      → Meanings (designator tagged g top cells x) (designator bare g top (numbers cells) y)
   unfolding designator
   designator-agrees h = record {
     place = h;
-    value = agrees-content _ _ h (λ place. value-agrees top cells (place .declared) (place .address));
+    value = agrees-content _ _ h (λ place.
+        value-agrees top cells (kindIn (g .types) (place .declared)) (place .address));
   }
 
   meaning-by-agrees : (child child′ : ℕ → Meaning) → ((k : ℕ) → Meanings (child k) (child′ k)) → (kind : ℕ) (row : Row)

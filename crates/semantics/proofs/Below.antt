@@ -42,7 +42,7 @@ module _ {X : Type 0} (m : Memory X) (g : Program) (base top : ℕ) (cells other
   unfolding variablePlace parameterPlace
   variable-below a row = simp mark-below
 
-  designator-below : (found : Found) → designator m top others found ≡ designator m top cells found
+  designator-below : (found : Found) → designator m g top others found ≡ designator m g top cells found
   unfolding designator
   designator-below found = simp value-below
 

@@ -1,16 +1,17 @@
 -- A call from a sound state: arguments are passed one by one, then the procedure's frame is entered.
 use mathlib.Core.Path.{_≡_, refl, sym, _∙_, ap}
-use mathlib.Core.Bool.{true}
+use mathlib.Core.Bool.{true, false}
 use mathlib.Core.List.{List, [], _∷_, _++_, map, append-assoc, append-nil}
 use Prim.Native.Nat.{ℕ, zero, suc, _+_, _≤_, _<_}
 use native.Mathlib.Omega.{arith}
-use borrow.Author.Tests.{eqb-true, eqb-false, leb-true, leb-false, ltb-false, le-leb}
-use lib.Dec.{leb, eqb}
+use borrow.Author.Tests.{eqb-true, eqb-false, leb-true, ltb-false, le-leb}
+use lib.Dec.{eqb}
 use lib.ListN.{length, take, drop, length-append}
 use lib.Seq.{length-take-le, take-add, take-at, take-append-seam, take-append-add, drop-at}
 use Rattle.prelude.specs.Parts.{joined, Part}
-use Rattle.prelude.proofs.Choice.{also-true}
+use Rattle.prelude.proofs.Choice.{also-true, clash}
 use Rattle.image.specs.Rows.{Bytes, rowAt, rowsOf}
+use Rattle.shapes.specs.Forms.{kindIn, isSingle}
 use Rattle.shapes.specs.Sizes.{sizeOf}
 use Rattle.relations.specs.Extends.{extends}
 use Rattle.relations.proofs.Extension.{extends-trans}
@@ -40,11 +41,11 @@ use Rattle.semantics.specs.Sound.{Stack, Stack.a-frame, Sound}
 use Rattle.semantics.proofs.Holding.{matched-length, matched-append, put-above, put-length}
 use Rattle.semantics.specs.Demand3.{Unchanged, NextOk, NextOk.ok-goes, NextOk.ok-trapped}
 use Rattle.semantics.proofs.Evaluating.{FoundOk, Designates.as-argument, find-ok, eval-ok, part-top}
-use Rattle.semantics.proofs.Evaluating.{scalar-values}
+use Rattle.semantics.proofs.Evaluating.{single-values}
 use Rattle.semantics.proofs.Objects.{values-length, slot-width, object-front, slots-length, room-next}
 use Rattle.semantics.proofs.Objects.{claimed-there, claimed-place, claimed-within}
 use Rattle.semantics.proofs.Blanks.{local-low, slotsFrom, slots-matched, slots-fit}
-use Rattle.semantics.proofs.Kinship.{extends-low, extends-scalar}
+use Rattle.semantics.proofs.Kinship.{extends-single, single-extends}
 use Rattle.semantics.proofs.Performing.{unchanged, ok-choose, ok-yes, on-place-ok, on-value-ok, part-cells}
 use Rattle.semantics.proofs.Performing.{put-fits, typed-low, structured-designator, row-within, procedure-is}
 use Rattle.semantics.proofs.Performing.{kind-inside, sound-with}
@@ -163,42 +164,43 @@ module _ (g : Program)
           (by-reference var o (extended place d e))
           (one-more (fits-exactly refl refl) (one-more (fits-exactly refl refl) no-more))
 
-      -- a scalar's value
-      scalar-ok : rowAt (g .variables) a .kind ≤ 2 → rowAt (g .variables) a .a ≤ 2
+      -- a single cell's value
+      single-ok : rowAt (g .variables) a .kind ≤ 2 → isSingle (g .types) (rowAt (g .variables) a .a) ≡ true
           → NextOk g s
           (onValue (over cells) (evalOf tagged g (s .at .base) (s .at .top) cells k) λ v. next (tagged .put v ∷ []))
       unfolding valuesOf
-      scalar-ok plain few =
-          let low = ok .variable a there .typed in
+      single-ok plain single =
           let same-type : ruled .passed ≡ rowAt (g .variables) a .a =
-          extends-scalar (g .types) (g .fields) (ok .types) (ruled .passed) (rowAt (g .variables) a .a) few low
+          extends-single (g .types) (g .fields) (ok .types) (ruled .passed) (rowAt (g .variables) a .a) single
           (ruled .extension) passed-row in
-          let values = scalar-values g ok (rowAt (g .variables) a .a) few in
+          let values = single-values g ok (rowAt (g .variables) a .a) single in
           let slot : Slot g (sound .newest ∷ sound .others) a (valuesOf g (rowAt (g .variables) a .a)) =
           by-value plain in
           on-value-ok g s (above-unchanged cells above) _
           (eval-ok g ok bytes (over cells) (above-sound cells above) k (ruled .passed) within (ruled .passed-type)
-          (ruled .own) (omega arith))
-          λ v e h. more _ (any-value (rowAt (g .variables) a .a) ∷ []) (rw values at slot)
-          (one-more (put-fits v (rowAt (g .variables) a .a) (e ∙ same-type) h) no-more)
+          (ruled .own) (rw same-type single))
+          λ v e h. more _ (any-value (kindIn (g .types) (rowAt (g .variables) a .a)) ∷ []) (rw values at slot)
+          (one-more (put-fits v _ (e ∙ ap (kindIn (g .types)) same-type) h) no-more)
 
       -- another object's cells
-      holds : 3 ≤ rowAt (g .variables) a .a → isDesignator (g .nodes) (rowAt (g .nodes) k .a) ≡ true
-      holds many =
-          let low = extends-low (g .types) (ruled .passed) (rowAt (g .variables) a .a) (ruled .extension) in
+      holds : isSingle (g .types) (rowAt (g .variables) a .a) ≡ false
+          → isDesignator (g .nodes) (rowAt (g .nodes) k .a) ≡ true
+      holds structured =
           let child = argument-is (g .types) (g .variables) (g .nodes)
           (ok .questions .nodes) k within kind .holds .node in
           let type = argument-typed (g .types) (g .fields) (g .variables) (g .nodes) (ok .questions .nodes) k within
           (ruled .passed-type) kind in
-          structured-designator g ok (rowAt (g .nodes) k .a) (ruled .passed) child type (omega arith)
+          structured-designator g ok (rowAt (g .nodes) k .a) (ruled .passed) child type
+          (λ single. clash (sym single ∙ rw (single-extends (g .types) (ruled .passed) (rowAt (g .variables) a .a) single
+          (ruled .extension)) structured))
 
-      copied-ok : rowAt (g .variables) a .kind ≤ 2 → 3 ≤ rowAt (g .variables) a .a
+      copied-ok : rowAt (g .variables) a .kind ≤ 2 → isSingle (g .types) (rowAt (g .variables) a .a) ≡ false
           → NextOk g s (onPlace (over cells) (findOf tagged g (s .at .base) (s .at .top) cells k)
           λ place. onPart (over cells) (place .address)
           (sizeOf (g .types) (g .fields) (rowAt (g .variables) a .a)) next)
       unfolding onPart
-      copied-ok plain many =
-          on-place-ok g s (above-unchanged cells above) _ (found (holds many)) λ place d e o.
+      copied-ok plain structured =
+          on-place-ok g s (above-unchanged cells above) _ (found (holds structured)) λ place d e o.
           let r : ℕ = rowAt (g .variables) a .a in
           let size = values-length g r in
           let part = object-front g ok r (sound .stack) o (extended place d e) in
@@ -218,8 +220,7 @@ module _ (g : Program)
       argument-ok =
           ok-choose g s (eqb (rowAt (g .variables) a .kind) 3) (λ e. reference-ok (eqb-true _ _ e)) λ e.
           let plain = parameter-kind (eqb-false _ _ e) in
-          ok-choose g s (leb (rowAt (g .variables) a .a) 2) (λ l. scalar-ok plain (leb-true _ _ l)) λ l.
-          copied-ok plain (leb-false _ _ l)
+          ok-choose g s (isSingle (g .types) (rowAt (g .variables) a .a)) (single-ok plain) (copied-ok plain)
 
   -- ---- all arguments
 

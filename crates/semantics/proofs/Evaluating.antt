@@ -18,12 +18,15 @@ use Rattle.prelude.proofs.Rec.{rec-ind}
 use Rattle.image.specs.declared.Row.{Row}
 use Rattle.image.specs.Rows.{Bytes, rowAt, rowsOf}
 use Rattle.image.proofs.Bytes.{row-small}
+use Rattle.shapes.specs.Forms.{kindIn, isSingle}
 use Rattle.shapes.proofs.Layouts.{decide}
+use Rattle.shapes.proofs.Singles.{kind-single, single-layout, scalar-row}
 use Rattle.relations.specs.declared.FieldAnswer.the-variants.{Field}
 use Rattle.relations.specs.Extends.{extends}
 use Rattle.relations.specs.Fields.{fieldOf}
 use Rattle.relations.proofs.Extension.{extends-refl, extends-trans}
-use Rattle.values.specs.Values.{BOOLEAN, INTEGER, kindOf, InRange, Gives, Gives.value, Gives.trapped, bind, cellOf}
+use Rattle.values.specs.Values.{BOOLEAN, INTEGER, Scalar, Scalar.a-boolean, Scalar.an-integer, kindOf, InRange}
+use Rattle.values.specs.Values.{Gives, Gives.value, Gives.trapped, bind, cellOf}
 use Rattle.values.specs.declared.Value.{Value}
 use Rattle.values.specs.declared.Value.the-variants as Vs
 use Rattle.values.specs.declared.Trap.{Trap}
@@ -33,9 +36,10 @@ use Rattle.values.proofs.Cells.{cell-held}
 use Rattle.values.proofs.Giving.{gives-boolean}
 use Rattle.values.proofs.Ranges.{constant-typed}
 use Rattle.values.proofs.Cases.{integer-only}
+use Rattle.values.proofs.Scalars.{scalar-below, below-scalar}
 use Rattle.kinds.specs.declared.KindAnswer.{KindAnswer}
 use Rattle.kinds.specs.declared.KindAnswer.the-variants.{Untyped, Kind}
-use Rattle.kinds.specs.Kinds.{dyadicKind, monadicKind}
+use Rattle.kinds.proofs.Scalars.{dyadic-scalar, monadic-scalar}
 use Rattle.operators.specs.Operators.{monadicOf, appliedTo}
 use Rattle.operators.proofs.Typed.{monadic-typed as operator-typed}
 use Rattle.operators.proofs.Skipping.{applied-typed}
@@ -71,7 +75,7 @@ use Rattle.semantics.specs.Sound.{Stack.a-frame, Sound}
 use Rattle.semantics.proofs.Holding.{part-next, part-end, matched-at, cell-below}
 use Rattle.semantics.proofs.Objects.{global-is, own-kind, object-typed, object-part, object-front, slot-at}
 use Rattle.semantics.proofs.Objects.{place-own, place-global}
-use Rattle.semantics.proofs.Kinship.{extends-other, extension-field, scalar-layout, global-low}
+use Rattle.semantics.proofs.Kinship.{extends-other, extension-field, global-low}
 
 -- an object of type x was found, or a trap ends the step
 pub data FoundOk (g : Program) (fs : List Frame) (x : ℕ) : Found → Type 0 where
@@ -118,42 +122,6 @@ unfolding bind
 bind-ok k (value {v = v} e range) next = next v e range
 bind-ok k trapped next = trapped
 
--- ---- operands are scalars
-
-no-kind : {C : Type 0} {x : ℕ} → Untyped ≡ Kind x → C
-no-kind e = let z : _≡_ {A = ℕ} 0 1 = cc in absurd (omega arith)
-
-test-yes : (b : Bool) {m : KindAnswer} {x : ℕ} → choose b m Untyped ≡ Kind x → (b ≡ true) × (m ≡ Kind x)
-test-yes b e = ⊎-elim (λ k. k) (λ k. no-kind (k .1)) (choose-cases b e)
-
-dyadic-operands : (op left right x : ℕ) → dyadicKind op left right ≡ Kind x → (left ≤ 2) × (right ≤ 2)
-unfolding dyadicKind
-dyadic-operands op left right x e =
-    ⊎-elim
-    (λ k. let l = eqb-true left 0 (k .0) in let r = eqb-true right 0 (test-yes _ (k .1) .0) in
-    (omega arith, omega arith))
-    (λ k. ⊎-elim
-    (λ m. let l = eqb-true left 1 (m .0) in
-    ⊎-elim (λ a. let r = eqb-true right 1 (a .0) in (omega arith, omega arith))
-    (λ a. let r = eqb-true right 2 (test-yes _ (a .1) .0) in (omega arith, omega arith))
-    (choose-cases (eqb right 1) (m .1)))
-    (λ m. let (a, b) = test-yes _ (m .1) in let l = eqb-true left 2 a in let r = eqb-true right 2
-    (test-yes _ b .0) in (omega arith, omega arith))
-    (choose-cases (eqb left 1) (k .1)))
-    (choose-cases (eqb left 0) e)
-
-both-right : (a b : Bool) → (a && b) ≡ true → b ≡ true
-both-right true b e = e
-both-right false b e = clash (sym e)
-
-monadic-operand : (op operand x : ℕ) → monadicKind op operand ≡ Kind x → operand ≤ 2
-unfolding monadicKind
-monadic-operand op operand x e =
-    ⊎-elim
-    (λ k. let (a, b) = test-yes _ (k .1) in leb-true operand 2 (both-right (leb 1 operand) (leb operand 2) a))
-    (λ k. let (a, b) = test-yes _ (k .1) in let (c, d) = test-yes _ b in let z = eqb-true operand 0 c in omega arith)
-    (choose-cases (eqb op 1) e)
-
 -- ---- wants and cells
 
 -- a cell below top
@@ -178,13 +146,27 @@ mark-there top cells {k = k} {n} {a} h p low small =
     choose-yes _ _ _ (lt-ltb a top low)
     ∙ marked-number (cellAt tagged cells a) k n small (cell-there top cells h p low)
 
--- ---- scalar objects
+-- ---- single cells
 
 module _ (g : Program)
     (ok : AcceptedTables (g .types) (g .fields) (g .variables) (g .procedures) (g .nodes) (g .statements)) where
-  pub scalar-values : (x : ℕ) → x ≤ 2 → valuesOf g x ≡ any-value x ∷ []
+  -- a scalar kind is the row of its type
+  pub kind-row : {k : ℕ} → Scalar k → kindIn (g .types) k ≡ k
+  kind-row {k} scalar =
+      let low = scalar-below scalar in
+      let most = ok .scalars in
+      scalar-row (g .types) (g .fields) (ok .types) k low (omega arith)
+
+  -- what has one is a single cell
+  pub kind-scalar : {x : ℕ} → Scalar (kindIn (g .types) x) → isSingle (g .types) x ≡ true
+  kind-scalar {x} scalar = let low = scalar-below scalar in kind-single (g .types) x (λ e. absurd (omega arith))
+
+  pub row-single : {k : ℕ} → Scalar k → isSingle (g .types) k ≡ true
+  row-single scalar = kind-scalar (rw (kind-row scalar) scalar)
+
+  pub single-values : (x : ℕ) → isSingle (g .types) x ≡ true → valuesOf g x ≡ any-value (kindIn (g .types) x) ∷ []
   unfolding valuesOf
-  scalar-values x h = let most = ok .scalars in rw (scalar-layout (g .types) (g .fields) (ok .types) x h (omega arith))
+  single-values x h = rw (single-layout (g .types) (g .fields) (ok .types) x h)
 
   module _ {fs : List Frame} (stack : Stack g fs) (place : Place)
       (extended : extends (g .types) (place .dynamic) (place .declared) ≡ true)
@@ -195,10 +177,11 @@ module _ (g : Program)
     found-front u e =
         object-front g ok u stack object (extends-trans (g .types) (place .dynamic) (place .declared) u extended e)
 
-    -- a scalar one's single cell
-    pub found-scalar : place .declared ≤ 2 → Part (wants g fs) (place .address) (any-value (place .declared) ∷ [])
-    found-scalar h =
-        rw (← scalar-values (place .declared) h)
+    -- a single one's
+    pub found-single : isSingle (g .types) (place .declared) ≡ true
+        → Part (wants g fs) (place .address) (any-value (kindIn (g .types) (place .declared)) ∷ [])
+    found-single h =
+        rw (← single-values (place .declared) h)
         (found-front (place .declared) (extends-refl (g .types) (place .declared)))
 
 -- ---- nodes
@@ -210,7 +193,7 @@ designator-yes {n} {k} d =
 
 record MeaningOk (g : Program) (fs : List Frame) (r x : ℕ) (m : Meaning) : Type 0 where
   place : Designates g r → FoundOk g fs x (m .place)
-  value : x ≤ 2 → Gives x (m .value)
+  value : isSingle (g .types) x ≡ true → Gives (kindIn (g .types) x) (m .value)
 
 module _ (g : Program)
     (ok : AcceptedTables (g .types) (g .fields) (g .variables) (g .procedures) (g .nodes) (g .statements))
@@ -250,26 +233,30 @@ module _ (g : Program)
 
   -- ---- an object's value
 
-  scalar-value : (x : ℕ) → x ≤ 2 → (place : Place) → place .declared ≡ x
+  single-value : (x : ℕ) → isSingle (g .types) x ≡ true → (place : Place) → place .declared ≡ x
       → extends (g .types) (place .dynamic) (place .declared) ≡ true
       → Object g frames (place .address) (place .dynamic)
-      → Gives x (valueAt tagged top cells (place .declared) (place .address))
+      → Gives (kindIn (g .types) x)
+      (valueAt tagged top cells (kindIn (g .types) (place .declared)) (place .address))
   unfolding valueAt
-  scalar-value x h place declared extended object =
-      let one = found-scalar g ok (sound .stack) place extended object (omega arith) in
+  single-value x h place declared extended object =
+      let one = found-single g ok (sound .stack) place extended object (rw declared h) in
       let inside = part-inside one in
       let c : Cell = cellAt tagged cells (place .address) in
-      let gives = held-value (place .declared) c (cell-there top cells (sound .holding) one inside) in
-      rw (choose-yes _ (tagged .held (place .declared) c) As.Stuck (lt-ltb (place .address) top inside))
+      let gives = held-value (kindIn (g .types) (place .declared)) c
+      (cell-there top cells (sound .holding) one inside) in
+      rw (choose-yes _ (tagged .held (kindIn (g .types) (place .declared)) c) As.Stuck
+      (lt-ltb (place .address) top inside))
       (rw declared (rw declared at gives))
 
   designator-ok : (r x : ℕ) (found : Found) → FoundOk g frames x found
-      → MeaningOk g frames r x (designator tagged top cells found)
+      → MeaningOk g frames r x (designator tagged g top cells found)
   unfolding designator
   designator-ok r x found is = record {
     place = λ d. is;
-    value =
-        λ h. content-ok (λ place. valueAt tagged top cells (place .declared) (place .address)) is (scalar-value x h);
+    value = λ h. content-ok
+        (λ place. valueAt tagged top cells (kindIn (g .types) (place .declared)) (place .address)) is
+        (single-value x h);
   }
 
   -- ---- variables
@@ -432,9 +419,10 @@ module _ (g : Program)
   by child kind row = meaningBy tagged g base top cells child kind row
 
   expression-ok : (r x : ℕ) {answer : Answer} → (isDesignator (g .nodes) r ≡ true → ⊥)
-      → (rowAt (g .nodes) r .kind ≡ 8 → ⊥) → Gives x answer
+      → (rowAt (g .nodes) r .kind ≡ 8 → ⊥) → Scalar x → Gives x answer
       → MeaningOk g frames r x (record { place = Fs.Stuck; value = answer })
-  expression-ok r x plain other gives = record { place = λ d. no d; value = λ h. gives }
+  expression-ok r x plain other scalar gives =
+      record { place = λ d. no d; value = λ h. rw (kind-row g ok scalar) gives }
     where
       no : Designates g r → FoundOk g frames x Fs.Stuck
       no (itself e) = absurd (plain e)
@@ -465,8 +453,8 @@ module _ (g : Program)
         let there-row = is .node .within in
         ih k (is .low) there-row w type own-child .place (itself (designator-yes (is .node)))
 
-    child-value : (k w : ℕ) → k < r → k < rowsOf (g .nodes) → types-of k ≡ Kind w → owned k → w ≤ 2
-        → Gives w (child k .value)
+    child-value : (k w : ℕ) → k < r → k < rowsOf (g .nodes) → types-of k ≡ Kind w → owned k
+        → isSingle (g .types) w ≡ true → Gives (kindIn (g .types) w) (child k .value)
     child-value k w less there-row type own-child h = ih k less there-row w type own-child .value h
 
     node-by : (kind : ℕ) → row .kind ≡ kind → MeaningOk g frames r x (by child kind row)
@@ -481,6 +469,7 @@ module _ (g : Program)
         (ok .questions .nodes) r low typed k in
         let most = c .typed in
         rw type (expression-ok r (row .a) (not-constant r k) (λ e. absurd (omega arith))
+        (below-scalar (row .a) (omega arith))
         (constant-typed (row .a) (row .b) (row .c) (omega arith) (λ e. let (b, d) = c .boolean e in omega arith)
         (small .b) (small .c)))
 
@@ -513,8 +502,8 @@ module _ (g : Program)
         rw (type .element)
         (designator-ok r (rowAt (g .types) (type .whole) .a) _
         (element-ok (type .whole) (type .array) (whole-place (row .a) (type .whole) (c .whole) (type .whole-type) mine)
-        (child-value (row .b) INTEGER (c .index .low) (c .index .node .within) (type .index-type) index-own
-        (omega arith))))
+        (rw (kind-row g ok an-integer) at (child-value (row .b) INTEGER (c .index .low) (c .index .node .within)
+        (type .index-type) index-own (row-single g ok an-integer)))))
 
     guard-node : row .kind ≡ 4 → GuardNode (g .types) (g .variables) row → MeaningOk g frames r x (by child 4 row)
     unfolding meaningBy choose
@@ -532,13 +521,15 @@ module _ (g : Program)
         (ok .questions .nodes) r low typed k in
         let (left-own, right-own) = dyadic-own (g .types) (g .variables) (g .procedures) (g .nodes)
         (ok .questions .nodes) procedure r low own k in
-        let (left-low, right-low) = dyadic-operands (row .c) (type .left) (type .right) x (type .result) in
-        expression-ok r x (not-designator r (omega arith)) (λ e. absurd (omega arith))
+        let scalars = dyadic-scalar (row .c) _ _ x (type .result) in
+        let left-single = kind-scalar g ok (scalars .left-scalar) in
+        let right-single = kind-scalar g ok (scalars .right-scalar) in
+        expression-ok r x (not-designator r (omega arith)) (λ e. absurd (omega arith)) (scalars .given-scalar)
         (bind-ok (λ left. appliedTo (row .c) left (child (row .b) .value))
-        (child-value (row .a) (type .left) (c .left .low) (c .left .node .within) (type .left-type) left-own left-low)
+        (child-value (row .a) (type .left) (c .left .low) (c .left .node .within) (type .left-type) left-own left-single)
         (λ v e range. applied-typed (row .c) (rw e (type .result)) range
         (child-value (row .b) (type .right) (c .right .low) (c .right .node .within)
-        (type .right-type) right-own right-low)))
+        (type .right-type) right-own right-single)))
 
     monadic-node : row .kind ≡ 6 → MonadicNode (g .nodes) r row → MeaningOk g frames r x (by child 6 row)
     unfolding meaningBy choose
@@ -547,11 +538,11 @@ module _ (g : Program)
         (ok .questions .nodes) r low typed k in
         let mine = monadic-own (g .types) (g .variables) (g .procedures) (g .nodes)
         (ok .questions .nodes) procedure r low own k in
-        let scalar = monadic-operand (row .c) (type .operand) x (type .result) in
-        expression-ok r x (not-designator r (omega arith)) (λ e. absurd (omega arith))
+        let (operand-scalar, given-scalar) = monadic-scalar (row .c) _ x (type .result) in
+        expression-ok r x (not-designator r (omega arith)) (λ e. absurd (omega arith)) given-scalar
         (bind-ok (λ operand. monadicOf (row .c) operand)
         (child-value (row .a) (type .operand) (c .operand .low) (c .operand .node .within)
-        (type .operand-type) mine scalar)
+        (type .operand-type) mine (kind-scalar g ok operand-scalar))
         (λ v e range. operator-typed (row .c) (rw e (type .result)) range))
 
     test-node : row .kind ≡ 7 → GuardNode (g .types) (g .variables) row → MeaningOk g frames r x (by child 7 row)
@@ -561,7 +552,7 @@ module _ (g : Program)
         let mine = test-own (g .types) (g .variables) (g .procedures) (g .nodes)
         (ok .questions .nodes) procedure r low own k in
         rw (type .boolean)
-        (expression-ok r BOOLEAN (not-designator r (omega arith)) (λ e. absurd (omega arith))
+        (expression-ok r BOOLEAN (not-designator r (omega arith)) (λ e. absurd (omega arith)) a-boolean
         (test-ok (row .b) (rowAt (g .variables) (row .a) .a) (variable-ok (row .a) (c .variable) mine)))
 
     argument-node : row .kind ≡ 8 → ArgumentNode (g .nodes) r row → MeaningOk g frames r x (by child 8 row)
@@ -609,6 +600,7 @@ module _ (g : Program)
     unfolding findOf
     find-ok d = meaning-ok r low x typed own .place d
 
-    pub eval-ok : x ≤ 2 → Gives x (evalOf tagged g (s .at .base) (s .at .top) (s .cells) r)
+    pub eval-ok : isSingle (g .types) x ≡ true
+        → Gives (kindIn (g .types) x) (evalOf tagged g (s .at .base) (s .at .top) (s .cells) r)
     unfolding evalOf
     eval-ok h = meaning-ok r low x typed own .value h

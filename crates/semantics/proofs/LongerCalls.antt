@@ -1,17 +1,19 @@
 -- A call in a store, and in one that is longer, where the new frame fits into the shorter one.
 use mathlib.Core.Path.{_≡_, refl, sym, _∙_, ap}
+use mathlib.Core.Bool.{true}
 use mathlib.Core.List.{List, [], _∷_, _++_, map}
 use Prim.Native.Nat.{ℕ, zero, suc, _+_, _≤_, _<_}
 use native.Mathlib.Omega.{arith}
 use native.Mathlib.Decide.{decLt}
-use borrow.Author.Tests.{ltb-false, leb-true, eqb-true, eqb-false, lt-ltb, le-ltb}
+use borrow.Author.Tests.{ltb-false, eqb-true, eqb-false, lt-ltb, le-ltb}
 use lib.Dec.{ltb}
 use lib.ListN.{length, length-append, length-map}
 use Rattle.image.specs.Rows.{rowAt, rowsOf}
 use Rattle.image.specs.declared.Row.{Row}
 use Rattle.image.proofs.Bytes.{row-missing}
+use Rattle.shapes.specs.Forms.{isSingle}
 use Rattle.shapes.specs.Sizes.{sizeOf}
-use Rattle.shapes.proofs.Layouts.{layout-length}
+use Rattle.shapes.proofs.Singles.{single-size}
 use Rattle.frames.specs.Procedures.{firstVariable, claimedBy}
 use Rattle.statements.specs.Statements.{procedureAt}
 use Rattle.places.specs.Places.{widthOf, roomFrom, frameSize}
@@ -22,7 +24,6 @@ use Rattle.semantics.specs.Memory.{LINK, Memory, overwrite}
 use Rattle.semantics.specs.Layout.{Program, placeOf, kindsFrom}
 use Rattle.semantics.specs.Stepping.{State, Next, withCells, argumentCells, passed, entered, called}
 use Rattle.semantics.proofs.Holding.{put-length}
-use Rattle.semantics.proofs.Kinship.{scalar-layout}
 use Rattle.semantics.proofs.Objects.{kinds-room, claimed-there, claimed-within}
 use Rattle.semantics.proofs.Longer.{longer, Longer, Longer.longer-goes, Longer.longer-trap, overwrite-longer}
 use Rattle.semantics.proofs.Longer.{choose-longer, on-find, on-eval, on-part}
@@ -51,15 +52,14 @@ module _ {X : Type 0} (m : Memory X) (g : Program)
       (λ place. h _ (omega (arith, width-var (sizeOf (g .types) (g .fields)) (g .variables) a (eqb-true _ _ e)))))
       (λ e. let width = width-other (sizeOf (g .types) (g .fields)) (g .variables) a (eqb-false _ _ e) in
       choose-longer rest n _
-      (λ f. on-eval m g rest n s size high k _ _ (λ v. h _ (omega (arith, width, one-cell (leb-true _ _ f)))))
+      (λ f. on-eval m g rest n s size high k _ _ (λ v. h _ (omega (arith, width, one-cell f))))
       (λ f. on-find m g rest n s size high k _ _
       (λ place. on-part m g rest n s size high _ _ _ _ (λ new short. h new (omega (arith, width))))))
     where
-      one-cell : rowAt (g .variables) a .a ≤ 2 → 1 ≤ sizeOf (g .types) (g .fields) (rowAt (g .variables) a .a)
-      one-cell scalar =
-          let typed = ok .variable a there .typed in
-          let layout = scalar-layout (g .types) (g .fields) (ok .types) (rowAt (g .variables) a .a) scalar typed in
-          omega (arith, layout-length (g .types) (g .fields) (rowAt (g .variables) a .a), ap length layout)
+      one-cell : isSingle (g .types) (rowAt (g .variables) a .a) ≡ true
+          → 1 ≤ sizeOf (g .types) (g .fields) (rowAt (g .variables) a .a)
+      one-cell single =
+          omega (arith, single-size (g .types) (g .fields) (ok .types) (rowAt (g .variables) a .a) single)
 
   -- c arguments, to parameters whose cells lie in the shorter store
   passed-longer : (c k a : ℕ) (s : State X) → length (s .cells) ≡ n → s .at .top ≤ n

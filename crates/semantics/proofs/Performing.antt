@@ -1,34 +1,35 @@
 -- Each statement but the call, from a sound state: it goes on to a sound state, finishes, or ends in a trap.
-use mathlib.Core.Path.{_≡_, refl, sym, _∙_, subst}
+use mathlib.Core.Path.{_≡_, refl, sym, _∙_, ap, subst}
 use mathlib.Core.Bool.{Bool, true, false}
 use mathlib.Core.List.{List, [], _∷_}
 use Prim.Native.Nat.{ℕ, _+_, _≤_, _<_}
 use native.Mathlib.Omega.{arith}
-use borrow.Author.Tests.{leb-true, leb-false, eqb-false, le-leb}
+use borrow.Author.Tests.{eqb-false, le-leb}
 use lib.IntN.{ℤ, pos}
 use lib.ListN.{length, take, getD, set, length-set}
 use Rattle.prelude.specs.Choice.{choose}
 use Rattle.prelude.specs.Parts.{joined, Part}
-use Rattle.prelude.proofs.Choice.{choose-yes}
+use Rattle.prelude.proofs.Choice.{choose-yes, clash}
 use Rattle.prelude.proofs.Parts.{part-back}
 use Rattle.image.specs.declared.Row.{Row}
 use Rattle.image.specs.Rows.{Bytes, rowAt, rowsOf}
-use Rattle.shapes.specs.Forms.{form}
+use Rattle.shapes.specs.Forms.{form, kindIn, isSingle}
 use Rattle.shapes.specs.Sizes.{sizeOf}
 use Rattle.relations.specs.Extends.{extends}
 use Rattle.relations.proofs.Extension.{Extends.same, extends-refl}
-use Rattle.values.specs.Values.{BOOLEAN, INTEGER, kindOf, isInteger, InRange, InRange.integer, Gives, Gives.value}
-use Rattle.values.specs.Values.{Gives.trapped as gives-trap}
+use Rattle.values.specs.Values.{BOOLEAN, INTEGER, Scalar, Scalar.a-boolean, Scalar.an-integer, kindOf, isInteger}
+use Rattle.values.specs.Values.{InRange, InRange.integer, Gives, Gives.value, Gives.trapped as gives-trap}
 use Rattle.values.specs.declared.Value.{Value}
 use Rattle.values.specs.declared.Value.the-variants as Vs
 use Rattle.values.specs.declared.Answer.{Answer}
 use Rattle.values.proofs.Cells.{cell-back}
 use Rattle.values.proofs.Cases.{boolean-only, integer-only}
+use Rattle.values.proofs.Scalars.{below-scalar}
 use Rattle.kinds.specs.declared.KindAnswer.the-variants.{Kind}
+use Rattle.kinds.proofs.Scalars.{dyadic-scalar, monadic-scalar}
 use Rattle.nodes.specs.Nodes.{isDesignator}
 use Rattle.nodes.proofs.Accepted.{Plain, constant-is}
 use Rattle.typing.specs.Typing.{typeOf}
-use Rattle.typing.proofs.Lower.{dyadic-low, monadic-low}
 use Rattle.typing.proofs.Accepted.{NodeTyped, NodeTyped.by-constant, NodeTyped.by-variable, NodeTyped.by-field}
 use Rattle.typing.proofs.Accepted.{NodeTyped.by-element, NodeTyped.by-guard, NodeTyped.by-dyadic}
 use Rattle.typing.proofs.Accepted.{NodeTyped.by-monadic, NodeTyped.by-test, NodeTyped.by-argument, typed-node}
@@ -57,9 +58,10 @@ use Rattle.semantics.specs.Sound.{Inside, Object, Sound, is-first, is-ca
 use Rattle.semantics.proofs.Holding.{part-start, part-next, part-end, matched-length, matched-part}
 use Rattle.semantics.proofs.Holding.{matched-put, put-below, put-length, part-below}
 use Rattle.semantics.proofs.Objects.{values-length}
-use Rattle.semantics.proofs.Kinship.{extends-low, extends-scalar}
+use Rattle.semantics.proofs.Kinship.{extends-single, single-extends}
 use Rattle.semantics.proofs.Evaluating.{FoundOk, found-ok, found-trap, Designates, itself, find-ok, eval-ok}
-use Rattle.semantics.proofs.Evaluating.{found-front, found-scalar, designator-yes, mark-there, part-top}
+use Rattle.semantics.proofs.Evaluating.{found-front, found-single, kind-row, row-single, designator-yes, mark-there}
+use Rattle.semantics.proofs.Evaluating.{part-top}
 use Rattle.semantics.specs.Demand3.{Unchanged, NextOk, ok-goes, ok-finished, ok-trapped}
 
 -- ---- what a step comes to, by the way it goes on
@@ -139,27 +141,29 @@ module _ (g : Program)
 
   -- "Assign: target, source": a source of a structured type is a designator
   pub structured-designator : (r x : ℕ) → Plain (g .nodes) r
-      → typeOf (g .types) (g .fields) (g .variables) (g .nodes) r ≡ Kind x → 3 ≤ x → isDesignator (g .nodes) r ≡ true
-  structured-designator r x plain type large =
+      → typeOf (g .types) (g .fields) (g .variables) (g .nodes) r ≡ Kind x → (isSingle (g .types) x ≡ true → ⊥)
+      → isDesignator (g .nodes) r ≡ true
+  structured-designator r x plain type structured =
       go (typed-node (g .types) (g .fields) (g .variables) (g .nodes) (ok .questions .nodes) r (plain .within) type)
     where
+      no-single : {C : Type 0} → Scalar x → C
+      no-single scalar = absurd (structured (row-single g ok scalar))
+
       go : NodeTyped (g .types) (g .fields) (g .variables) (g .nodes) r x → isDesignator (g .nodes) r ≡ true
       go (by-constant k e) =
           let said = ok .questions .nodes in
           let low = constant-is (g .types) (g .variables) (g .nodes) said r (plain .within) k .typed in
-          absurd (omega arith)
+          no-single (below-scalar x (omega arith))
       go (by-variable k e) =
           designator-yes (record { within = plain .within; least = omega arith; most = omega arith })
       go (by-field k e) = designator-yes (record { within = plain .within; least = omega arith; most = omega arith })
       go (by-element k e) = designator-yes (record { within = plain .within; least = omega arith; most = omega arith })
       go (by-guard k e) = designator-yes (record { within = plain .within; least = omega arith; most = omega arith })
       go (by-dyadic k e) =
-          let low = dyadic-low (rowAt (g .nodes) r .c) (e .left) (e .right) x (e .result) in
-          absurd (omega arith)
+          no-single (dyadic-scalar (rowAt (g .nodes) r .c) _ _ x (e .result) .given-scalar)
       go (by-monadic k e) =
-          let low = monadic-low (rowAt (g .nodes) r .c) (e .operand) x (e .result) in
-          absurd (omega arith)
-      go (by-test k e) = let is = e .boolean in absurd (omega arith)
+          no-single (monadic-scalar (rowAt (g .nodes) r .c) _ x (e .result) .1)
+      go (by-test k e) = no-single (rw (e .boolean) a-boolean)
       go (by-argument k e) = absurd (plain .plain k)
 
 -- ---- the newest frame is left
@@ -302,14 +306,14 @@ module _ (g : Program)
       (ok-goes (sound-with (s .at .row + 1) (s .at .read) (s .at .written) (overwrite (s .cells) a new) (s .output)
       inside (rw below (matched-put (sound .holding) p m)) size) size refl)
 
-  -- a value written to a scalar object
+  -- a value written to a single cell
   pub put-ok : (place : Place) (v : Value) → extends (g .types) (place .dynamic) (place .declared) ≡ true
-      → Object g frames (place .address) (place .dynamic) → kindOf v ≡ place .declared → InRange v
-      → place .declared ≤ 2 → Inside g own-procedure (s .at .row + 1)
+      → Object g frames (place .address) (place .dynamic) → kindOf v ≡ kindIn (g .types) (place .declared) → InRange v
+      → isSingle (g .types) (place .declared) ≡ true → Inside g own-procedure (s .at .row + 1)
       → NextOk g s (written s (place .address) (tagged .put v ∷ []))
-  put-ok place v extended object kind range low inside =
-      written-ok (found-scalar g ok (sound .stack) place extended object low)
-      (one-more (put-fits v (place .declared) kind range) no-more) inside
+  put-ok place v extended object kind range single inside =
+      written-ok (found-single g ok (sound .stack) place extended object single)
+      (one-more (put-fits v (kindIn (g .types) (place .declared)) kind range) no-more) inside
 
   -- ---- its designators and expressions
 
@@ -323,7 +327,7 @@ module _ (g : Program)
     pub found-here : Designates g r → FoundOk g frames x (found r)
     found-here d = find-ok g ok bytes s sound r x low typed (own-here r own) d
 
-    pub given-here : x ≤ 2 → Gives x (answer r)
+    pub given-here : isSingle (g .types) x ≡ true → Gives (kindIn (g .types) x) (answer r)
     given-here h = eval-ok g ok bytes s sound r x low typed (own-here r own) h
 
   -- ---- "0 assign b to designator a."
@@ -353,23 +357,22 @@ module _ (g : Program)
       let x = ruled .source in
       let y = ruled .target in
       let x-low = typed-low g ok (row .b) x (ruled .source-type) in
-      let y-low = typed-low g ok (row .a) y (ruled .target-type) in
       let inside = kind-inside 0 kind (omega arith) (omega arith) (omega arith) in
       let d = form .target in
       on-place-ok g s (unchanged g s) _ (found-here (row .a) y (d .within) (ruled .target-type) (ruled .own-target)
       (itself (designator-yes d))) (λ target declared extended object.
       ok-choose g s _
-      (λ scalar.
-      let y-scalar : y ≤ 2 = omega (arith, leb-true (target .declared) 2 scalar) in
-      let one : x ≡ y = extends-scalar t (g .fields) (ok .types) x y y-scalar y-low (ruled .extension) x-low in
+      (λ single.
+      let y-single : isSingle t y ≡ true = rw declared at single in
+      let one : x ≡ y = extends-single t (g .fields) (ok .types) x y y-single (ruled .extension) x-low in
       let known = form .source .within in
       on-value-ok g s (unchanged g s) _ (given-here (row .b) x known (ruled .source-type) (ruled .own-source)
-      (omega arith))
-      (λ v k range. put-ok target v extended object (k ∙ one ∙ sym declared) range (omega arith) inside))
+      (rw one y-single))
+      (λ v k range. put-ok target v extended object (k ∙ ap (kindIn t) (one ∙ sym declared)) range single inside))
       (λ structured.
-      let y-large : 3 ≤ y = omega (arith, leb-false (target .declared) 2 structured) in
-      let upward = extends-low t x y (ruled .extension) in
-      let from = structured-designator g ok (row .b) x (form .source) (ruled .source-type) (omega arith) in
+      let y-structured : isSingle t y ≡ false = rw declared at structured in
+      let from = structured-designator g ok (row .b) x (form .source) (ruled .source-type)
+      (λ single. clash (sym single ∙ rw (single-extends t x y single (ruled .extension)) y-structured)) in
       let known = form .source .within in
       on-place-ok g s (unchanged g s) _ (found-here (row .b) x known (ruled .source-type) (ruled .own-source)
       (itself from))
@@ -387,8 +390,9 @@ module _ (g : Program)
       let ruled = rules (ok .questions .rules) (s .at .row) row-within kind in
       let inside = kind-inside 2 kind (omega arith) (omega arith) (omega arith) in
       let known = form .condition .within in
-      on-value-ok g s (unchanged g s) _ (given-here (row .a) BOOLEAN known (ruled .type) (ruled .own) (omega arith))
-      (λ v k range. boolean-only (NextOk g s) v _ k (λ holds.
+      on-value-ok g s (unchanged g s) _ (given-here (row .a) BOOLEAN known (ruled .type) (ruled .own)
+      (row-single g ok a-boolean))
+      (λ v k range. boolean-only (NextOk g s) v _ (k ∙ kind-row g ok a-boolean) (λ holds.
       ok-either g s holds (gone-ok (s .at .row + 1) inside)
       (gone-ok (row .b) (target-inside (row .b) (form .target)))))
 
@@ -475,8 +479,9 @@ module _ (g : Program)
       on-place-ok g s (unchanged g s) _ (found-here (row .a) INTEGER (d .within) (ruled .type) (ruled .own)
       (itself (designator-yes d))) (λ target declared extended object.
       ok-choose g s _
-      (λ more. read-ok (put-ok target (Vs.Int (inputAt input (s .at .read))) extended object (sym declared)
-      (integer (input-range input (s .at .read))) (omega arith) inside))
+      (λ more. read-ok (put-ok target (Vs.Int (inputAt input (s .at .read))) extended object
+      (sym (ap (kindIn (g .types)) declared ∙ kind-row g ok an-integer))
+      (integer (input-range input (s .at .read))) (rw declared (row-single g ok an-integer)) inside))
       (λ none. ok-trapped (unchanged g s)))
 
   pub sent-ok : row .kind ≡ 6 → ValueRow (g .nodes) row → NextOk g s (sent tagged g row s)
@@ -486,8 +491,8 @@ module _ (g : Program)
       let ruled = rules (ok .questions .rules) (s .at .row) row-within kind in
       let inside = kind-inside 6 kind (omega arith) (omega arith) (omega arith) in
       on-value-ok g s (unchanged g s) _ (given-here (row .a) INTEGER (form .value .within) (ruled .type) (ruled .own)
-      (omega arith))
-      (λ v k range. integer-only (NextOk g s) v _ k (λ z.
+      (row-single g ok an-integer))
+      (λ v k range. integer-only (NextOk g s) v _ (k ∙ kind-row g ok an-integer) (λ z.
       ok-choose g s _
       (λ more. ok-goes (sound-with (s .at .row + 1) (s .at .read) (s .at .written + 1) (s .cells)
       _ inside (sound .holding) refl) refl (length-set (s .output) _ z))
@@ -499,8 +504,8 @@ module _ (g : Program)
       let rules = halt-ruled (g .types) (g .fields) (g .variables) (g .procedures) (g .nodes) (g .statements) in
       let ruled = rules (ok .questions .rules) (s .at .row) row-within kind .value in
       on-value-ok g s (unchanged g s) _ (given-here (row .a) INTEGER (form .value .within) (ruled .type) (ruled .own)
-      (omega arith))
-      (λ v k range. integer-only (NextOk g s) v _ k (λ z. ok-trapped (unchanged g s)))
+      (row-single g ok an-integer))
+      (λ v k range. integer-only (NextOk g s) v _ (k ∙ kind-row g ok an-integer) (λ z. ok-trapped (unchanged g s)))
 
   -- ---- by the kind
 
