@@ -7,6 +7,7 @@ use sizes::BOUNDS;
 use sizes::FIRSTS;
 use sizes::FRAMES;
 use sizes::GLOBALS;
+use sizes::KINDS;
 use sizes::LOWER;
 use sizes::NODES;
 use sizes::OWNERS;
@@ -18,8 +19,9 @@ ghost use Prim.Native.Nat.{_≤_, _<_};
 ghost use lib.ListN.{length};
 ghost use Rattle.prelude.specs.Cells.{Filled};
 ghost use Rattle.image.specs.Rows.{rowAt, rowsOf};
+ghost use Rattle.shapes.specs.Forms.{kindIn};
 ghost use Rattle.shapes.specs.Sizes.{sizeOf};
-ghost use Rattle.sizes.specs.Cells.{OWNERS, NODES, RUN_PLAN};
+ghost use Rattle.sizes.specs.Cells.{OWNERS, NODES, KINDS, RUN_PLAN};
 ghost use Rattle.types.specs.Plan.{Plan as TypesPlan};
 ghost use Rattle.relations.specs.Extends.{extends as extendsOf};
 ghost use Rattle.relations.specs.Fields.{fieldOf};
@@ -127,6 +129,14 @@ pub fn size_of(image: &&[u8], plan: &Plan, r: u16) -> u32
     plan[r as usize]
 }
 
+// The kind of an object of type row r that is a single cell; shapes::NO_KIND of any other.
+pub fn kind_of(image: &&[u8], plan: &Plan, r: u16) -> u16
+    requires { ⌜ Planned (now (now image)) (now plan) × (r < rowsOf (programOf (now (now image)) .types)) ⌝ }
+    ensures { λ x. ⌜ x ≡ kindIn (programOf (now (now (image .entry))) .types) r ⌝ }
+{
+    plan[KINDS + r as usize] as u16
+}
+
 // ---- variables and procedures
 
 // Where variable row a begins: a global in the store, another in its frame.
@@ -228,6 +238,20 @@ fn fill_nodes(image: &[u8], plan: &mut [u32])
     designators::fill(t, f, v, n, plan);
 }
 
+// Writes the kind of each type row.
+fn fill_kinds(t: &[u8], plan: &mut [u32])
+    requires { ⌜ (rowsOf (now t) ≤ 64) × (RUN_PLAN ≤ length (now plan)) ⌝ }
+    ensures { λ x. ⌜ Filled KINDS (rowsOf (now (t .entry))) (kindIn (now (t .entry))) (now (plan .entry))
+        (now (plan .exit)) ⌝ }
+{
+    let n = image::rows_of(t);
+    let mut r: usize = 0;
+    while r < n {
+        plan[KINDS + r] = shapes::kind_in(t, r as u16) as u32;
+        r = r + 1;
+    }
+}
+
 // The check, which leaves a whole plan of an image that it accepts.
 pub fn open_image(image: &[u8], plan: &mut [u32]) -> CheckAnswer
     requires { ⌜ RUN_PLAN ≤ length (now plan) ⌝ }
@@ -245,5 +269,6 @@ pub fn open_image(image: &[u8], plan: &mut [u32]) -> CheckAnswer
     fill_nodes(image, plan);
     ancestors::fill(t, plan, LOWER, 0);
     ancestors::fill(t, plan, UPPER, 32);
+    fill_kinds(t, plan);
     CheckAnswer::Accepted
 }

@@ -3,6 +3,7 @@ use access::Plan;
 use image::Row;
 use semantics::Found;
 use semantics::Registers;
+use shapes::NO_KIND;
 use values::Answer;
 use values::Trap;
 ghost use mathlib.Core.Path.{_≡_};
@@ -176,7 +177,7 @@ fn pass(image: &&[u8], plan: &Plan, store: &mut [i64], s: Registers, k: u32, a: 
     if kind == 3 {
         return pass_object(image, plan, store, s, k, place);
     }
-    if r <= 2 {
+    if access::kind_of(image, plan, r) != NO_KIND {
         return pass_value(image, plan, store, s, k, place);
     }
     pass_cells(image, plan, store, s, k, place, r)

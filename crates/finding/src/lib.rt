@@ -12,6 +12,7 @@ ghost use mathlib.Core.Path.{_≡_};
 ghost use Prim.Native.Nat.{_+_, _≤_, _<_};
 ghost use lib.ListN.{length};
 ghost use Rattle.image.specs.Rows.{rowAt};
+ghost use Rattle.shapes.specs.Forms.{kindIn};
 ghost use Rattle.relations.specs.Fields.{fieldOf};
 ghost use Rattle.semantics.specs.Memory.{bare, valueAt};
 ghost use Rattle.semantics.specs.Finding.{reach, content, object, parameterPlace, variablePlace, fieldPlace};
@@ -61,11 +62,14 @@ fn no_value(x: Found) -> Answer
 }
 
 // The value of an object.
-fn load(store: &&[i64], top: u32, place: Place) -> Answer
-    requires { ⌜ top ≤ length (now (now store)) ⌝ }
-    ensures { λ r. ⌜ r ≡ valueAt bare top (now (now (store .entry))) (place .declared) (place .address) ⌝ }
+fn load(image: &&[u8], plan: &Plan, store: &&[i64], top: u32, place: Place) -> Answer
+    requires { ⌜ Planned (now (now image)) (now plan) × Within (now (now image)) place
+        × (top ≤ length (now (now store))) ⌝ }
+    ensures { λ r. ⌜ r ≡ valueAt bare top (now (now (store .entry)))
+        (kindIn (programOf (now (now (image .entry))) .types) (place .declared)) (place .address) ⌝ }
 {
-    cells::value_at(*store, top, place.declared, place.address)
+    let kind = access::kind_of(image, plan, place.declared);
+    cells::value_at(*store, top, kind, place.address)
 }
 
 // ---- designators
@@ -269,7 +273,7 @@ fn eval(image: &&[u8], plan: &Plan, store: &&[i64], base: u32, top: u32, r: u32)
             let Found::At(object) = variable else {
                 return no_value(variable);
             };
-            fresh(load(store, top, object))
+            fresh(load(image, plan, store, top, object))
         }
         2 => {
             if r <= first {
@@ -283,7 +287,7 @@ fn eval(image: &&[u8], plan: &Plan, store: &&[i64], base: u32, top: u32, r: u32)
             let Found::At(object) = part else {
                 return no_value(part);
             };
-            fresh(load(store, top, object))
+            fresh(load(image, plan, store, top, object))
         }
         3 => {
             if r <= first {
@@ -311,7 +315,7 @@ fn eval(image: &&[u8], plan: &Plan, store: &&[i64], base: u32, top: u32, r: u32)
             let Found::At(object) = element else {
                 return no_value(element);
             };
-            fresh(load(store, top, object))
+            fresh(load(image, plan, store, top, object))
         }
         4 => {
             let guarded = variable_place(image, plan, store, base, top, a);
@@ -322,7 +326,7 @@ fn eval(image: &&[u8], plan: &Plan, store: &&[i64], base: u32, top: u32, r: u32)
             let Found::At(object) = narrowed else {
                 return no_value(narrowed);
             };
-            fresh(load(store, top, object))
+            fresh(load(image, plan, store, top, object))
         }
         5 => {
             if r <= first {

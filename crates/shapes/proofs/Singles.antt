@@ -12,7 +12,7 @@ use Rattle.image.proofs.Bytes.{row-there}
 use Rattle.shapes.specs.Forms.{Form, Form.scalar, Form.array, Form.recordOf, Form.noForm, formOf, form}
 use Rattle.shapes.specs.Forms.{baseOf, NO_KIND, kindBy, kindIn, isSingle}
 use Rattle.shapes.specs.Sizes.{sizeBy, sizeOf, layoutBy, layoutOf, fieldsBy, fieldsOf}
-use Rattle.shapes.proofs.Rows.{form-scalar, form-array, form-record, form-none}
+use Rattle.shapes.proofs.Rows.{form-scalar, form-array, form-record, form-none, by-any-form}
 use Rattle.shapes.proofs.Accepted.{Shape, Shape.is-scalar, Shape.is-array, Shape.is-record, TypesKept, size-is}
 use Rattle.shapes.proofs.Accepted.{layout-is, fields-are}
 
@@ -70,6 +70,12 @@ module _ (t : List ℕ) (r : ℕ) where
 
   pub single-there : isSingle t r ≡ true → r < rowsOf t
   single-there e = let low = single-low e in row-there t r (omega arith)
+
+  pub kind-small : kindIn t r ≤ NO_KIND
+  unfolding kindIn form kindBy
+  kind-small =
+      by-any-form (rowAt t r) (λ x. kindBy x ≤ NO_KIND)
+      (λ k low. omega arith) (λ e n. omega arith) (λ base first count. omega arith) (omega arith)
 
 -- ---- of an accepted table
 
