@@ -14,6 +14,7 @@ use Rattle.image.specs.declared.Verdict.the-variants.{Kept}
 use Rattle.image.specs.Rows.{rowAt, rowsOf}
 use Rattle.image.proofs.Bytes.{row-there}
 use Rattle.image.proofs.Faults.{verdict-kept}
+use Rattle.image.proofs.Versions.{few-rows, few-monadics}
 use Rattle.nodes.specs.Nodes.{isDesignator, isArgument, childKept, designatorKept, constantKept, variableKept}
 use Rattle.nodes.specs.Nodes.{fieldKept, elementKept, guardKept, dyadicKept, monadicKept, argumentKept}
 use Rattle.nodes.specs.Nodes.{formKept, nodeKept, question7}
@@ -120,12 +121,12 @@ pub data NodeRow (t v n : List ℕ) (r : ℕ) : Type 0 where
 
 -- ---- what the rules say
 
-constant-node : (row : Row) → constantKept row ≡ true → ConstantNode row
+constant-node : {version : ℕ} (row : Row) → constantKept version row ≡ true → ConstantNode row
 unfolding constantKept
-constant-node row e =
+constant-node {version} row e =
     let (typed, rest) = also-true _ _ e in
     record {
-      typed = leb-true _ _ typed;
+      typed = omega (arith, ltb-true _ _ typed, few-rows version);
       boolean = λ z.
           let (b, c) = also-true _ _ (sym (choose-yes _ _ _ (eq-eqb (row .a) 0 z)) ∙ rest) in
           (eqb-true _ _ b, leb-true _ _ c);
@@ -176,13 +177,18 @@ module _ (n : List ℕ) (r : ℕ) (h : r < rowsOf n) where
       let (low, high) = also-true _ _ e₂ in
       record { left = child _ a; right = child _ b; least = leb-true _ _ low; most = leb-true _ _ high }
 
-  monadic-node : (row : Row) → monadicKept n r row ≡ true → MonadicNode n r row
+  monadic-node : {version : ℕ} (row : Row) → monadicKept version n r row ≡ true → MonadicNode n r row
   unfolding monadicKept
-  monadic-node row e =
+  monadic-node {version} row e =
       let (a, e₁) = also-true _ _ e in
       let (b, e₂) = also-true _ _ e₁ in
       let (low, high) = also-true _ _ e₂ in
-      record { operand = child _ a; unused-b = eqb-true _ _ b; least = leb-true _ _ low; most = leb-true _ _ high }
+      record {
+        operand = child _ a;
+        unused-b = eqb-true _ _ b;
+        least = leb-true _ _ low;
+        most = omega (arith, leb-true _ _ high, few-monadics version);
+      }
 
   argument-node : (row : Row) → argumentKept n r row ≡ true → ArgumentNode n r row
   unfolding argumentKept
@@ -191,7 +197,7 @@ module _ (n : List ℕ) (r : ℕ) (h : r < rowsOf n) where
       let (b, c) = also-true _ _ e₁ in
       record { holds = child _ a; unused-b = eqb-true _ _ b; unused-c = eqb-true _ _ c }
 
-  node-row : (t v : List ℕ) → nodeKept (rowsOf t) (rowsOf v) n r ≡ true → NodeRow t v n r
+  node-row : {version : ℕ} (t v : List ℕ) → nodeKept version (rowsOf t) (rowsOf v) n r ≡ true → NodeRow t v n r
   unfolding nodeKept formKept
   node-row t v e =
       let (zero, form) = also-true _ _ e in
@@ -219,18 +225,18 @@ module _ (n : List ℕ) (r : ℕ) (h : r < rowsOf n) where
 
 -- ---- the whole table
 
-module _ (t v n : List ℕ) (e : question7 t v n ≡ Kept) (r : ℕ) (h : r < rowsOf n) where
-  kept : nodeKept (rowsOf t) (rowsOf v) n r ≡ true
+module _ {version : ℕ} (t v n : List ℕ) (e : question7 version t v n ≡ Kept) (r : ℕ) (h : r < rowsOf n) where
+  kept : nodeKept version (rowsOf t) (rowsOf v) n r ≡ true
   unfolding question7
-  kept = verdict-kept (nodeKept (rowsOf t) (rowsOf v) n) (rowsOf n) e r h
+  kept = verdict-kept (nodeKept version (rowsOf t) (rowsOf v) n) (rowsOf n) e r h
 
   pub nodes-kept : NodeRow t v n r
   nodes-kept = node-row n r h t v kept
 
   -- where the kind is known
-  form : (k : ℕ) → rowAt n r .kind ≡ k → formKept (rowsOf t) (rowsOf v) n r k (rowAt n r) ≡ true
+  form : (k : ℕ) → rowAt n r .kind ≡ k → formKept version (rowsOf t) (rowsOf v) n r k (rowAt n r) ≡ true
   unfolding nodeKept
-  form k kind = sym (ap (λ j. formKept (rowsOf t) (rowsOf v) n r j (rowAt n r)) kind) ∙ also-true _ _ kept .1
+  form k kind = sym (ap (λ j. formKept version (rowsOf t) (rowsOf v) n r j (rowAt n r)) kind) ∙ also-true _ _ kept .1
 
   pub constant-is : rowAt n r .kind ≡ 0 → ConstantNode (rowAt n r)
   unfolding formKept choose

@@ -137,7 +137,7 @@ module _ {version : ℕ} (t f old plan : List ℕ) (r used : ℕ) (s : Sofar ver
         let bad = all-fields ∙ ne-eqb used (rowsOf f) h in
         (up-to-some (typeKept version t f) (rowsOf t) _ r below within done bad, (planned, rest))
 
-    pub fields-good : used ≡ rowsOf f → Answered t f old plan Kept
+    pub fields-good : used ≡ rowsOf f → Answered version t f old plan Kept
     unfolding question4 passed
     fields-good h = (
       up-to-end (typeKept version t f) (rowsOf t) _ r below within done (all-fields ∙ eq-eqb used (rowsOf f) h),

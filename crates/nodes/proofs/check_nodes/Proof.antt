@@ -16,10 +16,10 @@ use Rattle.image.proofs.rows_of.Reads as rows-of-reads
 use Rattle.nodes.proofs.node_form.Reads as node-form-reads
 
 abbrev Inv-loop : tie.InvT-loop
-Inv-loop t v n types variables nodes r₀ r = (r ≤ nodes) × KeptIn (nodeKept types variables n) 0 r
+Inv-loop version t v n types variables nodes r₀ r = (r ≤ nodes) × KeptIn (nodeKept version types variables n) 0 r
 
 abbrev μ-loop : tie.MeasureT-loop
-μ-loop t v n types variables nodes r₀ r = nodes - r
+μ-loop version t v n types variables nodes r₀ r = nodes - r
 
 rows-of-requires : tie.Need-rows-of-requires Inv-loop μ-loop
 rows-of-requires c κs = search needs
