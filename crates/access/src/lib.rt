@@ -3,6 +3,7 @@
 use checker::CheckAnswer;
 use image::Row;
 use relations::FieldAnswer;
+use shapes::NO_KIND;
 use sizes::BOUNDS;
 use sizes::FIRSTS;
 use sizes::FRAMES;
@@ -19,7 +20,7 @@ ghost use Prim.Native.Nat.{_≤_, _<_};
 ghost use lib.ListN.{length};
 ghost use Rattle.prelude.specs.Cells.{Filled};
 ghost use Rattle.image.specs.Rows.{rowAt, rowsOf};
-ghost use Rattle.shapes.specs.Forms.{kindIn};
+ghost use Rattle.shapes.specs.Forms.{kindIn, isSingle};
 ghost use Rattle.shapes.specs.Sizes.{sizeOf};
 ghost use Rattle.sizes.specs.Cells.{OWNERS, NODES, KINDS, RUN_PLAN};
 ghost use Rattle.types.specs.Plan.{Plan as TypesPlan};
@@ -135,6 +136,14 @@ pub fn kind_of(image: &&[u8], plan: &Plan, r: u16) -> u16
     ensures { λ x. ⌜ x ≡ kindIn (programOf (now (now (image .entry))) .types) r ⌝ }
 {
     plan[KINDS + r as usize] as u16
+}
+
+// Whether objects of type row r are single cells.
+pub fn is_single(image: &&[u8], plan: &Plan, r: u16) -> bool
+    requires { ⌜ Planned (now (now image)) (now plan) × (r < rowsOf (programOf (now (now image)) .types)) ⌝ }
+    ensures { λ x. ⌜ x ≡ isSingle (programOf (now (now (image .entry))) .types) r ⌝ }
+{
+    kind_of(image, plan, r) != NO_KIND
 }
 
 // ---- variables and procedures

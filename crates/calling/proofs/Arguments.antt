@@ -31,7 +31,6 @@ use Rattle.semantics.specs.Stepping.{State, Next, Next.trapped, Next.stuck, onP
 use Rattle.semantics.specs.Stepping.{argumentCells, passed}
 use Rattle.semantics.specs.Running.{programOf}
 use Rattle.semantics.proofs.Found.{the-type as foundType}
-use Rattle.semantics.proofs.Kinship.{scalar-layout}
 use Rattle.semantics.proofs.Demand3.{program-accepted}
 use Rattle.access.specs.Ready.{Planned, Ready}
 use Rattle.access.proofs.Bounds.{variable-typed}
@@ -145,10 +144,6 @@ passes-as e (passes-stuck h) = passes-stuck (λ after. e after ∙ h after)
 
 -- ---- one argument, by its parameter's row
 
--- the cells of a scalar
-scalar-size : (t f : List ℕ) → TypesKept t f → (r : ℕ) → r ≤ 2 → r < rowsOf t → sizeOf t f r ≡ 1
-scalar-size t f kept r h low = sym (layout-length t f r) ∙ rw (scalar-layout t f kept r h low)
-
 module _ {image : List ℕ} {top a : ℕ} {cells : List ℤ} (roomy : Roomy image top a cells) {row : Row} {place : ℕ}
     (is : row ≡ rowAt (programOf image .variables) a) (at : place ≡ placeOf (programOf image) a) where
   abbrev g : Program
@@ -176,11 +171,11 @@ module _ {image : List ℕ} {top a : ℕ} {cells : List ℤ} (roomy : Roomy imag
     pub type-there : row .a < rowsOf (g .types)
     type-there = rw is (variable-typed planned a (roomy .there))
 
-    -- room for a scalar
-    pub value-room : (row .kind ≡ 3 → ⊥) → row .a ≤ 2 → top + (place + 1) ≤ length cells
-    value-room other low =
+    -- room for a single cell
+    pub value-room : (row .kind ≡ 3 → ⊥) → isSingle (g .types) (row .a) ≡ true → top + (place + 1) ≤ length cells
+    value-room other single =
         let kept = program-accepted image (planned .checked .accepted) .types in
-        rw (scalar-size (g .types) (g .fields) kept (row .a) low type-there) at (cells-room other)
+        rw (single-size (g .types) (g .fields) kept (row .a) single) at (cells-room other)
 
 module _ (g : Program) (k : ℕ) (s : State ℤ) where
   abbrev found : Found
@@ -191,28 +186,28 @@ module _ (g : Program) (k : ℕ) (s : State ℤ) where
 
   module _ (a : ℕ) {row : Row} {place : ℕ} (is : row ≡ rowAt (g .variables) a) (at : place ≡ placeOf g a)
       {r : Passing} {cells : List ℤ} where
-    -- an object, a scalar, and other cells
+    -- an object, a single cell, and other cells
     pub as-object : row .kind ≡ 3 → Passes s
         (λ after. onPlace s found (λ o. framed s place after (pos (o .address) ∷ pos (o .dynamic) ∷ []))) r cells
         → Passes s (passedOne bare g k a s) r cells
     unfolding passedOne argumentCells bare
     as-object kind h = passes-as (λ after. rw (← is, ← at) (choose-yes _ _ _ (eq-eqb _ _ kind))) h
 
-    pub as-value : (row .kind ≡ 3 → ⊥) → row .a ≤ 2
+    pub as-value : (row .kind ≡ 3 → ⊥) → isSingle (g .types) (row .a) ≡ true
         → Passes s (λ after. onValue s value (λ v. framed s place after (bare .put v ∷ []))) r cells
         → Passes s (passedOne bare g k a s) r cells
     unfolding passedOne argumentCells
-    as-value other low h =
+    as-value other single h =
         passes-as
-        (λ after. rw (← is, ← at) (choose-no _ _ _ (ne-eqb _ _ other) ∙ choose-yes _ _ _ (le-leb _ _ low))) h
+        (λ after. rw (← is, ← at) (choose-no _ _ _ (ne-eqb _ _ other) ∙ choose-yes _ _ _ single)) h
 
-    pub as-cells : (row .kind ≡ 3 → ⊥) → 2 < row .a → Passes s (λ after.
+    pub as-cells : (row .kind ≡ 3 → ⊥) → isSingle (g .types) (row .a) ≡ false → Passes s (λ after.
         onPlace s found (λ o. onPart s (o .address) (sizeOf (g .types) (g .fields) (row .a)) (framed s place after)))
         r cells → Passes s (passedOne bare g k a s) r cells
     unfolding passedOne argumentCells
-    as-cells other high h =
+    as-cells other structured h =
         passes-as
-        (λ after. rw (← is, ← at) (choose-no _ _ _ (ne-eqb _ _ other) ∙ choose-no _ _ _ (lt-leb _ _ high))) h
+        (λ after. rw (← is, ← at) (choose-no _ _ _ (ne-eqb _ _ other) ∙ choose-no _ _ _ structured)) h
 
 -- ---- one argument after the other
 

@@ -3,7 +3,6 @@ use access::Plan;
 use image::Row;
 use semantics::Found;
 use semantics::Registers;
-use shapes::NO_KIND;
 use values::Answer;
 use values::Trap;
 ghost use mathlib.Core.Path.{_≡_};
@@ -177,7 +176,7 @@ fn pass(image: &&[u8], plan: &Plan, store: &mut [i64], s: Registers, k: u32, a: 
     if kind == 3 {
         return pass_object(image, plan, store, s, k, place);
     }
-    if access::kind_of(image, plan, r) != NO_KIND {
+    if access::is_single(image, plan, r) {
         return pass_value(image, plan, store, s, k, place);
     }
     pass_cells(image, plan, store, s, k, place, r)

@@ -77,6 +77,10 @@ module _ {image : List ℕ} where
   index-low (As.Trap t) next h = low-trap
   index-low As.Stuck next h = low-stuck
 
+  -- of a type that there is
+  low-typed : {n : ℕ} {place : Place} → Low image n (Fs.At place) → place .declared < rowsOf (programOf image .types)
+  low-typed (low-at l t) = t
+
   -- low enough to add an offset
   within-low : {place : Place} → Low image 16777216 (Fs.At place) → Within image place
   within-low (low-at l t) = record { low = l; typed = t }
@@ -181,6 +185,29 @@ module _ {image plan : List ℕ} (p : Planned image plan) where
       choose-has (Low image n) (extends (g .types) (place .dynamic) b)
       (λ e. low-at {place = record { address = place .address; declared = b; dynamic = place .dynamic }} l t)
       (λ e. low-trap)
+
+  -- ---- what was found is of a type that there is
+
+  module _ {x : Found} {place : Place} (at : x ≡ Fs.At place) where
+    typed-at : {n : ℕ} {y : Found} → x ≡ y → Low image n y → place .declared < rowsOf (g .types)
+    typed-at {n} e h = low-typed (subst (Low image n) (sym e ∙ at) h)
+
+    pub variable-there : {base top : ℕ} {cells : List ℤ} → base ≤ 65536 → (a : ℕ)
+        → x ≡ variablePlace bare g base top cells a (rowAt (g .variables) a) → place .declared < rowsOf (g .types)
+    variable-there {base} {top} {cells} low a e = typed-at e (variable-low base top cells low a)
+
+    pub field-there : (whole : Place) (r j : ℕ) → x ≡ fieldPlace whole (fieldOf (g .types) (g .fields) r j)
+        → place .declared < rowsOf (g .types)
+    field-there whole r j e = typed-at e (field-place-low (whole .address) r j whole (omega arith))
+
+    pub element-there : (whole : Place) (z : ℤ) → rowAt (g .types) (whole .declared) .kind ≡ 3
+        → x ≡ elementPlace g whole (rowAt (g .types) (whole .declared)) z → place .declared < rowsOf (g .types)
+    element-there whole z kind e = typed-at e (element-place-low (whole .address) whole (omega arith) kind z)
+
+    pub guard-there : (whole : Place) (r : ℕ) → rowAt (g .nodes) r .kind ≡ 4
+        → x ≡ guardPlace g (rowAt (g .nodes) r .b) whole → place .declared < rowsOf (g .types)
+    guard-there whole r kind e =
+        typed-at e (guard-place-low (whole .address) (rowAt (g .nodes) r .b) whole (omega arith) (guard-typed p r kind))
 
   -- ---- every node, from the low rows up
 

@@ -11,7 +11,7 @@ use values::Value;
 ghost use mathlib.Core.Path.{_≡_};
 ghost use Prim.Native.Nat.{_+_, _≤_, _<_};
 ghost use lib.ListN.{length};
-ghost use Rattle.image.specs.Rows.{rowAt};
+ghost use Rattle.image.specs.Rows.{rowAt, rowsOf};
 ghost use Rattle.shapes.specs.Forms.{kindIn};
 ghost use Rattle.relations.specs.Fields.{fieldOf};
 ghost use Rattle.semantics.specs.Memory.{bare, valueAt};
@@ -63,8 +63,8 @@ fn no_value(x: Found) -> Answer
 
 // The value of an object.
 fn load(image: &&[u8], plan: &Plan, store: &&[i64], top: u32, place: Place) -> Answer
-    requires { ⌜ Planned (now (now image)) (now plan) × Within (now (now image)) place
-        × (top ≤ length (now (now store))) ⌝ }
+    requires { ⌜ Planned (now (now image)) (now plan)
+        × (place .declared < rowsOf (programOf (now (now image)) .types)) × (top ≤ length (now (now store))) ⌝ }
     ensures { λ r. ⌜ r ≡ valueAt bare top (now (now (store .entry)))
         (kindIn (programOf (now (now (image .entry))) .types) (place .declared)) (place .address) ⌝ }
 {

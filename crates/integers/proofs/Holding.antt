@@ -1,5 +1,5 @@
 -- How far an operation on two INTEGERs can take a number.
-use mathlib.Core.Path.{_≡_, refl}
+use mathlib.Core.Path.{_≡_, refl, _∙_}
 use mathlib.Core.Bool.{Bool, true, false}
 use Prim.Native.Nat.{ℕ, zero, suc, _+_, _*_, _<_, _≤_}
 use native.Mathlib.Omega.{arith}
@@ -78,8 +78,5 @@ pub record Turns (z : ℤ) : Type 0 where
 
 pub turns : (z : ℤ) → SFits w32 z → Turns z
 turns z f =
-    let h : SFits w64 (negℤ z) = record { sfits = omega (arith, mag-neg z, f .sfits) } in
-    record {
-      fits = rw (wide z f, +ℤ-idl (negℤ z)) h;
-      same = rw (wide z f, +ℤ-idl (negℤ z)) (plain64 (negℤ z) h);
-    }
+    let h = difference-holds (pos 0) z (record { sfits = omega arith }) f in
+    record { fits = h .fits; same = h .same ∙ +ℤ-idl (negℤ z) }

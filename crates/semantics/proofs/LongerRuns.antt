@@ -24,7 +24,7 @@ use Rattle.semantics.proofs.Longer.{longer, Longer, Longer.longer-goes,
 use Rattle.semantics.proofs.Longer.{Longer.longer-stuck, choose-longer, assigned-longer, gone-longer, jumped-longer}
 use Rattle.semantics.proofs.Longer.{returned-longer, received-longer, sent-longer, halted-longer}
 use Rattle.semantics.proofs.LongerCalls.{called-longer}
-use Rattle.semantics.proofs.Marks.{newTop, asked-call, asked-cases, asked-below}
+use Rattle.semantics.proofs.Marks.{callTop, asked-call, asked-cases, asked-below}
 
 -- where a run ended, in a store with more cells
 unfoldable pub longerEnded : {X : Type 0} → List X → Ended X → Ended X
@@ -90,7 +90,7 @@ module _ {X : Type 0} (m : Memory X) (g : Program)
         (λ some. let (call, (top, fits)) = some in
         choose-no _ _ _ (ne-eqb (rowAt (g .statements) (s .at .row) .kind) 0 (λ none. absurd (omega arith)))
         ∙ choose-yes _ _ _ (eq-eqb _ 1 call)
-        ∙ choose-yes _ _ _ (lt-ltb (length (s .cells)) (newTop g (s .at)) (omega arith)))
+        ∙ choose-yes _ _ _ (lt-ltb (length (s .cells)) (callTop g (s .at)) (omega arith)))
         (asked-cases g (s .at) (length (s .cells ++ rest)))
 
     -- the mark behind the step, in both

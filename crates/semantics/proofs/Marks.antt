@@ -13,10 +13,9 @@ use lib.ListN.{length}
 use Rattle.prelude.specs.Choice.{choose}
 use Rattle.prelude.proofs.Choice.{choose-yes, choose-no}
 use Rattle.image.specs.Rows.{rowAt}
-use Rattle.places.specs.Places.{frameSize}
 use Rattle.semantics.specs.declared.Registers.{Registers}
 use Rattle.semantics.specs.Memory.{Memory, Cell, tagged}
-use Rattle.semantics.specs.Layout.{Program}
+use Rattle.semantics.specs.Layout.{Program, newTop}
 use Rattle.semantics.specs.Stepping.{State, Next, Next.goes, Next.finished, Next.trapped, Next.stuck, stepOf}
 use Rattle.semantics.specs.Running.{askedBy, raised, Ended, onward, runFrom}
 use Rattle.semantics.specs.After.{Machine.running, moved, after}
@@ -24,25 +23,25 @@ use Rattle.semantics.specs.Marks.{Asks, AskedWithin, Largest}
 
 module _ (g : Program) (s : Registers) where
   -- the top behind a call of the procedure that the statement names
-  abbrev pub newTop : ℕ
-  newTop = s .top + frameSize (g .types) (g .fields) (g .variables) (g .procedures) (rowAt (g .statements) (s .row) .a)
+  abbrev pub callTop : ℕ
+  callTop = newTop g (s .top) (rowAt (g .statements) (s .row) .a)
 
   -- a call that fits into so many cells asks for it
-  pub asked-call : (cells : ℕ) → rowAt (g .statements) (s .row) .kind ≡ 1 → newTop ≤ cells → askedBy g s cells ≡ newTop
+  pub asked-call : (cells : ℕ) → rowAt (g .statements) (s .row) .kind ≡ 1 → callTop ≤ cells → askedBy g s cells ≡ callTop
   unfolding askedBy
-  asked-call cells call fits = choose-yes _ _ _ (eq-eqb _ 1 call) ∙ choose-no _ _ _ (le-ltb cells newTop fits)
+  asked-call cells call fits = choose-yes _ _ _ (eq-eqb _ 1 call) ∙ choose-no _ _ _ (le-ltb cells callTop fits)
 
   -- and no other step asks for any
   pub asked-cases : (cells : ℕ)
       → (askedBy g s cells ≡ 0)
-      ⊎ ((rowAt (g .statements) (s .row) .kind ≡ 1) × ((askedBy g s cells ≡ newTop) × (newTop ≤ cells)))
+      ⊎ ((rowAt (g .statements) (s .row) .kind ≡ 1) × ((askedBy g s cells ≡ callTop) × (callTop ≤ cells)))
   unfolding askedBy choose
-  asked-cases cells = go (eqb (rowAt (g .statements) (s .row) .kind) 1) refl (ltb cells newTop) refl
+  asked-cases cells = go (eqb (rowAt (g .statements) (s .row) .kind) 1) refl (ltb cells callTop) refl
     where
-      go : (call : Bool) → eqb (rowAt (g .statements) (s .row) .kind) 1 ≡ call → (past : Bool) → ltb cells newTop ≡ past
-          → (choose call (choose past 0 newTop) 0 ≡ 0)
+      go : (call : Bool) → eqb (rowAt (g .statements) (s .row) .kind) 1 ≡ call → (past : Bool) → ltb cells callTop ≡ past
+          → (choose call (choose past 0 callTop) 0 ≡ 0)
           ⊎ ((rowAt (g .statements) (s .row) .kind ≡ 1)
-          × ((choose call (choose past 0 newTop) 0 ≡ newTop) × (newTop ≤ cells)))
+          × ((choose call (choose past 0 callTop) 0 ≡ callTop) × (callTop ≤ cells)))
       go true call true past = inl refl
       go true call false past = inr (eqb-true _ _ call, (refl, ltb-false _ _ past))
       go false call past e = inl refl
@@ -103,13 +102,13 @@ module _ (g : Program) (input : List ℤ) where
       (asked-cases g (s .at) (length (s .cells)))
     where
       go : (rowAt (g .statements) (s .at .row) .kind ≡ 1)
-          × ((askedBy g (s .at) (length (s .cells)) ≡ newTop g (s .at)) × (newTop g (s .at) ≤ length (s .cells)))
+          × ((askedBy g (s .at) (length (s .cells)) ≡ callTop g (s .at)) × (callTop g (s .at) ≤ length (s .cells)))
           → Dec (askedBy g (s .at) (length (s .cells)) ≤ mark)
           → (max mark (askedBy g (s .at) (length (s .cells))) ≡ mark)
           ⊎ Asks g s (max mark (askedBy g (s .at) (length (s .cells))))
       go some (yes low) = inl (omega arith)
       go (call, (top, fits)) (no high) =
-          let this : max mark (askedBy g (s .at) (length (s .cells))) ≡ newTop g (s .at) = omega arith in
+          let this : max mark (askedBy g (s .at) (length (s .cells))) ≡ callTop g (s .at) = omega arith in
           inr (record { call = call; asked = this; passed = omega arith })
 
   -- of the first step alone

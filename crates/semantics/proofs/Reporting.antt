@@ -15,7 +15,6 @@ use Rattle.prelude.proofs.Choice.{choose-yes, choose-no, choose-has}
 use Rattle.image.specs.declared.Row.{Row}
 use Rattle.image.specs.Rows.{rowAt}
 use Rattle.frames.specs.Procedures.{firstVariable}
-use Rattle.places.specs.Places.{frameSize}
 use Rattle.values.specs.declared.Value.{Value}
 use Rattle.values.specs.declared.Value.the-variants as Vs
 use Rattle.values.specs.declared.Trap.{Trap}
@@ -31,7 +30,7 @@ use Rattle.semantics.specs.declared.Found.the-variants as Fs
 use Rattle.semantics.specs.declared.Mark.{Mark}
 use Rattle.semantics.specs.declared.Mark.the-variants.{Number, Nothing}
 use Rattle.semantics.specs.Memory.{LINK, Memory, cellAt, markAt}
-use Rattle.semantics.specs.Layout.{Program}
+use Rattle.semantics.specs.Layout.{Program, newTop}
 use Rattle.semantics.specs.Stepping.{State, Next, Next.goes, Next.finished, Next.trapped, Next.stuck}
 use Rattle.semantics.specs.Stepping.{onPlace, onValue, onMark, goTo, following, withCells}
 use Rattle.semantics.specs.Stepping.{written, onPart, afterRead, copied, assigned, argumentCells, passed, entered}
@@ -171,11 +170,8 @@ module _ {X : Type 0} (input : List ℤ) where
         (λ e. place-reports here _ _ (λ source. copied-reports target source)))
 
     -- the top that a call of procedure q asks for
-    abbrev newTop : ℕ → ℕ
-    newTop q = s .at .top + frameSize (g .types) (g .fields) (g .variables) (g .procedures) q
-
     entered-reports : (q : ℕ) (procedure : Row) (u : State X) → Keeps input s u → u .at .top ≡ s .at .top
-        → Reports (newTop q) s (entered m g q procedure u)
+        → Reports (newTop g (s .at .top) q) s (entered m g q procedure u)
     unfolding entered
     entered-reports q procedure u kept top = reports-goes (keeps-on kept (keeps-same refl refl refl)) (raised-by _ top)
       where
@@ -183,11 +179,12 @@ module _ {X : Type 0} (input : List ℤ) where
         raised-by room e = rw e
 
     called-reports : (row : Row)
-        → Reports (choose (ltb (length (s .cells)) (newTop (row .a))) 0 (newTop (row .a))) s (called m g row s)
+        → Reports (choose (ltb (length (s .cells)) (newTop g (s .at .top) (row .a))) 0 (newTop g (s .at .top) (row .a))) s
+        (called m g row s)
     unfolding called choose
-    called-reports row = go (ltb (length (s .cells)) (newTop (row .a)))
+    called-reports row = go (ltb (length (s .cells)) (newTop g (s .at .top) (row .a)))
       where
-        go : (b : Bool) → Reports (choose b 0 (newTop (row .a))) s (choose b (trapped Ts.Frame (pos 0) s)
+        go : (b : Bool) → Reports (choose b 0 (newTop g (s .at .top) (row .a))) s (choose b (trapped Ts.Frame (pos 0) s)
             (passed m g (row .b) (firstVariable (g .variables) (g .procedures) (row .a))
             (rowAt (g .procedures) (row .a) .b) s (entered m g (row .a) (rowAt (g .procedures) (row .a)))))
         go true = reports-trapped here (no-number _)
@@ -261,7 +258,8 @@ module _ {X : Type 0} (input : List ℤ) where
 
     -- by the kind: a call asks for a top
     perform-reports : (kind : ℕ) (row : Row)
-        → Reports (choose (eqb kind 1) (choose (ltb (length (s .cells)) (newTop (row .a))) 0 (newTop (row .a))) 0) s
+        → Reports (choose (eqb kind 1) (choose (ltb (length (s .cells)) (newTop g (s .at .top) (row .a))) 0
+        (newTop g (s .at .top) (row .a))) 0) s
         (perform m g input kind row s)
     unfolding perform
     perform-reports kind row =

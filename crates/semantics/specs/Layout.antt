@@ -7,7 +7,7 @@ use Rattle.image.specs.Rows.{rowAt, rowsOf}
 use Rattle.shapes.specs.Sizes.{layoutOf}
 use Rattle.frames.specs.Variables.{isGlobal}
 use Rattle.frames.specs.Procedures.{firstVariable}
-use Rattle.places.specs.Places.{roomFrom, placeIn}
+use Rattle.places.specs.Places.{roomFrom, placeIn, frameSize}
 use Rattle.semantics.specs.Memory.{ADDRESS, TYPE}
 
 -- the six tables of an accepted image
@@ -34,6 +34,10 @@ placeOf g a =
     choose (isGlobal (g .variables) a)
     (roomFrom (g .types) (g .fields) (g .variables) 0 a)
     (placeIn (g .types) (g .fields) (g .variables) (g .procedures) (ownerOf (g .variables) (g .procedures) a) a)
+
+-- "the new frame's cells begin at the old top": where those of a call of procedure q end
+abbrev pub newTop : Program → ℕ → ℕ → ℕ
+newTop g top q = top + frameSize (g .types) (g .fields) (g .variables) (g .procedures) q
 
 -- "a VAR parameter two cells, address and dynamic type, others their size": the kinds of variable row k's cells
 unfoldable pub kindsOf : Program → ℕ → List ℕ

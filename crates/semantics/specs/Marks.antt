@@ -7,9 +7,8 @@ use mathlib.Core.Logic.{_⊎_}
 use lib.IntN.{ℤ}
 use lib.ListN.{length}
 use Rattle.image.specs.Rows.{rowAt}
-use Rattle.places.specs.Places.{frameSize}
 use Rattle.semantics.specs.Memory.{Cell, tagged}
-use Rattle.semantics.specs.Layout.{Program}
+use Rattle.semantics.specs.Layout.{Program, newTop}
 use Rattle.semantics.specs.Stepping.{State}
 use Rattle.semantics.specs.After.{Machine.running, after}
 
@@ -18,8 +17,7 @@ use Rattle.semantics.specs.After.{Machine.running, after}
 -- the step from s is a call that asks for this top, and passes the store check
 pub record Asks (g : Program) (s : State Cell) (top : ℕ) : Type 0 where
   pub call : rowAt (g .statements) (s .at .row) .kind ≡ 1
-  pub asked : top
-      ≡ s .at .top + frameSize (g .types) (g .fields) (g .variables) (g .procedures) (rowAt (g .statements) (s .at .row) .a)
+  pub asked : top ≡ newTop g (s .at .top) (rowAt (g .statements) (s .at .row) .a)
   pub passed : top ≤ length (s .cells)
 
 -- one of the first n steps from s does, also where an argument then traps

@@ -16,7 +16,7 @@ use Rattle.checker.specs.Check.{checkOf, refusalOf, rowOf}
 use Rattle.semantics.specs.declared.Registers.{Registers}
 use Rattle.semantics.specs.declared.RunResult.{RunResult}
 use Rattle.semantics.specs.Memory.{LINK, Cell, Memory, tagged}
-use Rattle.semantics.specs.Layout.{Program, kindsFrom}
+use Rattle.semantics.specs.Layout.{Program, newTop, kindsFrom}
 use Rattle.semantics.specs.Stepping.{State, Next, Next.goes, Next.finished, Next.trapped, Next.stuck, stepOf}
 
 -- the program of an image
@@ -64,7 +64,7 @@ fresh m g store output = record {
 unfoldable pub askedBy : Program → Registers → ℕ → ℕ
 askedBy g s cells =
     let row : Row = rowAt (g .statements) (s .row) in
-    let top : ℕ = s .top + frameSize (g .types) (g .fields) (g .variables) (g .procedures) (row .a) in
+    let top : ℕ = newTop g (s .top) (row .a) in
     choose (eqb (row .kind) 1) (choose (ltb cells top) 0 top) 0
 
 -- the mark behind the step from a state, where it was so large before

@@ -12,7 +12,7 @@ use Rattle.shapes.specs.Forms.{isSingle}
 use Rattle.shapes.specs.Sizes.{sizeOf}
 use Rattle.frames.specs.Procedures.{firstVariable}
 use Rattle.statements.specs.Statements.{procedureAt}
-use Rattle.places.specs.Places.{roomFrom, frameSize}
+use Rattle.places.specs.Places.{roomFrom}
 use Rattle.values.specs.Values.{isInteger, asBoolean, asInteger}
 use Rattle.values.specs.declared.Value.{Value}
 use Rattle.values.specs.declared.Value.the-variants as Vs
@@ -27,7 +27,7 @@ use Rattle.semantics.specs.declared.Found.the-variants as Fs
 use Rattle.semantics.specs.declared.Mark.{Mark}
 use Rattle.semantics.specs.declared.Mark.the-variants.{Number, Nothing}
 use Rattle.semantics.specs.Memory.{LINK, ADDRESS, TYPE, Memory, markAt, partAt, overwrite}
-use Rattle.semantics.specs.Layout.{Program, placeOf, kindsFrom}
+use Rattle.semantics.specs.Layout.{Program, placeOf, newTop, kindsFrom}
 use Rattle.semantics.specs.Finding.{findOf, evalOf}
 
 -- "State: cells below top, row, base, top, counts read, written, steps." The cells are the whole lent store's; the
@@ -160,19 +160,18 @@ module _ {X : Type 0} where
     -- "then locals zero, links, and the state's row (the procedure's first), base and top"
     unfoldable pub entered : ℕ → Row → State X → Next X
     entered q procedure s =
-        let t : List ℕ = g .types in
         let top : ℕ = s .at .top in
         let first : ℕ = firstVariable (g .variables) (g .procedures) q in
         let locals : List X = map (m .blank) (kindsFrom g (first + procedure .b) (procedure .c)) in
         let caller : ℕ = procedureAt (g .procedures) (s .at .row) in
         let links : List X = m .mark LINK caller ∷ m .mark LINK (s .at .row + 1) ∷ m .mark LINK (s .at .base) ∷ [] in
-        let past : ℕ = top + (3 + roomFrom t (g .fields) (g .variables) first (procedure .b)) in
+        let past : ℕ = top + (3 + roomFrom (g .types) (g .fields) (g .variables) first (procedure .b)) in
         let zeroed : List X = overwrite (s .cells) past locals in
         goes (record {
           at = record {
             row = procedure .a;
             base = top;
-            top = top + frameSize t (g .fields) (g .variables) (g .procedures) q;
+            top = newTop g top q;
             read = s .at .read;
             written = s .at .written;
           };
@@ -183,9 +182,8 @@ module _ {X : Type 0} where
     -- "Call: store check first"; trap "7 frame beyond the store"
     unfoldable pub called : Row → State X → Next X
     called row s =
-        let room : ℕ = frameSize (g .types) (g .fields) (g .variables) (g .procedures) (row .a) in
         let first : ℕ = firstVariable (g .variables) (g .procedures) (row .a) in
-        choose (ltb (length (s .cells)) (s .at .top + room)) (trapped Ts.Frame (pos 0) s)
+        choose (ltb (length (s .cells)) (newTop g (s .at .top) (row .a))) (trapped Ts.Frame (pos 0) s)
         (passed m g (row .b) first (rowAt (g .procedures) (row .a) .b) s
         (entered (row .a) (rowAt (g .procedures) (row .a))))
 

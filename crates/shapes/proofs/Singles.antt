@@ -5,7 +5,7 @@ use mathlib.Core.List.{List, [], _∷_}
 use Prim.Native.Nat.{ℕ, _≤_, _<_}
 use native.Mathlib.Omega.{arith}
 use native.Mathlib.Decide.{decLt}
-use borrow.Author.Tests.{eqb-false, ne-eqb, not-true}
+use borrow.Author.Tests.{eqb-false, eq-eqb, ne-eqb, not-true}
 use Rattle.image.specs.declared.Row.{Row}
 use Rattle.image.specs.Rows.{rowAt, rowsOf}
 use Rattle.image.proofs.Bytes.{row-there}
@@ -49,6 +49,10 @@ module _ (t : List ℕ) (r : ℕ) where
   pub kind-single : (kindIn t r ≡ NO_KIND → ⊥) → isSingle t r ≡ true
   unfolding isSingle
   kind-single h = rw (ne-eqb (kindIn t r) NO_KIND h)
+
+  pub no-single : kindIn t r ≡ NO_KIND → isSingle t r ≡ false
+  unfolding isSingle
+  no-single e = rw (eq-eqb (kindIn t r) NO_KIND e)
 
   single-form : isSingle t r ≡ true → form t r ≡ scalar (kindIn t r)
   unfolding kindIn

@@ -6,7 +6,6 @@ use semantics::Found;
 use semantics::Mark;
 use semantics::Place;
 use semantics::Registers;
-use shapes::NO_KIND;
 use values::Answer;
 use values::Trap;
 use values::Value;
@@ -120,7 +119,7 @@ fn assign(image: &&[u8], plan: &Plan, store: &mut [i64], s: Registers, statement
     };
     let address = target.address;
     let declared = target.declared;
-    if access::kind_of(image, plan, declared) != NO_KIND {
+    if access::is_single(image, plan, declared) {
         let answer = finding::fresh(finding::eval_at(image, plan, store, base, top, b));
         let Answer::Val(value) = answer else {
             return calling::ended_by(calling::lost_value(answer));

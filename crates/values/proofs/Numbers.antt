@@ -8,7 +8,7 @@ use borrow.Author.Tests.{ltb-true, ltb-false, lt-ltb, le-ltb, le-leb, lt-leb, ne
 use lib.Dec.{leb, T}
 use lib.IntN.{ℤ, pos, negsuc, natAbs, _-ℤ_}
 use lib.Signed.{mag, ltZ, nonNeg}
-use mir.Syntax.{w32, w64}
+use mir.Syntax.{Width, w32, w64}
 use mir.Val.{SFits, Fits, toZ, ofZ}
 use mir.ValLaws.{toZ-ofZ}
 use Rattle.prelude.specs.Choice.{choose}
@@ -82,13 +82,16 @@ pub neg-is : (z : ℤ) → ltZ z (pos 0) ≡ true → z ≡ negsuc (mag z)
 neg-is (pos n) h = absurd (omega (arith, ltb-true))
 neg-is (negsuc n) h = refl
 
--- what a cast to 32 bits without a sign asks
-pub unsigned : (z : ℤ) → ltZ z (pos 0) ≡ false → mag z < 4294967296 → T (nonNeg z) × Fits w32 (natAbs z)
-unsigned (pos n) h l = (tt, record { fits = l })
-unsigned (negsuc n) h l = clash h
+-- what a cast to a width without a sign asks
+pub unsigned : (w : Width) (z : ℤ) → ltZ z (pos 0) ≡ false → Fits w (mag z) → T (nonNeg z) × Fits w (natAbs z)
+unsigned w (pos n) h l = (tt, l)
+unsigned w (negsuc n) h l = clash h
 
 pub to-unsigned : (z : ℤ) → ltZ z (pos 0) ≡ false → SFits w32 z → T (nonNeg z) × Fits w32 (natAbs z)
-to-unsigned z h f = unsigned z h (omega (arith, f .sfits))
+to-unsigned z h f = unsigned w32 z h (record { fits = omega (arith, f .sfits) })
+
+pub to-unsigned64 : (z : ℤ) → ltZ z (pos 0) ≡ false → SFits w64 z → T (nonNeg z) × Fits w64 (natAbs z)
+to-unsigned64 z h f = unsigned w64 z h (record { fits = omega (arith, f .sfits) })
 
 -- -1 - z, of a natural number and of a negative one
 pub below-zero : (n : ℕ) → negsuc 0 -ℤ pos n ≡ negsuc n
@@ -149,5 +152,5 @@ set-is (pos n) h k = rw (lt-ltb n 4294967296 (omega (arith, ltb-false)))
 set-is (negsuc n) h k = clash h
 
 pub set-fits : (z : ℤ) → ltZ z (pos 0) ≡ false → ltZ (pos 4294967295) z ≡ false → T (nonNeg z) × Fits w32 (natAbs z)
-set-fits (pos n) h k = unsigned (pos n) h (omega (arith, ltb-false))
+set-fits (pos n) h k = unsigned w32 (pos n) h (record { fits = omega (arith, ltb-false) })
 set-fits (negsuc n) h k = clash h

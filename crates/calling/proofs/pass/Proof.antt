@@ -30,6 +30,13 @@ returns c =
     as-object _ _ _ (q .before .args .a) (q .variable-at .ensures) at kind
     (c .before .pass-object .ensures output)
 
+is-single-requires : tie.Need-is-single-requires
+is-single-requires c κs =
+    let q = c .before .before .before in
+    let first = q .before in
+    let at = c .before .before .place-of .ensures in
+    (first .pre .0 .planned, type-there (first .pre .2) (q .variable-at .ensures) at (first .pre .0 .planned))
+
 pass-value-requires : tie.Need-pass-value-requires
 pass-value-requires c κs =
     let q = c .before .before .before .before in

@@ -191,7 +191,8 @@ module _ (t : ℕ) where
   abbrev held : Node → Found → Answer
   held m x =
       let a = m .before .args in
-      content x (λ place. valueAt bare (a .top) (now (now (a .store))) (place .declared) (place .address))
+      content x (λ place. valueAt bare (a .top) (now (now (a .store))) (kindIn (program m .types) (place .declared))
+      (place .address))
 
   -- a node of a kind
   at-row : (m : Node) (kind : ℕ) → row m .kind ≡ kind → let a = m .before .args in
@@ -399,7 +400,14 @@ eval-returns t c =
     c .no-value .ensures ∙ sym (at-variable t (c .before .before) ∙ content-other _ (c .before .match2 .keys2) _)
 
 eval-load-requires : (t : ℕ) → eval-lts.Need-load-requires (eval-claims t) (eval-at t) eval.Post
-eval-load-requires t c κs = c .before .before .before .before .before .before .pre .1 .stored
+eval-load-requires t c κs =
+    let v = c .before .before .before in
+    let m = v .before .before in
+    let s = m .before .pre .1 in (
+      s .planned,
+      variable-there (s .planned) (c .before .variable .given .1) (s .low) _ (v .variable-place .ensures),
+      s .stored,
+    )
 
 eval-fresh-requires : (t : ℕ) → eval-lts.Need-fresh-requires (eval-claims t) (eval-at t) eval.Post
 eval-fresh-requires t c κs = search needs
@@ -446,8 +454,14 @@ eval-returns-4 t c =
 
 eval-load-requires-2 : (t : ℕ) → eval-lts.Need-load-requires-2 (eval-claims t) (eval-at t) eval.Post
 eval-load-requires-2 t c κs =
-    let r = c .before .before .before .before .before .before in
-    r .before .before .before .before .before .before .before .pre .1 .stored
+    let f = c .before .before .before in
+    let r = f .before .before .before in
+    let s = r .before .before .before .before .before .before .before .pre .1 in (
+      s .planned,
+      field-there (s .planned) (c .before .part .given .1) _ _ _
+          (f .fresh-place2 .ensures ∙ f .before .field-place .ensures),
+      s .stored,
+    )
 
 eval-fresh-requires-2 : (t : ℕ) → eval-lts.Need-fresh-requires-2 (eval-claims t) (eval-at t) eval.Post
 eval-fresh-requires-2 t c κs = search needs

@@ -1,5 +1,6 @@
 -- `integers::magnitude` meets its contract: by the sign.
 use native.Mathlib.Omega.{arith}
+use mir.Syntax.{w32}
 use Rattle.values.proofs.Numbers.{plain64, of-nat64, above-zero, mag-is, unsigned}
 use Rattle.integers.proofs.magnitude.Statement.{statement}
 use Rattle.integers.proofs.magnitude.Tie as tie
@@ -18,7 +19,7 @@ cast-result c =
 cast-result-2 : tie.Need-cast-result-2
 cast-result-2 c =
     let e = plain64 _ (c .before .fits .x) in
-    rw e (unsigned (c .before .args .x) (rw e at (c .if1 .left)) (omega (arith, c .before .pre)))
+    rw e (unsigned w32 (c .before .args .x) (rw e at (c .if1 .left)) (record { fits = omega (arith, c .before .pre) }))
 
 returns : tie.Need-returns
 returns c =

@@ -5,8 +5,8 @@ use lib.IntN.{pos, negsuc, _-ℤ_}
 use lib.Signed.{mag}
 use mir.Syntax.{w64}
 use mir.Val.{toZ, ofZ}
-use Rattle.values.proofs.Numbers.{plain64, above-zero}
-use Rattle.printing.proofs.Signs.{abs-negative, to-unsigned64}
+use Rattle.values.proofs.Numbers.{plain64, above-zero, to-unsigned64}
+use Rattle.printing.proofs.Signs.{abs-negative}
 use Rattle.printing.proofs.magnitude.Statement.{statement}
 use Rattle.printing.proofs.magnitude.Tie as tie
 
