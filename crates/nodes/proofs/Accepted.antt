@@ -121,9 +121,9 @@ pub data NodeRow (t v n : List ℕ) (r : ℕ) : Type 0 where
 
 -- ---- what the rules say
 
-constant-node : {version : ℕ} (row : Row) → constantKept version row ≡ true → ConstantNode row
+constant-node : (version : ℕ) (row : Row) → constantKept version row ≡ true → ConstantNode row
 unfolding constantKept
-constant-node {version} row e =
+constant-node version row e =
     let (typed, rest) = also-true _ _ e in
     record {
       typed = omega (arith, ltb-true _ _ typed, few-rows version);
@@ -177,9 +177,9 @@ module _ (n : List ℕ) (r : ℕ) (h : r < rowsOf n) where
       let (low, high) = also-true _ _ e₂ in
       record { left = child _ a; right = child _ b; least = leb-true _ _ low; most = leb-true _ _ high }
 
-  monadic-node : {version : ℕ} (row : Row) → monadicKept version n r row ≡ true → MonadicNode n r row
+  monadic-node : (version : ℕ) (row : Row) → monadicKept version n r row ≡ true → MonadicNode n r row
   unfolding monadicKept
-  monadic-node {version} row e =
+  monadic-node version row e =
       let (a, e₁) = also-true _ _ e in
       let (b, e₂) = also-true _ _ e₁ in
       let (low, high) = also-true _ _ e₂ in
@@ -197,19 +197,19 @@ module _ (n : List ℕ) (r : ℕ) (h : r < rowsOf n) where
       let (b, c) = also-true _ _ e₁ in
       record { holds = child _ a; unused-b = eqb-true _ _ b; unused-c = eqb-true _ _ c }
 
-  node-row : {version : ℕ} (t v : List ℕ) → nodeKept version (rowsOf t) (rowsOf v) n r ≡ true → NodeRow t v n r
+  node-row : (version : ℕ) (t v : List ℕ) → nodeKept version (rowsOf t) (rowsOf v) n r ≡ true → NodeRow t v n r
   unfolding nodeKept formKept
-  node-row t v e =
+  node-row version t v e =
       let (zero, form) = also-true _ _ e in
       let row = rowAt n r in
       let z : rowAt n r .zero ≡ 0 = eqb-true _ _ zero in
-      ⊎-elim (λ k. is-constant z (eqb-true _ _ (k .0)) (constant-node row (k .1)))
+      ⊎-elim (λ k. is-constant z (eqb-true _ _ (k .0)) (constant-node version row (k .1)))
       (λ o. ⊎-elim (λ k. is-variable z (eqb-true _ _ (k .0)) (variable-node v row (k .1)))
       (λ o. ⊎-elim (λ k. is-field z (eqb-true _ _ (k .0)) (field-node row (k .1)))
       (λ o. ⊎-elim (λ k. is-element z (eqb-true _ _ (k .0)) (element-node row (k .1)))
       (λ o. ⊎-elim (λ k. is-guard z (eqb-true _ _ (k .0)) (guard-node t v row (k .1)))
       (λ o. ⊎-elim (λ k. is-dyadic z (eqb-true _ _ (k .0)) (dyadic-node row (k .1)))
-      (λ o. ⊎-elim (λ k. is-monadic z (eqb-true _ _ (k .0)) (monadic-node row (k .1)))
+      (λ o. ⊎-elim (λ k. is-monadic z (eqb-true _ _ (k .0)) (monadic-node version row (k .1)))
       (λ o. ⊎-elim (λ k. is-test z (eqb-true _ _ (k .0)) (guard-node t v row (k .1)))
       (λ o. ⊎-elim (λ k. is-argument z (eqb-true _ _ (k .0)) (argument-node row (k .1)))
       (λ o. clash (sym (o .1)))
@@ -225,13 +225,13 @@ module _ (n : List ℕ) (r : ℕ) (h : r < rowsOf n) where
 
 -- ---- the whole table
 
-module _ {version : ℕ} (t v n : List ℕ) (e : question7 version t v n ≡ Kept) (r : ℕ) (h : r < rowsOf n) where
+module _ (version : ℕ) (t v n : List ℕ) (e : question7 version t v n ≡ Kept) (r : ℕ) (h : r < rowsOf n) where
   kept : nodeKept version (rowsOf t) (rowsOf v) n r ≡ true
   unfolding question7
   kept = verdict-kept (nodeKept version (rowsOf t) (rowsOf v) n) (rowsOf n) e r h
 
   pub nodes-kept : NodeRow t v n r
-  nodes-kept = node-row n r h t v kept
+  nodes-kept = node-row n r h version t v kept
 
   -- where the kind is known
   form : (k : ℕ) → rowAt n r .kind ≡ k → formKept version (rowsOf t) (rowsOf v) n r k (rowAt n r) ≡ true
@@ -240,7 +240,7 @@ module _ {version : ℕ} (t v n : List ℕ) (e : question7 version t v n ≡ Kep
 
   pub constant-is : rowAt n r .kind ≡ 0 → ConstantNode (rowAt n r)
   unfolding formKept choose
-  constant-is k = constant-node (rowAt n r) (form 0 k)
+  constant-is k = constant-node version (rowAt n r) (form 0 k)
 
   pub variable-is : rowAt n r .kind ≡ 1 → VariableNode v (rowAt n r)
   unfolding formKept choose
@@ -264,7 +264,7 @@ module _ {version : ℕ} (t v n : List ℕ) (e : question7 version t v n ≡ Kep
 
   pub monadic-is : rowAt n r .kind ≡ 6 → MonadicNode n r (rowAt n r)
   unfolding formKept choose
-  monadic-is k = monadic-node n r h (rowAt n r) (form 6 k)
+  monadic-is k = monadic-node n r h version (rowAt n r) (form 6 k)
 
   pub test-is : rowAt n r .kind ≡ 7 → GuardNode t v (rowAt n r)
   unfolding formKept choose

@@ -78,7 +78,7 @@ later-shape t f used r row e =
     (choose-cases (eqb (row .kind) 4) (a .1)))
     (choose-cases (eqb (row .kind) 3) e)
 
-module _ {version : ℕ} (t f : List ℕ) (used r : ℕ) (row : Row) (e : shapeKept version t f used r row ≡ true) where
+module _ (version : ℕ) (t f : List ℕ) (used r : ℕ) (row : Row) (e : shapeKept version t f used r row ≡ true) where
   scalar-first : r < scalarRows version → formOf row ≡ scalar r
   unfolding shapeKept
   scalar-first h =
@@ -142,11 +142,11 @@ pub record RowKept (t f : List ℕ) (r : ℕ) : Type 0 where
   pub shape : Shape t f (usedBelow t r) r (form t r)
   pub small : sizeOf t f r ≤ 4096
 
-pub row-kept : {version : ℕ} (t f : List ℕ) (r : ℕ) → typeKept version t f r ≡ true → RowKept t f r
+pub row-kept : (version : ℕ) (t f : List ℕ) (r : ℕ) → typeKept version t f r ≡ true → RowKept t f r
 unfolding typeKept form
-row-kept t f r e =
+row-kept version t f r e =
     let (shape, size) = also-true _ _ e in
-    record { shape = shape-of t f (usedBelow t r) r (rowAt t r) shape; small = leb-true _ _ size }
+    record { shape = shape-of version t f (usedBelow t r) r (rowAt t r) shape; small = leb-true _ _ size }
 
 -- a field of an accepted record has a type in a lower row
 pub field-low : (f : List ℕ) (r k : ℕ) → fieldKept f r k ≡ true → rowAt f k .a < r

@@ -19,13 +19,13 @@ pub types-kept : (t f : List ℕ) → TypesAccepted t f → TypesKept t f
 unfolding question4
 types-kept t f accepted =
     let (kept, all) = up-to-kept (typeKept (accepted .version) t f) (rowsOf t) _ (accepted .passes) in
-    record { row = λ r h. row-kept t f r (kept .each r (omega arith) h); claimed = eqb-true _ _ all }
+    record { row = λ r h. row-kept (accepted .version) t f r (kept .each r (omega arith) h); claimed = eqb-true _ _ all }
 
 -- "Rows 0, 1, 2 are kinds 0 BOOLEAN, 1 INTEGER, 2 SET."
-pub scalar-row : {version : ℕ} (t f : List ℕ) → question4 version t f ≡ Kept → (r : ℕ) → r < scalarRows version
+pub scalar-row : (version : ℕ) (t f : List ℕ) → question4 version t f ≡ Kept → (r : ℕ) → r < scalarRows version
     → r < rowsOf t → kindIn t r ≡ r
 unfolding question4 typeKept kindIn form
-scalar-row {version} t f e r scalar low =
+scalar-row version t f e r scalar low =
     let (kept, all) = up-to-kept (typeKept version t f) (rowsOf t) _ e in
     let (shape, small) = also-true _ _ (kept .each r (omega arith) low) in
-    scalar-shaped t f (usedBelow t r) r (rowAt t r) shape scalar
+    scalar-shaped version t f (usedBelow t r) r (rowAt t r) shape scalar

@@ -57,7 +57,7 @@ module _ {version : ℕ} (t f old plan : List ℕ) (r used : ℕ) (s : Sofar ver
   open Sofar s using (few-rows, few-fields, room, within, claimed, below, planned, rest)
 
   pub used-small : used ≤ 256
-  used-small = let fits = used-fits t f r below in omega arith
+  used-small = let fits = used-fits version t f r below in omega arith
 
   -- a row at fault
   faulty : r < rowsOf t → typeKept version t f r ≡ false → Answered version t f old plan (Fault r)
@@ -76,7 +76,7 @@ module _ {version : ℕ} (t f old plan : List ℕ) (r used : ℕ) (s : Sofar ver
         (adds : size ≡ sizeBy f (λ b. getD plan b 0) (formOf row)) where
       here-shape : Shape t f used r (form t r)
       unfolding form
-      here-shape = rw this-row at (shape-of t f used r row shape)
+      here-shape = rw this-row at (shape-of version t f used r row shape)
 
       sized : size ≡ sizeOf t f r
       unfolding form

@@ -44,12 +44,12 @@ count-fits is-scalar h = omega arith
 count-fits (is-array a b c) h = omega arith
 count-fits (is-record on rows own) h = rows
 
-pub used-fits : {version : ℕ} (t f : List ℕ) (n : ℕ) → KeptIn (typeKept version t f) 0 n → usedBelow t n ≤ rowsOf f
+pub used-fits : (version : ℕ) (t f : List ℕ) (n : ℕ) → KeptIn (typeKept version t f) 0 n → usedBelow t n ≤ rowsOf f
 unfolding usedBelow
-used-fits t f zero kept = omega arith
-used-fits {version} t f (suc n) kept =
-    count-fits (row-kept t f n (kept .each n (omega arith) (omega arith)) .shape)
-    (used-fits {version} t f n (record { each = λ j low high. kept .each j low (omega arith) }))
+used-fits version t f zero kept = omega arith
+used-fits version t f (suc n) kept =
+    count-fits (row-kept version t f n (kept .each n (omega arith) (omega arith)) .shape)
+    (used-fits version t f n (record { each = λ j low high. kept .each j low (omega arith) }))
 
 -- ---- counts of fields
 
@@ -66,11 +66,11 @@ length-by {f = f} {used} g (is-record {base = suc b} {count = c} on rows own) =
     length-append (g b) (ownTypes f used c) ∙ rw (own-length f used c)
 
 -- a record's fields are its base's and its own
-pub fields-count : {version : ℕ} (t f : List ℕ) (r : ℕ) → typeKept version t f r ≡ true
+pub fields-count : (version : ℕ) (t f : List ℕ) (r : ℕ) → typeKept version t f r ≡ true
     → length (fieldsOf t f r) ≡ inheritedOf t f r + countOf (form t r)
 unfolding inheritedOf
-fields-count t f r kept =
-    let shape = row-kept t f r kept .shape in
+fields-count version t f r kept =
+    let shape = row-kept version t f r kept .shape in
     ap length (fields-are t f r shape) ∙ length-by (fieldsOf t f) shape
 
 base-few : {t : List ℕ} {r a : ℕ} (g : ℕ → ℕ) (n : ℕ) → Based t r a → ((b : ℕ) → b < r → g b ≤ n) → ofBase 0 g a ≤ n
@@ -85,25 +85,25 @@ based-in (is-array a b c) = no-base
 based-in (is-record on rows own) = on
 
 -- a record has no more fields than field rows are used up
-few-fields : {version : ℕ} (t f : List ℕ) (n r : ℕ) → r < n → KeptIn (typeKept version t f) 0 (r + 1)
+few-fields : (version : ℕ) (t f : List ℕ) (n r : ℕ) → r < n → KeptIn (typeKept version t f) 0 (r + 1)
     → inheritedOf t f r ≤ usedBelow t r
 unfolding inheritedOf
-few-fields t f zero r h kept = absurd (omega arith)
-few-fields {version} t f (suc n) r h kept =
-    base-few _ _ (based-in (row-kept t f r (kept .each r (omega arith) (omega arith)) .shape))
-    (λ b low. step b low (few-fields {version} t f n b (omega arith) (record { each = λ j a z. kept .each j a (omega arith) })))
+few-fields version t f zero r h kept = absurd (omega arith)
+few-fields version t f (suc n) r h kept =
+    base-few _ _ (based-in (row-kept version t f r (kept .each r (omega arith) (omega arith)) .shape))
+    (λ b low. step b low (few-fields version t f n b (omega arith) (record { each = λ j a z. kept .each j a (omega arith) })))
   where
     step : (b : ℕ) → b < r → inheritedOf t f b ≤ usedBelow t b → length (fieldsOf t f b) ≤ usedBelow t r
     step b low few =
-        let count = fields-count t f b (kept .each b (omega arith) (omega arith)) in
+        let count = fields-count version t f b (kept .each b (omega arith) (omega arith)) in
         let up = used-up t (suc b) r low in
         omega (arith, count, few, used-next t b, up)
 
-pub inherited-fits : {version : ℕ} (t f : List ℕ) (r : ℕ) → KeptIn (typeKept version t f) 0 (r + 1)
+pub inherited-fits : (version : ℕ) (t f : List ℕ) (r : ℕ) → KeptIn (typeKept version t f) 0 (r + 1)
     → inheritedOf t f r ≤ rowsOf f
-inherited-fits {version} t f r kept =
-    let few = few-fields t f (suc r) r (omega arith) kept in
-    let fits = used-fits {version} t f r (record { each = λ j low high. kept .each j low (omega arith) }) in
+inherited-fits version t f r kept =
+    let few = few-fields version t f (suc r) r (omega arith) kept in
+    let fits = used-fits version t f r (record { each = λ j low high. kept .each j low (omega arith) }) in
     omega arith
 
 count-record : (t : List ℕ) (b : ℕ) → rowAt t b .kind ≡ 4 → countOf (form t b) ≡ rowAt t b .c
@@ -130,7 +130,7 @@ module _ (t f plan : List ℕ) (used r : ℕ) (row : Row) (size : ℕ) (ready : 
   row-form = ap formOf this-row
 
   row-shape : Shape t f used r (form t r)
-  row-shape = rw claimed (row-kept t f r here .shape)
+  row-shape = rw claimed (row-kept version t f r here .shape)
 
   held-is : (b : ℕ) → b < r → held b ≡ sizeOf t f b
   held-is b low = planned .size b low
@@ -155,7 +155,7 @@ module _ (t f plan : List ℕ) (used r : ℕ) (row : Row) (size : ℕ) (ready : 
     where
       few : (b : ℕ) → b < r → getD plan (INHERITED + b) 0 ≤ 65535
       few b low =
-          let fits = inherited-fits {version} t f b (record { each = λ j a z. below .each j a (omega arith) }) in
+          let fits = inherited-fits version t f b (record { each = λ j a z. below .each j a (omega arith) }) in
           let count = planned .inherited b low in
           let rows = ready .few-fields in
           omega arith
@@ -165,7 +165,7 @@ module _ (t f plan : List ℕ) (used r : ℕ) (row : Row) (size : ℕ) (ready : 
   unfolding ofBase
   base-counts no-base = refl
   base-counts (on-base {b = b} low kind) =
-      rw (planned .inherited b low, ← count-record t b kind) (sym (fields-count t f b (below .each b (omega arith) low)))
+      rw (planned .inherited b low, ← count-record t b kind) (sym (fields-count version t f b (below .each b (omega arith) low)))
 
   pub inherited-is : ofBase 0 (λ b. getD plan (INHERITED + b) 0 + rowAt t b .c) (baseOf (formOf row))
       ≡ inheritedOf t f r
@@ -183,7 +183,7 @@ module _ (t f plan : List ℕ) (used r : ℕ) (row : Row) (size : ℕ) (ready : 
   offsets-fit = rw row-form (record { cells = room; low = types; total = whole })
     where
       fits : used + countOf (form t r) ≤ rowsOf f
-      fits = count-fits row-shape (rw claimed (used-fits t f r below))
+      fits = count-fits row-shape (rw claimed (used-fits version t f r below))
 
       room : OFFSETS + (used + countOf (form t r)) ≤ length plan
       room = let rows = ready .few-fields in omega (arith, fits)
@@ -195,7 +195,7 @@ module _ (t f plan : List ℕ) (used r : ℕ) (row : Row) (size : ℕ) (ready : 
       whole =
           let total = total-is row-shape in
           let size = size-agree held (sizeOf t f) row-shape held-is ∙ sym (size-is t f r row-shape) in
-          let small = row-kept t f r here .small in
+          let small = row-kept version t f r here .small in
           omega (arith, total, size, small)
 
   -- the plan once its places, its count and its size are written
@@ -259,7 +259,7 @@ module _ (t f plan : List ℕ) (used r : ℕ) (row : Row) (size : ℕ) (ready : 
       where
         go : Dec (x < r) → getD next (OFFSETS + (first + j)) 0 ≡ ownOffset t f base first j
         go (yes low) =
-            let is = record-is (row-kept t f x (below .each x (omega arith) low) .shape) e in
+            let is = record-is (row-kept version t f x (below .each x (omega arith) low) .shape) e in
             let claims = is .claims in
             let counted : countOf (form t x) ≡ n = ap countOf e in
             let up = used-up t (suc x) r low in
