@@ -12,6 +12,7 @@ use Rattle.prelude.proofs.Choice.{choose-yes, choose-cases, also-true, clash}
 use Rattle.image.specs.declared.Row.{Row}
 use Rattle.image.specs.declared.Verdict.the-variants.{Kept}
 use Rattle.image.specs.Rows.{rowAt, rowsOf}
+use Rattle.image.specs.Versions.{scalarRows, monadics}
 use Rattle.image.proofs.Bytes.{row-there}
 use Rattle.image.proofs.Faults.{verdict-kept}
 use Rattle.image.proofs.Versions.{few-rows, few-monadics}
@@ -126,7 +127,7 @@ unfolding constantKept
 constant-node version row e =
     let (typed, rest) = also-true _ _ e in
     record {
-      typed = omega (arith, ltb-true _ _ typed, few-rows version);
+      typed = omega (arith, ltb-true (row .a) (scalarRows version) typed, few-rows version);
       boolean = λ z.
           let (b, c) = also-true _ _ (sym (choose-yes _ _ _ (eq-eqb (row .a) 0 z)) ∙ rest) in
           (eqb-true _ _ b, leb-true _ _ c);
@@ -187,7 +188,7 @@ module _ (n : List ℕ) (r : ℕ) (h : r < rowsOf n) where
         operand = child _ a;
         unused-b = eqb-true _ _ b;
         least = leb-true _ _ low;
-        most = omega (arith, leb-true _ _ high, few-monadics version);
+        most = omega (arith, leb-true (row .c) (monadics version) high, few-monadics version);
       }
 
   argument-node : (row : Row) → argumentKept n r row ≡ true → ArgumentNode n r row
