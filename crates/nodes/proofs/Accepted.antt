@@ -226,10 +226,14 @@ module _ (n : List ℕ) (r : ℕ) (h : r < rowsOf n) where
 
 -- ---- the whole table
 
-module _ (version : ℕ) (t v n : List ℕ) (e : question7 version t v n ≡ Kept) (r : ℕ) (h : r < rowsOf n) where
+-- question 7 accepts the nodes of an image of a version
+pub record NodesAccepted (version : ℕ) (t v n : List ℕ) : Type 0 where
+  pub passes : question7 version t v n ≡ Kept
+
+module _ {version : ℕ} (t v n : List ℕ) (accepted : NodesAccepted version t v n) (r : ℕ) (h : r < rowsOf n) where
   kept : nodeKept version (rowsOf t) (rowsOf v) n r ≡ true
   unfolding question7
-  kept = verdict-kept (nodeKept version (rowsOf t) (rowsOf v) n) (rowsOf n) e r h
+  kept = verdict-kept (nodeKept version (rowsOf t) (rowsOf v) n) (rowsOf n) (accepted .passes) r h
 
   pub nodes-kept : NodeRow t v n r
   nodes-kept = node-row n r h version t v kept

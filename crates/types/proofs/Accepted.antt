@@ -22,10 +22,10 @@ types-kept t f accepted =
     record { row = λ r h. row-kept (accepted .version) t f r (kept .each r (omega arith) h); claimed = eqb-true _ _ all }
 
 -- "Rows 0, 1, 2 are kinds 0 BOOLEAN, 1 INTEGER, 2 SET."
-pub scalar-row : (version : ℕ) (t f : List ℕ) → question4 version t f ≡ Kept → (r : ℕ) → r < scalarRows version
+pub scalar-row : (t f : List ℕ) (accepted : TypesAccepted t f) (r : ℕ) → r < scalarRows (accepted .version)
     → r < rowsOf t → kindIn t r ≡ r
 unfolding question4 typeKept kindIn form
-scalar-row version t f e r scalar low =
-    let (kept, all) = up-to-kept (typeKept version t f) (rowsOf t) _ e in
+scalar-row t f accepted r scalar low =
+    let (kept, all) = up-to-kept (typeKept (accepted .version) t f) (rowsOf t) _ (accepted .passes) in
     let (shape, small) = also-true _ _ (kept .each r (omega arith) low) in
-    scalar-shaped version t f (usedBelow t r) r (rowAt t r) shape scalar
+    scalar-shaped (accepted .version) t f (usedBelow t r) r (rowAt t r) shape scalar

@@ -6,7 +6,7 @@ use denote.Ref.{now}
 use lib.ListN.{length}
 use Rattle.header.specs.declared.Tables.{Tables}
 use Rattle.header.specs.declared.HeaderAnswer.the-variants.{Yes}
-use Rattle.header.specs.Header.{headerOf, partOf}
+use Rattle.header.specs.Header.{versionOf, headerOf, partOf}
 use Rattle.header.proofs.Fitting.{header-fits}
 use Rattle.sizes.specs.Cells.{CHECK_PLAN}
 use Rattle.checker.specs.Check.{checkOf}
@@ -88,8 +88,9 @@ check-tables-requires c κs = let d = c .before in (
 -- what the tables' check says and leaves
 told : (c : tie.After-check-tables) → let d = c .before .before in let i = image-of d in let ts = tables-of d in
     (c .check-tables .result ≡ checkOf i)
-    × Leaves (partOf i (ts .types)) (partOf i (ts .fields)) (partOf i (ts .variables)) (partOf i (ts .procedures))
+    × Leaves (versionOf i) (partOf i (ts .types)) (partOf i (ts .fields)) (partOf i (ts .variables)) (partOf i (ts .procedures))
     (plan-of d) (c .check-tables .result) (c .check-tables .last .1 .1 .1 .1 .1 .1 .0)
+unfolding versionOf
 told c = let d = c .before .before in
     let k = c .check-tables .ensures in
     let answer = rw (
