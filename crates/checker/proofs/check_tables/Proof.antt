@@ -62,9 +62,8 @@ fill-places-requires c κs = let k = c .before .before .before .before .before .
     let kept = c .before .before .before .before .before .enum-told .given .1 in
     let pre = c .before .before .before .before .before .before .before .before .before .before .before .before .before .before .before .before .before .before .pre in
     let cells = k .1 .1 .cells in
-    let four = record { version = _; passes = sym (k .0) ∙ kept } in
     let accepted = sym (c .before .before .before .check-rows .ensures) ∙ c .before .enum-told3 .given .1 in
-    places-fit _ _ _ _ _ _ _ _ (pre .0) (omega arith) four accepted (plan-all _ _ _ _ _ _ (k .0) (k .1 .0) (k .1 .1) kept)
+    places-fit _ _ _ _ _ _ _ _ (pre .0) (omega arith) (record { version = _; passes = sym (k .0) ∙ kept }) accepted (plan-all _ _ _ _ _ _ (k .0) (k .1 .0) (k .1 .1) kept)
 
 same-length-3 : tie.Need-same-length-3
 same-length-3 c = search needs
