@@ -24,16 +24,22 @@ returns-2 c =
 returns-3 : tie.Need-returns-3
 unfolding constantKept _also_ choose
 returns-3 c =
-    rw
-    (← c .before .before .before .scalar-rows .ensures, lt-ltb _ _ (c .before .before .if1 .left),
-    eq-eqb _ _ (c .before .if2 .left), ne-eqb _ _ (c .if3 .taken))
+    rw (
+      ← c .before .before .before .scalar-rows .ensures,
+      lt-ltb _ _ (c .before .before .if1 .left),
+      eq-eqb _ _ (c .before .if2 .left),
+      ne-eqb _ _ (c .if3 .taken),
+    )
 
 returns-4 : tie.Need-returns-4
 unfolding constantKept _also_ choose
 returns-4 c =
-    rw
-    (← c .before .before .before .scalar-rows .ensures, lt-ltb _ _ (c .before .before .if1 .left),
-    eq-eqb _ _ (c .before .if2 .left), eq-eqb _ _ (c .if3 .left))
+    rw (
+      ← c .before .before .before .scalar-rows .ensures,
+      lt-ltb _ _ (c .before .before .if1 .left),
+      eq-eqb _ _ (c .before .if2 .left),
+      eq-eqb _ _ (c .if3 .left),
+    )
 
 pub constant-kept-spec : {M : Type 1} → statement M
 constant-kept-spec = tie.close (tie.spec scalar-rows-requires returns returns-2 returns-3 returns-4)

@@ -26,9 +26,11 @@ scalar-kept-requires c κs = search needs
 returns-2 : tie.Need-returns-2
 unfolding shapeKept _also_ choose
 returns-2 c =
-    rw
-    (eq-eqb _ _ (c .before .before .before .if1 .left), ← c .before .before .scalar-rows .ensures,
-    lt-ltb _ _ (c .before .if2 .taken))
+    rw (
+      eq-eqb _ _ (c .before .before .before .if1 .left),
+      ← c .before .before .scalar-rows .ensures,
+      lt-ltb _ _ (c .before .if2 .taken),
+    )
     (c .scalar-kept .ensures)
 
 later-kept-requires : tie.Need-later-kept-requires
@@ -37,9 +39,11 @@ later-kept-requires c κs = search needs
 returns-3 : tie.Need-returns-3
 unfolding shapeKept _also_ choose
 returns-3 c =
-    rw
-    (eq-eqb _ _ (c .before .before .before .if1 .left), ← c .before .before .scalar-rows .ensures,
-    le-ltb _ _ (c .before .if2 .left))
+    rw (
+      eq-eqb _ _ (c .before .before .before .if1 .left),
+      ← c .before .before .scalar-rows .ensures,
+      le-ltb _ _ (c .before .if2 .left),
+    )
     (c .later-kept .ensures)
 
 pub shape-kept-spec : {M : Type 1} → statement M
