@@ -63,7 +63,8 @@ module _ (t f v n old types : List ℕ) (x : Verdict) (table : Typed (typeOf t f
 -- ---- what is left in the plan
 
 pub places-fit : (version : ℕ) (t f v p n s plan : List ℕ) → CountsFit t f v p n s → BOUNDS ≤ length plan
-    → TypesAccepted t f → firstNo (tableQuestion version t f v p n s) 5 7 ≡ Accepted → Plan t f (rowsOf t) plan → PlacesFit t f v p plan
+    → TypesAccepted t f → firstNo (tableQuestion version t f v p n s) 5 7 ≡ Accepted
+    → Plan t f (rowsOf t) plan → PlacesFit t f v p plan
 unfolding tableQuestion choose
 places-fit version t f v p n s plan fit cells four accepted planned =
     let all = accepted-all (tableQuestion version t f v p n s) 7 5 accepted in
@@ -132,7 +133,8 @@ module _ (image : List ℕ) where
   -- the tables' questions are left
   tables-left : question1 image ≡ true → question2 image ≡ true → question3 image ≡ true
       → checkOf image
-      ≡ firstNo (tableQuestion (versionOf image) (typesIn image) (fieldsIn image) (variablesIn image) (proceduresIn image) (nodesIn image) (statementsIn image)) 4 8
+      ≡ firstNo (tableQuestion (versionOf image) (typesIn image) (fieldsIn image) (variablesIn image)
+      (proceduresIn image) (nodesIn image) (statementsIn image)) 4 8
   unfolding checkOf yesOrNo firstNo questionOf tableQuestion choose
   tables-left a b c =
       chain-next (questionOf image) 1 10 refl (first-is a)
@@ -165,8 +167,8 @@ module _ (image : List ℕ) where
         }
 
     pub header-yes : checkOf image
-        ≡ firstNo (tableQuestion (versionOf image) (partOf image (ts .types)) (partOf image (ts .fields)) (partOf image (ts .variables))
-        (partOf image (ts .procedures)) (partOf image (ts .nodes)) (partOf image (ts .statements))) 4 8
+        ≡ firstNo (tableQuestion (versionOf image) (partOf image (ts .types)) (partOf image (ts .fields))
+        (partOf image (ts .variables)) (partOf image (ts .procedures)) (partOf image (ts .nodes)) (partOf image (ts .statements))) 4 8
     header-yes = let (same, a, b, c) = yes-case (header-case image) yes in rw (← same) (tables-left a b c)
 
     -- where a table's question refuses

@@ -118,7 +118,8 @@ pub record Fits (image : List ℕ) (ts : Tables) : Type 0 where
   pub statements : Placed image (ts .nodes .end) 1 1024 (ts .statements)
   pub filled : ts .statements .end ≡ length image
 
-tables-fit : (image : List ℕ) (ts : Tables) → versionOf image ≡ 1 → wordAt image 1 ≡ length image → tablesOf image ≡ Six ts → Fits image ts
+tables-fit : (image : List ℕ) (ts : Tables) → versionOf image ≡ 1 → wordAt image 1 ≡ length image
+    → tablesOf image ≡ Six ts → Fits image ts
 unfolding tablesOf
 tables-fit image ts version size e =
     let (t, a, e₁) = then-six _ _ e in
@@ -128,8 +129,8 @@ tables-fit image ts version size e =
     let (n, g, e₅) = then-six _ _ e₄ in
     let (s, h, e₆) = then-six _ _ e₅ in
     ⊎-elim
-    (λ k. six t f v p n s (placed image 5 _ 64 a) (placed image _ 0 256 b) (placed image _ 0 256 c) (placed image _ 1 64 d)
-    (placed image _ 0 2048 g) (placed image _ 1 1024 h) (eqb-true _ _ (k .0)) (k .1))
+    (λ k. six t f v p n s (placed image 5 _ 64 a) (placed image _ 0 256 b) (placed image _ 0 256 c)
+    (placed image _ 1 64 d) (placed image _ 0 2048 g) (placed image _ 1 1024 h) (eqb-true _ _ (k .0)) (k .1))
     (λ k. not-six (k .1))
     (choose-cases (eqb (s .end) (length image)) e₆)
   where

@@ -49,7 +49,8 @@ scalar-form r row h e =
     let kind : row .kind ≡ r = eqb-true _ _ (also-true _ _ e .0) in
     form-scalar row (omega arith) ∙ ap scalar kind
 
-array-shape : (t f : List ℕ) (used r : ℕ) (row : Row) → row .kind ≡ 3 → arrayKept r row ≡ true → Shape t f used r (formOf row)
+array-shape : (t f : List ℕ) (used r : ℕ) (row : Row) → row .kind ≡ 3 → arrayKept r row ≡ true
+    → Shape t f used r (formOf row)
 unfolding arrayKept
 array-shape t f used r row kind e =
     let (low, e₁) = also-true _ _ e in
@@ -65,7 +66,8 @@ record-shape t f used r row kind e =
     let (first, e₂) = also-true _ _ e₁ in
     let (rows, own) = also-true _ _ e₂ in
     let at : row .b ≡ used = eqb-true _ _ first in
-    rw (form-record row kind, at) (is-record (based t r (row .a) base) (leb-true _ _ rows) (all-each (fieldKept f r) (row .c) used own))
+    rw (form-record row kind, at)
+    (is-record (based t r (row .a) base) (leb-true _ _ rows) (all-each (fieldKept f r) (row .c) used own))
 
 later-shape : (t f : List ℕ) (used r : ℕ) (row : Row) → laterKept t f used r row ≡ true → Shape t f used r (formOf row)
 unfolding laterKept

@@ -5,7 +5,6 @@ use Prim.Native.Nat.{ℕ, _<_}
 use native.Mathlib.Omega.{arith}
 use borrow.Author.Tests.{eqb-true}
 use Rattle.prelude.proofs.Choice.{also-true}
-use Rattle.image.specs.declared.Verdict.the-variants.{Kept}
 use Rattle.image.specs.Rows.{rowAt, rowsOf}
 use Rattle.image.specs.Versions.{scalarRows}
 use Rattle.image.proofs.Faults.{up-to-kept}
@@ -19,7 +18,10 @@ pub types-kept : (t f : List ℕ) → TypesAccepted t f → TypesKept t f
 unfolding question4
 types-kept t f accepted =
     let (kept, all) = up-to-kept (typeKept (accepted .version) t f) (rowsOf t) _ (accepted .passes) in
-    record { row = λ r h. row-kept (accepted .version) t f r (kept .each r (omega arith) h); claimed = eqb-true _ _ all }
+    record {
+      row = λ r h. row-kept (accepted .version) t f r (kept .each r (omega arith) h);
+      claimed = eqb-true _ _ all;
+    }
 
 -- "Rows 0, 1, 2 are kinds 0 BOOLEAN, 1 INTEGER, 2 SET."
 pub scalar-row : (t f : List ℕ) (accepted : TypesAccepted t f) (r : ℕ) → r < scalarRows (accepted .version)

@@ -51,7 +51,8 @@ sofar-none {version} t f plan a b c = record {
 
 -- what the function gives back
 abbrev pub Answered : ℕ → List ℕ → List ℕ → List ℕ → List ℕ → Verdict → Type 0
-Answered version t f old plan v = (v ≡ question4 version t f) × (Plan t f (passed t v) plan × Rest t (passed t v) old plan)
+Answered version t f old plan v =
+    (v ≡ question4 version t f) × (Plan t f (passed t v) plan × Rest t (passed t v) old plan)
 
 module _ {version : ℕ} (t f old plan : List ℕ) (r used : ℕ) (s : Sofar version t f old plan r used) where
   open Sofar s using (few-rows, few-fields, room, within, claimed, below, planned, rest)

@@ -91,7 +91,8 @@ unfolding inheritedOf
 few-fields version t f zero r h kept = absurd (omega arith)
 few-fields version t f (suc n) r h kept =
     base-few _ _ (based-in (row-kept version t f r (kept .each r (omega arith) (omega arith)) .shape))
-    (λ b low. step b low (few-fields version t f n b (omega arith) (record { each = λ j a z. kept .each j a (omega arith) })))
+    (λ b low. step b low
+    (few-fields version t f n b (omega arith) (record { each = λ j a z. kept .each j a (omega arith) })))
   where
     step : (b : ℕ) → b < r → inheritedOf t f b ≤ usedBelow t b → length (fieldsOf t f b) ≤ usedBelow t r
     step b low few =
@@ -165,7 +166,8 @@ module _ (t f plan : List ℕ) (used r : ℕ) (row : Row) (size : ℕ) (ready : 
   unfolding ofBase
   base-counts no-base = refl
   base-counts (on-base {b = b} low kind) =
-      rw (planned .inherited b low, ← count-record t b kind) (sym (fields-count version t f b (below .each b (omega arith) low)))
+      rw (planned .inherited b low, ← count-record t b kind)
+      (sym (fields-count version t f b (below .each b (omega arith) low)))
 
   pub inherited-is : ofBase 0 (λ b. getD plan (INHERITED + b) 0 + rowAt t b .c) (baseOf (formOf row))
       ≡ inheritedOf t f r

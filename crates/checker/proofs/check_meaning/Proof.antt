@@ -38,8 +38,10 @@ same-length c = search needs
 returns : tie.Need-returns
 unfolding tableQuestion choose
 returns c = let k = c .before .before .before .before .before .check-typing .ensures in
-    let fault = c .before .enum-told2 .given .1 in
-    (λ version. c .answer-of .ensures ∙ asked-fault _ _ _ fault ∙ sym (chain-stop _ 10 1 (k .0) fault), types-left _ _ _ _ _ _ _ (k .1) (k .0))
+    let fault = c .before .enum-told2 .given .1 in (
+      λ version. c .answer-of .ensures ∙ asked-fault _ _ _ fault ∙ sym (chain-stop _ 10 1 (k .0) fault),
+      types-left _ _ _ _ _ _ _ (k .1) (k .0),
+    )
 
 slice-reshare-prefix-check-rules : tie.Need-slice-reshare-prefix-check-rules
 slice-reshare-prefix-check-rules c = search needs

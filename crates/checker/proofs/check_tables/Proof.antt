@@ -40,7 +40,11 @@ returns c = let k = c .before .before .before .before .before .check-types .ensu
 check-rows-requires : tie.Need-check-rows-requires
 check-rows-requires c κs = let k = c .before .before .before .before .before .check-types .ensures in
     let kept = c .before .enum-told .given .1 in
-    (c .before .before .before .before .before .before .before .before .before .before .before .before .before .before .pre .0, record { version = _; passes = sym (k .0) ∙ kept }, plan-all _ _ _ _ _ _ (k .0) (k .1 .0) (k .1 .1) kept)
+    let s = c .before .before .before .before .before .before in (
+      s .before .before .before .before .before .before .before .before .pre .0,
+      record { version = _; passes = sym (k .0) ∙ kept },
+      plan-all _ _ _ _ _ _ (k .0) (k .1 .0) (k .1 .1) kept,
+    )
 
 enum-told-3 : tie.Need-enum-told-3
 enum-told-3 c = search needs
@@ -54,8 +58,10 @@ same-length-2 c = search needs
 returns-2 : tie.Need-returns-2
 unfolding tableQuestion choose
 returns-2 c = let k = c .before .before .before .before .before .before .before .before .check-types .ensures in
-    let kept = c .before .before .before .before .enum-told .given .1 in
-    (c .before .before .check-rows .ensures ∙ sym (chain-next _ 4 7 (k .0) kept), leaves-some _ _ _ _ _ _ (k .0) (k .1 .0) (k .1 .1) _ _ _ (c .enum-told4 .given .1))
+    let kept = c .before .before .before .before .enum-told .given .1 in (
+      c .before .before .check-rows .ensures ∙ sym (chain-next _ 4 7 (k .0) kept),
+      leaves-some _ _ _ _ _ _ (k .0) (k .1 .0) (k .1 .1) _ _ _ (c .enum-told4 .given .1),
+    )
 
 fill-places-requires : tie.Need-fill-places-requires
 fill-places-requires c κs = let k = c .before .before .before .before .before .before .before .before .before .check-types .ensures in
@@ -63,7 +69,8 @@ fill-places-requires c κs = let k = c .before .before .before .before .before .
     let pre = c .before .before .before .before .before .before .before .before .before .before .before .before .before .before .before .before .before .before .pre in
     let cells = k .1 .1 .cells in
     let accepted = sym (c .before .before .before .check-rows .ensures) ∙ c .before .enum-told3 .given .1 in
-    places-fit _ _ _ _ _ _ _ _ (pre .0) (omega arith) (record { version = _; passes = sym (k .0) ∙ kept }) accepted (plan-all _ _ _ _ _ _ (k .0) (k .1 .0) (k .1 .1) kept)
+    places-fit _ _ _ _ _ _ _ _ (pre .0) (omega arith) (record { version = _; passes = sym (k .0) ∙ kept }) accepted
+    (plan-all _ _ _ _ _ _ (k .0) (k .1 .0) (k .1 .1) kept)
 
 same-length-3 : tie.Need-same-length-3
 same-length-3 c = search needs
@@ -72,8 +79,10 @@ returns-3 : tie.Need-returns-3
 unfolding tableQuestion choose
 returns-3 c = let k = c .before .before .before .before .before .before .before .before .before .before .before .before .check-types .ensures in
     let kept = c .before .before .before .before .before .before .before .before .enum-told .given .1 in
-    let accepted = sym (c .before .before .before .before .before .before .check-rows .ensures) ∙ c .before .before .before .before .enum-told3 .given .1 in
-    (sym (chain-next _ 4 7 (k .0) kept ∙ accepted), leaves-whole _ _ _ _ _ _ (k .0) (k .1 .0) (k .1 .1) _ _ _ kept (c .before .before .fill-places .ensures))
+    let accepted = sym (c .before .before .before .before .before .before .check-rows .ensures) ∙ c .before .before .before .before .enum-told3 .given .1 in (
+      sym (chain-next _ 4 7 (k .0) kept ∙ accepted),
+      leaves-whole _ _ _ _ _ _ (k .0) (k .1 .0) (k .1 .1) _ _ _ kept (c .before .before .fill-places .ensures),
+    )
 
 pub check-tables-spec : {M : Type 1} → statement M
 check-tables-spec =

@@ -75,7 +75,8 @@ part-requires-6 : tie.Need-part-requires-6
 part-requires-6 c κs = search needs
 
 abbrev at-tables : tie.After-part6 → tie.After-tables
-at-tables c = c .before .before .before .before .before .before .before .before .before .before .before .before .before .before
+at-tables c =
+    c .before .before .before .before .before .before .before .before .before .before .before .before .before .before
 
 check-tables-requires : tie.Need-check-tables-requires
 check-tables-requires c κs = let d = c .before in (
@@ -91,10 +92,11 @@ check-tables-requires c κs = let d = c .before in (
 )
 
 -- what the tables' check says and leaves
-told : (c : tie.After-check-tables) → let d = at-tables (c .before .before) in let i = image-of d in let ts = tables-of d in
+told : (c : tie.After-check-tables) → let d = at-tables (c .before .before) in let i = image-of d in
+    let ts = tables-of d in
     (c .check-tables .result ≡ checkOf i)
-    × Leaves (versionOf i) (partOf i (ts .types)) (partOf i (ts .fields)) (partOf i (ts .variables)) (partOf i (ts .procedures))
-    (plan-of d) (c .check-tables .result) (c .check-tables .last .1 .1 .1 .1 .1 .1 .1 .0)
+    × Leaves (versionOf i) (partOf i (ts .types)) (partOf i (ts .fields)) (partOf i (ts .variables))
+    (partOf i (ts .procedures)) (plan-of d) (c .check-tables .result) (c .check-tables .last .1 .1 .1 .1 .1 .1 .1 .0)
 unfolding versionOf
 told c = let d = c .before .before in
     let k = c .check-tables .ensures in
