@@ -15,15 +15,14 @@ use Rattle.prelude.specs.Parts.{joined}
 use Rattle.prelude.proofs.Cells.{filled-next, filled-at}
 use Rattle.prelude.proofs.Rec.{rec-eq, below-low}
 use Rattle.image.specs.declared.Row.{Row as TableRow}
-use Rattle.image.specs.declared.Verdict.the-variants.{Kept}
 use Rattle.image.specs.Rows.{rowAt, rowsOf}
-use Rattle.shapes.specs.Forms.{Form, formOf, form, ofBase, ownTypes}
+use Rattle.shapes.specs.Forms.{Form, Form.scalar, formOf, form, ofBase, ownTypes}
 use Rattle.shapes.specs.Sizes.{sizeOf, layoutBy, layoutOf}
-use Rattle.shapes.proofs.Rows.{form-scalar, form-array, form-none, own-step, own-end}
+use Rattle.shapes.proofs.Rows.{form-scalar, form-array, form-none, scalar-low, own-step, own-end}
 use Rattle.shapes.proofs.Accepted.{Based, Based.no-base, Based.on-base, Shape, Shape.is-scalar, Shape.is-array}
 use Rattle.shapes.proofs.Accepted.{Shape.is-record, TypesKept, base-agree, fields-agree, layout-is, field-low}
 use Rattle.shapes.proofs.Layouts.{layout-length, decide}
-use Rattle.types.specs.Question.{question4}
+use Rattle.types.specs.Question.{TypesAccepted}
 use Rattle.types.proofs.Accepted.{types-kept}
 use Rattle.contents.specs.Kinds.{EMPTY, PARTS, MIXED, joint, jointFrom, repeated, owned, evenBy, evenOf}
 
@@ -44,9 +43,9 @@ module _ (g : ℕ → ℕ) (f : List ℕ) (j e k : ℕ) where
 pub even-agree : {t f : List ℕ} {used r : ℕ} {x : Form} (s : ℕ) (g h : ℕ → ℕ) → Shape t f used r x
     → ((b : ℕ) → b < r → g b ≡ h b) → evenBy f g s x ≡ evenBy f h s x
 unfolding evenBy
-even-agree s g h (is-scalar l) same = refl
-even-agree s g h (is-array {element = e} l low a b) same = rw (same e low)
-even-agree {f = f} {used} {r} s g h (is-record {count = c} l base rows kept) same =
+even-agree s g h is-scalar same = refl
+even-agree s g h (is-array {element = e} low a b) same = rw (same e low)
+even-agree {f = f} {used} {r} s g h (is-record {count = c} base rows kept) same =
     rw (base-agree EMPTY g h base same, fields-agree f g h r used c kept same)
 
 even-is : (t f : List ℕ) (r : ℕ) {used : ℕ} → Shape t f used r (form t r)
@@ -233,12 +232,14 @@ module _ (t f : List ℕ) where
             (told-fields count first _ (λ i x y. below (rowAt f i .a) (lows i x y)) (told-base on below)))
             other
 
-    row-shape : {used : ℕ} {x : Form} → Shape t f used r x → evenOf t f r ≡ evenBy f (evenOf t f) r x
-        → layoutOf t f r ≡ layoutBy f (layoutOf t f) x → Row r
+    row-shape : {used : ℕ} {x : Form} → ((k : ℕ) → x ≡ scalar k → k < EMPTY) → Shape t f used r x
+        → evenOf t f r ≡ evenBy f (evenOf t f) r x → layoutOf t f r ≡ layoutBy f (layoutOf t f) x → Row r
     unfolding evenBy layoutBy
-    row-shape (is-scalar h) is layout = row-as is layout (told-low h refl) (λ e. absurd (omega arith))
-    row-shape (is-array {element = e} {n = n} later h least most) is layout = row-array e n h is layout
-    row-shape {used} (is-record {base = a} {count = c} later on rows own) is layout =
+    row-shape small is-scalar is layout =
+        let kind = small r refl in
+        row-as is layout (told-low kind refl) (λ e. absurd (omega arith))
+    row-shape small (is-array {element = e} {n = n} h least most) is layout = row-array e n h is layout
+    row-shape {used} small (is-record {base = a} {count = c} on rows own) is layout =
         row-record a used c on (λ i x y. field-low f r i (own .each i x y)) is layout
 
   module _ (few : rowsOf t ≤ 64) (kept : TypesKept t f) where
@@ -246,8 +247,8 @@ module _ (t f : List ℕ) where
     rows-by zero r h low = absurd (omega arith)
     rows-by (suc n) r h low =
         let shape = kept .row r low .shape in
-        row-shape few r low (λ b l. rows-by n b (omega arith) (omega arith)) shape (even-is t f r shape)
-        (layout-is t f r shape)
+        row-shape few r low (λ b l. rows-by n b (omega arith) (omega arith)) (λ k e. scalar-low t r e) shape
+        (even-is t f r shape) (layout-is t f r shape)
 
     row : (r : ℕ) → r < rowsOf t → Row r
     row r low = rows-by (suc r) r (omega arith) low
@@ -307,7 +308,7 @@ module _ (t f : List ℕ) where
 
 -- ---- one row more of the table
 
-pub fill-next : (t f old even : List ℕ) (r kind : ℕ) (row : TableRow) → question4 t f ≡ Kept → r < rowsOf t
+pub fill-next : (t f old even : List ℕ) (r kind : ℕ) (row : TableRow) → TypesAccepted t f → r < rowsOf t
     → r < length even → Filled 0 r (evenOf t f) old even → row ≡ rowAt t r
     → kind ≡ evenBy f (λ u. getD even u 0) r (formOf row) → Filled 0 (r + 1) (evenOf t f) old (set even r kind)
 unfolding form

@@ -45,9 +45,9 @@ module _ {t f : List ℕ} {used r : ℕ} where
   -- a type that has a base extends a record
   shape-base : {x : Form} {b : ℕ} → Shape t f used r x → baseOf x ≡ suc b → rowAt t b .kind ≡ 4
   unfolding baseOf
-  shape-base (is-scalar l) e = absurd (omega arith)
-  shape-base (is-array l a b c) e = absurd (omega arith)
-  shape-base (is-record l on rows own) e = base-record on e
+  shape-base is-scalar e = absurd (omega arith)
+  shape-base (is-array a b c) e = absurd (omega arith)
+  shape-base (is-record on rows own) e = base-record on e
 
 -- a single cell's type extends itself alone
 pub single-extends : (t : List ℕ) (r u : ℕ) → isSingle t r ≡ true → extends t r u ≡ true → r ≡ u

@@ -1,5 +1,5 @@
 -- What the rule says of an accepted row, and of an accepted table.
-use mathlib.Core.Path.{_≡_, refl, sym, _∙_}
+use mathlib.Core.Path.{_≡_, refl, sym, _∙_, ap}
 use mathlib.Core.Bool.{true}
 use mathlib.Core.List.{List, [], map}
 use mathlib.Core.Logic.{⊎-elim}
@@ -7,17 +7,18 @@ use Prim.Native.Nat.{ℕ, zero, suc, _+_, _≤_, _<_}
 use native.Mathlib.Omega.{arith}
 use native.Mathlib.Decide.{decLt}
 use borrow.Author.Tests.{ltb-true, leb-true, eqb-true, lt-ltb, le-ltb}
-use lib.Dec.{ltb, eqb}
-use Rattle.prelude.specs.Choice.{choose}
+use lib.Dec.{eqb}
 use Rattle.prelude.specs.Parts.{joined, Part}
 use Rattle.prelude.proofs.Choice.{choose-yes, choose-no, choose-cases, also-true, clash}
 use Rattle.prelude.proofs.Rec.{rec-eq, below-low}
 use Rattle.image.specs.declared.Row.{Row}
 use Rattle.image.specs.Rows.{rowAt, rowsOf}
 use Rattle.image.specs.Faults.{KeptIn}
+use Rattle.image.specs.Versions.{scalarRows}
 use Rattle.image.proofs.Faults.{all-each}
+use Rattle.image.proofs.Versions.{few-rows}
 use Rattle.shapes.specs.Forms.{Form, Form.scalar, Form.array, Form.recordOf, Form.noForm, formOf, form}
-use Rattle.shapes.specs.Forms.{baseOf, ofBase, ownTypes}
+use Rattle.shapes.specs.Forms.{baseOf, kindBy, ofBase, ownTypes}
 use Rattle.shapes.specs.Sizes.{sizeBy, sizeOf, layoutBy, layoutOf, fieldsBy, fieldsOf}
 use Rattle.shapes.specs.Shapes.{usedBelow, scalarKept, arrayKept, fieldKept, baseKept, recordKept, laterKept}
 use Rattle.shapes.specs.Shapes.{shapeKept, typeKept}
@@ -32,9 +33,9 @@ pub data Based (t : List ℕ) (r : ℕ) : ℕ → Type 0 where
 
 -- a type row r, where `used` field rows are claimed by the rows below it
 pub data Shape (t f : List ℕ) (used r : ℕ) : Form → Type 0 where
-  is-scalar : r < 3 → Shape t f used r (scalar r)
-  is-array : {element n : ℕ} → 3 ≤ r → element < r → 1 ≤ n → n ≤ 4096 → Shape t f used r (array element n)
-  is-record : {base count : ℕ} → 3 ≤ r → Based t r base → used + count ≤ rowsOf f → KeptIn (fieldKept f r) used (used + count)
+  is-scalar : Shape t f used r (scalar r)
+  is-array : {element n : ℕ} → element < r → 1 ≤ n → n ≤ 4096 → Shape t f used r (array element n)
+  is-record : {base count : ℕ} → Based t r base → used + count ≤ rowsOf f → KeptIn (fieldKept f r) used (used + count)
       → Shape t f used r (recordOf base used count)
 
 based : (t : List ℕ) (r a : ℕ) → baseKept t r a ≡ true → Based t r a
@@ -42,52 +43,68 @@ unfolding baseKept
 based t r zero e = no-base
 based t r (suc b) e = let (l, k) = also-true _ _ e in on-base (ltb-true b r l) (eqb-true _ _ k)
 
-scalar-shape : (t f : List ℕ) (used r : ℕ) (row : Row) → r < 3 → scalarKept r row ≡ true → Shape t f used r (formOf row)
+scalar-form : (r : ℕ) (row : Row) → r < 3 → scalarKept r row ≡ true → formOf row ≡ scalar r
 unfolding scalarKept
-scalar-shape t f used r row h e =
+scalar-form r row h e =
     let kind : row .kind ≡ r = eqb-true _ _ (also-true _ _ e .0) in
-    rw (form-scalar row (omega arith), kind) (is-scalar h)
+    form-scalar row (omega arith) ∙ ap scalar kind
 
-array-shape : (t f : List ℕ) (used r : ℕ) (row : Row) → 3 ≤ r → row .kind ≡ 3 → arrayKept r row ≡ true → Shape t f used r (formOf row)
+array-shape : (t f : List ℕ) (used r : ℕ) (row : Row) → row .kind ≡ 3 → arrayKept r row ≡ true
+    → Shape t f used r (formOf row)
 unfolding arrayKept
-array-shape t f used r row h kind e =
+array-shape t f used r row kind e =
     let (low, e₁) = also-true _ _ e in
     let (least, e₂) = also-true _ _ e₁ in
     let (most, e₃) = also-true _ _ e₂ in
-    rw (form-array row kind) (is-array h (ltb-true _ _ low) (leb-true _ _ least) (leb-true _ _ most))
+    rw (form-array row kind) (is-array (ltb-true _ _ low) (leb-true _ _ least) (leb-true _ _ most))
 
-record-shape : (t f : List ℕ) (used r : ℕ) (row : Row) → 3 ≤ r → row .kind ≡ 4 → recordKept t f used r row ≡ true
+record-shape : (t f : List ℕ) (used r : ℕ) (row : Row) → row .kind ≡ 4 → recordKept t f used r row ≡ true
     → Shape t f used r (formOf row)
 unfolding recordKept
-record-shape t f used r row h kind e =
+record-shape t f used r row kind e =
     let (base, e₁) = also-true _ _ e in
     let (first, e₂) = also-true _ _ e₁ in
     let (rows, own) = also-true _ _ e₂ in
     let at : row .b ≡ used = eqb-true _ _ first in
-    rw (form-record row kind, at) (is-record h (based t r (row .a) base) (leb-true _ _ rows) (all-each (fieldKept f r) (row .c) used own))
+    rw (form-record row kind, at)
+    (is-record (based t r (row .a) base) (leb-true _ _ rows) (all-each (fieldKept f r) (row .c) used own))
 
-later-shape : (t f : List ℕ) (used r : ℕ) (row : Row) → 3 ≤ r → laterKept t f used r row ≡ true → Shape t f used r (formOf row)
+later-shape : (t f : List ℕ) (used r : ℕ) (row : Row) → laterKept t f used r row ≡ true → Shape t f used r (formOf row)
 unfolding laterKept
-later-shape t f used r row h e =
+later-shape t f used r row e =
     ⊎-elim
-    (λ a. array-shape t f used r row h (eqb-true _ _ (a .0)) (a .1))
+    (λ a. array-shape t f used r row (eqb-true _ _ (a .0)) (a .1))
     (λ a. ⊎-elim
-    (λ b. record-shape t f used r row h (eqb-true _ _ (b .0)) (b .1))
+    (λ b. record-shape t f used r row (eqb-true _ _ (b .0)) (b .1))
     (λ b. clash (sym (b .1)))
     (choose-cases (eqb (row .kind) 4) (a .1)))
     (choose-cases (eqb (row .kind) 3) e)
 
-pub shape-of : (t f : List ℕ) (used r : ℕ) (row : Row) → shapeKept t f used r row ≡ true → Shape t f used r (formOf row)
-unfolding shapeKept
-shape-of t f used r row e = go (decLt r 3) (also-true _ _ e .1)
-  where
-    go : Dec (r < 3) → choose (ltb r 3) (scalarKept r row) (laterKept t f used r row) ≡ true → Shape t f used r (formOf row)
-    go (yes h) k = scalar-shape t f used r row h (sym (choose-yes _ _ _ (lt-ltb r 3 h)) ∙ k)
-    go (no h) k = later-shape t f used r row (omega arith) (sym (choose-no _ _ _ (le-ltb r 3 (omega arith))) ∙ k)
+module _ (version : ℕ) (t f : List ℕ) (used r : ℕ) (row : Row) (e : shapeKept version t f used r row ≡ true) where
+  scalar-first : r < scalarRows version → formOf row ≡ scalar r
+  unfolding shapeKept
+  scalar-first h =
+      let few = few-rows version in
+      let kept = sym (choose-yes _ _ _ (lt-ltb r (scalarRows version) h)) ∙ also-true _ _ e .1 in
+      scalar-form r row (omega arith) kept
+
+  -- a row among the first is a scalar of its number: "Rows 0, 1, 2 are kinds 0 BOOLEAN, 1 INTEGER, 2 SET."
+  pub scalar-shaped : r < scalarRows version → kindBy (formOf row) ≡ r
+  unfolding kindBy
+  scalar-shaped h = rw (scalar-first h)
+
+  pub shape-of : Shape t f used r (formOf row)
+  unfolding shapeKept
+  shape-of = go (decLt r (scalarRows version))
+    where
+      go : Dec (r < scalarRows version) → Shape t f used r (formOf row)
+      go (yes h) = rw (scalar-first h) is-scalar
+      go (no h) =
+          later-shape t f used r row
+          (sym (choose-no _ _ _ (le-ltb r (scalarRows version) (omega arith))) ∙ also-true _ _ e .1)
 
 -- a shape that is a record's
 pub record IsRecord (t f : List ℕ) (used r base first count : ℕ) : Type 0 where
-  pub later : 3 ≤ r
   pub on : Based t r base
   pub claims : first ≡ used
   pub within : first + count ≤ rowsOf f
@@ -95,14 +112,13 @@ pub record IsRecord (t f : List ℕ) (used r base first count : ℕ) : Type 0 wh
 
 pub record-is : {t f : List ℕ} {used r : ℕ} {x : Form} {base first count : ℕ} → Shape t f used r x → x ≡ recordOf base first count
     → IsRecord t f used r base first count
-record-is (is-scalar l) e = let z : _≡_ {A = ℕ} 0 1 = cc in absurd (omega arith)
-record-is (is-array l a b c) e = let z : _≡_ {A = ℕ} 0 1 = cc in absurd (omega arith)
-record-is {t} {f} {used} {r} {base = base} {first} {count} (is-record {base = b} {count = n} l on rows own) e =
+record-is is-scalar e = let z : _≡_ {A = ℕ} 0 1 = cc in absurd (omega arith)
+record-is (is-array a b c) e = let z : _≡_ {A = ℕ} 0 1 = cc in absurd (omega arith)
+record-is {t} {f} {used} {r} {base = base} {first} {count} (is-record {base = b} {count = n} on rows own) e =
     let at : used ≡ first = cc in
     let bases : b ≡ base = cc in
     let counts : n ≡ count = cc in
     record {
-      later = l;
       on = rw bases at on;
       claims = sym at;
       within = rw (← at, ← counts) rows;
@@ -111,29 +127,28 @@ record-is {t} {f} {used} {r} {base = base} {first} {count} (is-record {base = b}
 
 -- a shape that is an array's
 pub record IsArray (r element n : ℕ) : Type 0 where
-  pub later : 3 ≤ r
   pub low : element < r
   pub least : 1 ≤ n
   pub most : n ≤ 4096
 
 pub array-is : {t f : List ℕ} {used r : ℕ} {x : Form} {element n : ℕ} → Shape t f used r x → x ≡ array element n → IsArray r element n
-array-is (is-scalar l) e = let z : _≡_ {A = ℕ} 0 1 = cc in absurd (omega arith)
-array-is {element = element} {n} (is-array {element = b} {n = m} l a x y) e =
+array-is is-scalar e = let z : _≡_ {A = ℕ} 0 1 = cc in absurd (omega arith)
+array-is {element = element} {n} (is-array {element = b} {n = m} a x y) e =
     let elements : b ≡ element = cc in
     let counts : m ≡ n = cc in
-    record { later = l; low = rw (← elements) a; least = rw (← counts) x; most = rw (← counts) y }
-array-is (is-record l on rows own) e = let z : _≡_ {A = ℕ} 0 1 = cc in absurd (omega arith)
+    record { low = rw (← elements) a; least = rw (← counts) x; most = rw (← counts) y }
+array-is (is-record on rows own) e = let z : _≡_ {A = ℕ} 0 1 = cc in absurd (omega arith)
 
 -- an accepted row: its shape, and "No size exceeds 4,096."
 pub record RowKept (t f : List ℕ) (r : ℕ) : Type 0 where
   pub shape : Shape t f (usedBelow t r) r (form t r)
   pub small : sizeOf t f r ≤ 4096
 
-pub row-kept : (t f : List ℕ) (r : ℕ) → typeKept t f r ≡ true → RowKept t f r
+pub row-kept : (version : ℕ) (t f : List ℕ) (r : ℕ) → typeKept version t f r ≡ true → RowKept t f r
 unfolding typeKept form
-row-kept t f r e =
+row-kept version t f r e =
     let (shape, size) = also-true _ _ e in
-    record { shape = shape-of t f (usedBelow t r) r (rowAt t r) shape; small = leb-true _ _ size }
+    record { shape = shape-of version t f (usedBelow t r) r (rowAt t r) shape; small = leb-true _ _ size }
 
 -- a field of an accepted record has a type in a lower row
 pub field-low : (f : List ℕ) (r k : ℕ) → fieldKept f r k ≡ true → rowAt f k .a < r
@@ -166,23 +181,23 @@ fields-agree f g h r k n kept same =
 module _ {t f : List ℕ} {used r : ℕ} where
   pub size-agree : {x : Form} (g h : ℕ → ℕ) → Shape t f used r x → ((b : ℕ) → b < r → g b ≡ h b) → sizeBy f g x ≡ sizeBy f h x
   unfolding sizeBy
-  size-agree g h (is-scalar l) same = refl
-  size-agree g h (is-array {element = e} {n = n} l low a b) same = rw (same e low)
-  size-agree g h (is-record {base = a} {count = c} l base rows kept) same =
+  size-agree g h is-scalar same = refl
+  size-agree g h (is-array {element = e} {n = n} low a b) same = rw (same e low)
+  size-agree g h (is-record {base = a} {count = c} base rows kept) same =
       rw (base-agree 0 g h base same, fields-agree f g h r used c kept same)
 
   pub layout-agree : {x : Form} (g h : ℕ → List ℕ) → Shape t f used r x → ((b : ℕ) → b < r → g b ≡ h b) → layoutBy f g x ≡ layoutBy f h x
   unfolding layoutBy
-  layout-agree g h (is-scalar l) same = refl
-  layout-agree g h (is-array {element = e} {n = n} l low a b) same = rw (same e low)
-  layout-agree g h (is-record {base = a} {count = c} l base rows kept) same =
+  layout-agree g h is-scalar same = refl
+  layout-agree g h (is-array {element = e} {n = n} low a b) same = rw (same e low)
+  layout-agree g h (is-record {base = a} {count = c} base rows kept) same =
       rw (base-agree [] g h base same, fields-agree f g h r used c kept same)
 
   pub fields-by-agree : {x : Form} (g h : ℕ → List ℕ) → Shape t f used r x → ((b : ℕ) → b < r → g b ≡ h b) → fieldsBy f g x ≡ fieldsBy f h x
   unfolding fieldsBy
-  fields-by-agree g h (is-scalar l) same = refl
-  fields-by-agree g h (is-array l low a b) same = refl
-  fields-by-agree g h (is-record {base = a} {count = c} l base rows kept) same = rw (base-agree [] g h base same)
+  fields-by-agree g h is-scalar same = refl
+  fields-by-agree g h (is-array low a b) same = refl
+  fields-by-agree g h (is-record {base = a} {count = c} base rows kept) same = rw (base-agree [] g h base same)
 
 -- so the definitions hold as they read
 module _ (t f : List ℕ) (r : ℕ) {used : ℕ} (shape : Shape t f used r (form t r)) where

@@ -13,7 +13,7 @@ use Rattle.prelude.specs.Choice.{choose, _also_}
 use Rattle.prelude.specs.Parts.{sum}
 use Rattle.image.specs.declared.Row.{Row}
 use Rattle.image.specs.Rows.{rowAt}
-use Rattle.shapes.specs.Forms.{Form, Form.scalar, Form.array, Form.recordOf, Form.noForm, formOf, baseOf}
+use Rattle.shapes.specs.Forms.{Form, Form.scalar, Form.array, Form.recordOf, Form.noForm, formOf, form, baseOf}
 use Rattle.shapes.specs.Forms.{countOf, ofBase, ownTypes}
 use Rattle.shapes.specs.Shapes.{baseKept}
 
@@ -65,6 +65,16 @@ module _ (r : Row) where
   pub no-record : (r .kind ≡ 4 → ⊥) → (baseOf (formOf r) ≡ 0) × (countOf (formOf r) ≡ 0)
   unfolding baseOf countOf
   no-record h = by-form (λ x. (baseOf x ≡ 0) × (countOf x ≡ 0)) (λ k. (refl, refl)) (λ e n. (refl, refl)) (refl, refl) h
+
+-- the kind of a type row that is a scalar
+pub scalar-low : (t : List ℕ) (r : ℕ) {k : ℕ} → form t r ≡ scalar k → k < 3
+unfolding form
+scalar-low t r {k} =
+    by-any-form (rowAt t r) (λ x. x ≡ scalar k → k < 3)
+    (λ j low e. let same : j ≡ k = cc in omega arith)
+    (λ element n e. let z : _≡_ {A = ℕ} 0 1 = cc in absurd (omega arith))
+    (λ base first count e. let z : _≡_ {A = ℕ} 0 1 = cc in absurd (omega arith))
+    (λ e. let z : _≡_ {A = ℕ} 0 1 = cc in absurd (omega arith))
 
 -- ---- bases and own fields
 

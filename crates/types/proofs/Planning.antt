@@ -40,36 +40,37 @@ used-up t (suc m) (suc n) h = go (decLt m n) (λ l. used-up t (suc m) n l)
 
 count-fits : {t f : List ℕ} {used r : ℕ} {x : Form} → Shape t f used r x → used ≤ rowsOf f → used + countOf x ≤ rowsOf f
 unfolding countOf
-count-fits (is-scalar l) h = omega arith
-count-fits (is-array l a b c) h = omega arith
-count-fits (is-record l on rows own) h = rows
+count-fits is-scalar h = omega arith
+count-fits (is-array a b c) h = omega arith
+count-fits (is-record on rows own) h = rows
 
-pub used-fits : (t f : List ℕ) (n : ℕ) → KeptIn (typeKept t f) 0 n → usedBelow t n ≤ rowsOf f
+pub used-fits : (version : ℕ) (t f : List ℕ) (n : ℕ) → KeptIn (typeKept version t f) 0 n → usedBelow t n ≤ rowsOf f
 unfolding usedBelow
-used-fits t f zero kept = omega arith
-used-fits t f (suc n) kept =
-    count-fits (row-kept t f n (kept .each n (omega arith) (omega arith)) .shape)
-    (used-fits t f n (record { each = λ j low high. kept .each j low (omega arith) }))
+used-fits version t f zero kept = omega arith
+used-fits version t f (suc n) kept =
+    count-fits (row-kept version t f n (kept .each n (omega arith) (omega arith)) .shape)
+    (used-fits version t f n (record { each = λ j low high. kept .each j low (omega arith) }))
 
 -- ---- counts of fields
 
 length-by : {t f : List ℕ} {used r : ℕ} {x : Form} (g : ℕ → List ℕ) → Shape t f used r x
     → length (fieldsBy f g x) ≡ ofBase 0 (λ b. length (g b)) (baseOf x) + countOf x
 unfolding fieldsBy baseOf countOf ofBase
-length-by g (is-scalar l) = refl
-length-by g (is-array l a b c) = refl
-length-by {f = f} {used} g (is-record {base = zero} {count = c} l on rows own) = own-length f used c ∙ sym (plus c)
+length-by g is-scalar = refl
+length-by g (is-array a b c) = refl
+length-by {f = f} {used} g (is-record {base = zero} {count = c} on rows own) = own-length f used c ∙ sym (plus c)
   where
     plus : (n : ℕ) → 0 + n ≡ n
     plus n = omega arith
-length-by {f = f} {used} g (is-record {base = suc b} {count = c} l on rows own) =
+length-by {f = f} {used} g (is-record {base = suc b} {count = c} on rows own) =
     length-append (g b) (ownTypes f used c) ∙ rw (own-length f used c)
 
 -- a record's fields are its base's and its own
-pub fields-count : (t f : List ℕ) (r : ℕ) → typeKept t f r ≡ true → length (fieldsOf t f r) ≡ inheritedOf t f r + countOf (form t r)
+pub fields-count : (version : ℕ) (t f : List ℕ) (r : ℕ) → typeKept version t f r ≡ true
+    → length (fieldsOf t f r) ≡ inheritedOf t f r + countOf (form t r)
 unfolding inheritedOf
-fields-count t f r kept =
-    let shape = row-kept t f r kept .shape in
+fields-count version t f r kept =
+    let shape = row-kept version t f r kept .shape in
     ap length (fields-are t f r shape) ∙ length-by (fieldsOf t f) shape
 
 base-few : {t : List ℕ} {r a : ℕ} (g : ℕ → ℕ) (n : ℕ) → Based t r a → ((b : ℕ) → b < r → g b ≤ n) → ofBase 0 g a ≤ n
@@ -79,28 +80,31 @@ base-few g n (on-base {b = b} low kind) h = h b low
 
 based-in : {t f : List ℕ} {used r : ℕ} {x : Form} → Shape t f used r x → Based t r (baseOf x)
 unfolding baseOf
-based-in (is-scalar l) = no-base
-based-in (is-array l a b c) = no-base
-based-in (is-record l on rows own) = on
+based-in is-scalar = no-base
+based-in (is-array a b c) = no-base
+based-in (is-record on rows own) = on
 
 -- a record has no more fields than field rows are used up
-few-fields : (t f : List ℕ) (n r : ℕ) → r < n → KeptIn (typeKept t f) 0 (r + 1) → inheritedOf t f r ≤ usedBelow t r
+few-fields : (version : ℕ) (t f : List ℕ) (n r : ℕ) → r < n → KeptIn (typeKept version t f) 0 (r + 1)
+    → inheritedOf t f r ≤ usedBelow t r
 unfolding inheritedOf
-few-fields t f zero r h kept = absurd (omega arith)
-few-fields t f (suc n) r h kept =
-    base-few _ _ (based-in (row-kept t f r (kept .each r (omega arith) (omega arith)) .shape))
-    (λ b low. step b low (few-fields t f n b (omega arith) (record { each = λ j a z. kept .each j a (omega arith) })))
+few-fields version t f zero r h kept = absurd (omega arith)
+few-fields version t f (suc n) r h kept =
+    base-few _ _ (based-in (row-kept version t f r (kept .each r (omega arith) (omega arith)) .shape))
+    (λ b low. step b low
+    (few-fields version t f n b (omega arith) (record { each = λ j a z. kept .each j a (omega arith) })))
   where
     step : (b : ℕ) → b < r → inheritedOf t f b ≤ usedBelow t b → length (fieldsOf t f b) ≤ usedBelow t r
     step b low few =
-        let count = fields-count t f b (kept .each b (omega arith) (omega arith)) in
+        let count = fields-count version t f b (kept .each b (omega arith) (omega arith)) in
         let up = used-up t (suc b) r low in
         omega (arith, count, few, used-next t b, up)
 
-pub inherited-fits : (t f : List ℕ) (r : ℕ) → KeptIn (typeKept t f) 0 (r + 1) → inheritedOf t f r ≤ rowsOf f
-inherited-fits t f r kept =
-    let few = few-fields t f (suc r) r (omega arith) kept in
-    let fits = used-fits t f r (record { each = λ j low high. kept .each j low (omega arith) }) in
+pub inherited-fits : (version : ℕ) (t f : List ℕ) (r : ℕ) → KeptIn (typeKept version t f) 0 (r + 1)
+    → inheritedOf t f r ≤ rowsOf f
+inherited-fits version t f r kept =
+    let few = few-fields version t f (suc r) r (omega arith) kept in
+    let fits = used-fits version t f r (record { each = λ j low high. kept .each j low (omega arith) }) in
     omega arith
 
 count-record : (t : List ℕ) (b : ℕ) → rowAt t b .kind ≡ 4 → countOf (form t b) ≡ rowAt t b .c
@@ -109,14 +113,14 @@ count-record t b kind = rw (form-record (rowAt t b) kind)
 
 own-low : {t f : List ℕ} {used r : ℕ} {x : Form} → Shape t f used r x → (j : ℕ) → used ≤ j → j < used + countOf x → rowAt f j .a < r
 unfolding countOf
-own-low (is-scalar l) j low high = absurd (omega arith)
-own-low (is-array l a b c) j low high = absurd (omega arith)
-own-low {f = f} {r = r} (is-record l on rows own) j low high = field-low f r j (own .each j low high)
+own-low is-scalar j low high = absurd (omega arith)
+own-low (is-array a b c) j low high = absurd (omega arith)
+own-low {f = f} {r = r} (is-record on rows own) j low high = field-low f r j (own .each j low high)
 
 -- ---- a row that is to be planned
 
 module _ (t f plan : List ℕ) (used r : ℕ) (row : Row) (size : ℕ) (ready : Ready t f plan used r row size) where
-  open Ready ready using (few-rows, cells, this-row, claimed, sized, below, here, planned)
+  open Ready ready using (version, few-rows, cells, this-row, claimed, sized, below, here, planned)
 
   -- its shape, and the plan's sizes of the rows below
   abbrev held : ℕ → ℕ
@@ -127,7 +131,7 @@ module _ (t f plan : List ℕ) (used r : ℕ) (row : Row) (size : ℕ) (ready : 
   row-form = ap formOf this-row
 
   row-shape : Shape t f used r (form t r)
-  row-shape = rw claimed (row-kept t f r here .shape)
+  row-shape = rw claimed (row-kept version t f r here .shape)
 
   held-is : (b : ℕ) → b < r → held b ≡ sizeOf t f b
   held-is b low = planned .size b low
@@ -139,10 +143,10 @@ module _ (t f plan : List ℕ) (used r : ℕ) (row : Row) (size : ℕ) (ready : 
   base-is : ofBase 0 held (baseOf (formOf row)) ≡ ofBase 0 (sizeOf t f) (baseOf (form t r))
   base-is = base-agree 0 held (sizeOf t f) row-base held-is ∙ ap (λ x. ofBase 0 (sizeOf t f) (baseOf x)) row-form
 
-  kept-to : KeptIn (typeKept t f) 0 (r + 1)
+  kept-to : KeptIn (typeKept version t f) 0 (r + 1)
   kept-to = record { each = λ j low high. go j (decLt j r) high }
     where
-      go : (j : ℕ) → Dec (j < r) → j < r + 1 → typeKept t f j ≡ true
+      go : (j : ℕ) → Dec (j < r) → j < r + 1 → typeKept version t f j ≡ true
       go j (yes h) high = below .each j (omega arith) h
       go j (no h) high = let q : r ≡ j = omega arith in rw (← q) here
 
@@ -152,7 +156,7 @@ module _ (t f plan : List ℕ) (used r : ℕ) (row : Row) (size : ℕ) (ready : 
     where
       few : (b : ℕ) → b < r → getD plan (INHERITED + b) 0 ≤ 65535
       few b low =
-          let fits = inherited-fits t f b (record { each = λ j a z. below .each j a (omega arith) }) in
+          let fits = inherited-fits version t f b (record { each = λ j a z. below .each j a (omega arith) }) in
           let count = planned .inherited b low in
           let rows = ready .few-fields in
           omega arith
@@ -162,7 +166,8 @@ module _ (t f plan : List ℕ) (used r : ℕ) (row : Row) (size : ℕ) (ready : 
   unfolding ofBase
   base-counts no-base = refl
   base-counts (on-base {b = b} low kind) =
-      rw (planned .inherited b low, ← count-record t b kind) (sym (fields-count t f b (below .each b (omega arith) low)))
+      rw (planned .inherited b low, ← count-record t b kind)
+      (sym (fields-count version t f b (below .each b (omega arith) low)))
 
   pub inherited-is : ofBase 0 (λ b. getD plan (INHERITED + b) 0 + rowAt t b .c) (baseOf (formOf row))
       ≡ inheritedOf t f r
@@ -172,15 +177,15 @@ module _ (t f plan : List ℕ) (used r : ℕ) (row : Row) (size : ℕ) (ready : 
   -- what the places of its own fields ask
   total-is : {x : Form} → Shape t f used r x → ofBase 0 held (baseOf x) + sum (map held (ownTypes f used (countOf x))) ≤ sizeBy f held x
   unfolding sizeBy baseOf countOf ofBase ownTypes sum
-  total-is (is-scalar l) = omega arith
-  total-is (is-array l a b c) = omega arith
-  total-is (is-record l on rows own) = omega arith
+  total-is is-scalar = omega arith
+  total-is (is-array a b c) = omega arith
+  total-is (is-record on rows own) = omega arith
 
   pub offsets-fit : OffsetsFit f plan used (countOf (formOf row)) (ofBase 0 held (baseOf (formOf row)))
   offsets-fit = rw row-form (record { cells = room; low = types; total = whole })
     where
       fits : used + countOf (form t r) ≤ rowsOf f
-      fits = count-fits row-shape (rw claimed (used-fits t f r below))
+      fits = count-fits row-shape (rw claimed (used-fits version t f r below))
 
       room : OFFSETS + (used + countOf (form t r)) ≤ length plan
       room = let rows = ready .few-fields in omega (arith, fits)
@@ -192,7 +197,7 @@ module _ (t f plan : List ℕ) (used r : ℕ) (row : Row) (size : ℕ) (ready : 
       whole =
           let total = total-is row-shape in
           let size = size-agree held (sizeOf t f) row-shape held-is ∙ sym (size-is t f r row-shape) in
-          let small = row-kept t f r here .small in
+          let small = row-kept version t f r here .small in
           omega (arith, total, size, small)
 
   -- the plan once its places, its count and its size are written
@@ -256,7 +261,7 @@ module _ (t f plan : List ℕ) (used r : ℕ) (row : Row) (size : ℕ) (ready : 
       where
         go : Dec (x < r) → getD next (OFFSETS + (first + j)) 0 ≡ ownOffset t f base first j
         go (yes low) =
-            let is = record-is (row-kept t f x (below .each x (omega arith) low) .shape) e in
+            let is = record-is (row-kept version t f x (below .each x (omega arith) low) .shape) e in
             let claims = is .claims in
             let counted : countOf (form t x) ≡ n = ap countOf e in
             let up = used-up t (suc x) r low in

@@ -39,9 +39,9 @@ module _ (t f : List ℕ) (m r : ℕ) (room : r < m) (ih : (b : ℕ) → b < r �
 
   shape-below : {used : ℕ} {x : Form} → Shape t f used r x → Below m (fieldsBy f (fieldsOf t f) x)
   unfolding fieldsBy
-  shape-below (is-scalar l) = none
-  shape-below (is-array l low a b) = none
-  shape-below {used} (is-record {count = c} l base rows kept) =
+  shape-below is-scalar = none
+  shape-below (is-array low a b) = none
+  shape-below {used} (is-record {count = c} base rows kept) =
       each-append (base-below base)
       (own-below f m c used (λ j low high. let h = field-low f r j (kept .each j low high) in omega arith))
 
