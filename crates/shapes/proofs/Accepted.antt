@@ -1,7 +1,7 @@
 -- What the rule says of an accepted row, and of an accepted table.
 use mathlib.Core.Path.{_≡_, refl, sym, _∙_}
 use mathlib.Core.Bool.{true}
-use mathlib.Core.List.{List, [], map}
+use mathlib.Core.List.{List, [], _++_, map}
 use mathlib.Core.Logic.{⊎-elim}
 use Prim.Native.Nat.{ℕ, zero, suc, _+_, _≤_, _<_}
 use native.Mathlib.Omega.{arith}
@@ -9,19 +9,20 @@ use native.Mathlib.Decide.{decLt}
 use borrow.Author.Tests.{ltb-true, leb-true, eqb-true, lt-ltb, le-ltb}
 use lib.Dec.{ltb, eqb}
 use Rattle.prelude.specs.Choice.{choose}
-use Rattle.prelude.specs.Parts.{joined, Part}
+use Rattle.prelude.specs.Parts.{joined, sum, Part}
 use Rattle.prelude.proofs.Choice.{choose-yes, choose-no, choose-cases, also-true, clash}
+use Rattle.prelude.proofs.Each.{each-map}
 use Rattle.prelude.proofs.Rec.{rec-eq, below-low}
 use Rattle.image.specs.declared.Row.{Row}
 use Rattle.image.specs.Rows.{rowAt, rowsOf}
 use Rattle.image.specs.Faults.{KeptIn}
 use Rattle.image.proofs.Faults.{all-each}
 use Rattle.shapes.specs.Forms.{Form, Form.scalar, Form.array, Form.recordOf, Form.noForm, formOf, form}
-use Rattle.shapes.specs.Forms.{baseOf, ofBase, ownTypes}
+use Rattle.shapes.specs.Forms.{baseOf, countOf, ofBase, ownTypes}
 use Rattle.shapes.specs.Sizes.{sizeBy, sizeOf, layoutBy, layoutOf, fieldsBy, fieldsOf}
 use Rattle.shapes.specs.Shapes.{usedBelow, scalarKept, arrayKept, fieldKept, baseKept, recordKept, laterKept}
 use Rattle.shapes.specs.Shapes.{shapeKept, typeKept}
-use Rattle.shapes.proofs.Rows.{form-scalar, form-array, form-record}
+use Rattle.shapes.proofs.Rows.{form-scalar, form-array, form-record, by-bases, own-each}
 
 -- ---- a row
 
@@ -29,6 +30,14 @@ use Rattle.shapes.proofs.Rows.{form-scalar, form-array, form-record}
 pub data Based (t : List ℕ) (r : ℕ) : ℕ → Type 0 where
   no-base : Based t r zero
   on-base : {b : ℕ} → b < r → rowAt t b .kind ≡ 4 → Based t r (suc b)
+
+pub based-on : {t : List ℕ} {r a b : ℕ} → Based t r a → a ≡ suc b → (b < r) × (rowAt t b .kind ≡ 4)
+based-on no-base e = absurd (omega arith)
+based-on {b = b} (on-base {b = c} low kind) e = let q : c ≡ b = omega arith in (omega arith, rw q at kind)
+
+pub base-most : {t : List ℕ} {r a : ℕ} → Based t r a → a ≤ r
+base-most no-base = omega arith
+base-most (on-base low kind) = omega arith
 
 -- a type row r, where `used` field rows are claimed by the rows below it
 pub data Shape (t f : List ℕ) (used r : ℕ) : Form → Type 0 where
@@ -147,21 +156,12 @@ field-low f r k e =
 -- ---- a row's size, layout and fields hang on lower rows alone
 
 pub base-agree : {X : Type 0} {t : List ℕ} {r a : ℕ} (none : X) (g h : ℕ → X) → Based t r a → ((b : ℕ) → b < r → g b ≡ h b) → ofBase none g a ≡ ofBase none h a
-unfolding ofBase
-base-agree none g h no-base same = refl
-base-agree none g h (on-base {b = b} low kind) same = same b low
-
-own-agree : {X : Type 0} (f : List ℕ) (g h : ℕ → X) (n k : ℕ) → ((j : ℕ) → k ≤ j → j < k + n → g (rowAt f j .a) ≡ h (rowAt f j .a))
-    → map g (ownTypes f k n) ≡ map h (ownTypes f k n)
-unfolding ownTypes
-own-agree f g h zero k same = refl
-own-agree f g h (suc n) k same =
-    rw (same k (omega arith) (omega arith), own-agree f g h n (k + 1) (λ j low high. same j (omega arith) (omega arith)))
+base-agree {a = a} none g h on same = by-bases _≡_ a refl (λ b e. same b (based-on on e .0))
 
 pub fields-agree : {X : Type 0} (f : List ℕ) (g h : ℕ → X) (r k n : ℕ) → KeptIn (fieldKept f r) k (k + n) → ((b : ℕ) → b < r → g b ≡ h b)
     → map g (ownTypes f k n) ≡ map h (ownTypes f k n)
 fields-agree f g h r k n kept same =
-    own-agree f g h n k (λ j low high. same (rowAt f j .a) (field-low f r j (kept .each j low high)))
+    each-map (own-each f k n (λ j low high. same (rowAt f j .a) (field-low f r j (kept .each j low high))))
 
 module _ {t f : List ℕ} {used r : ℕ} where
   pub size-agree : {x : Form} (g h : ℕ → ℕ) → Shape t f used r x → ((b : ℕ) → b < r → g b ≡ h b) → sizeBy f g x ≡ sizeBy f h x
@@ -183,6 +183,49 @@ module _ {t f : List ℕ} {used r : ℕ} where
   fields-by-agree g h (is-scalar l) same = refl
   fields-by-agree g h (is-array l low a b) same = refl
   fields-by-agree g h (is-record {base = a} {count = c} l base rows kept) same = rw (base-agree [] g h base same)
+
+-- what holds of every form that a row may have holds of its own
+pub by-shape : {t f : List ℕ} {used r : ℕ} {x : Form} (P : Form → Type 0) → Shape t f used r x
+    → ((k : ℕ) → k < 3 → P (scalar k))
+    → ((element n : ℕ) → element < r → P (array element n))
+    → ((base count : ℕ) → Based t r base → KeptIn (fieldKept f r) used (used + count) → P (recordOf base used count)) → P x
+by-shape {r = r} P (is-scalar l) s a c = s r l
+by-shape P (is-array {element = e} {n = n} l low x y) s a c = a e n low
+by-shape P (is-record {base = b} {count = n} l on rows own) s a c = c b n on own
+
+-- ---- base and own fields, whatever the form
+
+-- a shape x has these, and its fields and its size are made of theirs
+pub record Made (t f : List ℕ) (used r : ℕ) (x : Form) : Type 0 where
+  pub on : Based t r (baseOf x)
+  pub within : used ≤ rowsOf f → used + countOf x ≤ rowsOf f
+  pub own : KeptIn (fieldKept f r) used (used + countOf x)
+  pub fields : (g : ℕ → List ℕ) → fieldsBy f g x ≡ ofBase [] g (baseOf x) ++ ownTypes f used (countOf x)
+  pub size : (g : ℕ → ℕ) → ofBase 0 g (baseOf x) + sum (map g (ownTypes f used (countOf x))) ≤ sizeBy f g x
+
+pub made-of : {t f : List ℕ} {used r : ℕ} {x : Form} → Shape t f used r x → Made t f used r x
+unfolding baseOf countOf fieldsBy sizeBy ofBase ownTypes sum
+made-of (is-scalar l) = record {
+  on = no-base;
+  within = λ h. omega arith;
+  own = record { each = λ j low high. absurd (omega arith) };
+  fields = λ g. refl;
+  size = λ g. omega arith;
+}
+made-of (is-array l a b c) = record {
+  on = no-base;
+  within = λ h. omega arith;
+  own = record { each = λ j low high. absurd (omega arith) };
+  fields = λ g. refl;
+  size = λ g. omega arith;
+}
+made-of (is-record l on rows own) = record {
+  on = on;
+  within = λ h. rows;
+  own = own;
+  fields = λ g. refl;
+  size = λ g. omega arith;
+}
 
 -- so the definitions hold as they read
 module _ (t f : List ℕ) (r : ℕ) {used : ℕ} (shape : Shape t f used r (form t r)) where
@@ -236,6 +279,31 @@ base-first t f r {b = b} shape base = let (first, count, is) = based-form (form 
           };
           fields = record { rest = own; seen = fields-are t f r shape ∙ rw is; within = omega arith };
         }
+
+-- ---- field rows used up
+
+pub used-none : (t : List ℕ) → usedBelow t 0 ≡ 0
+unfolding usedBelow
+used-none t = refl
+
+pub used-next : (t : List ℕ) (r : ℕ) → usedBelow t (suc r) ≡ usedBelow t r + countOf (form t r)
+unfolding usedBelow
+used-next t r = refl
+
+pub used-up : (t : List ℕ) (m n : ℕ) → m ≤ n → usedBelow t m ≤ usedBelow t n
+used-up t m zero h = let q : m ≡ 0 = omega arith in rw q (omega arith)
+used-up t m (suc n) h = go (decLt n m) (λ l. used-up t m n l)
+  where
+    go : Dec (n < m) → (m ≤ n → usedBelow t m ≤ usedBelow t n) → usedBelow t m ≤ usedBelow t (suc n)
+    go (yes l) rest = let q : m ≡ suc n = omega arith in rw q (omega arith)
+    go (no l) rest = let up = rest (omega arith) in omega (arith, used-next t n)
+
+pub used-fits : (t f : List ℕ) (n : ℕ) → KeptIn (typeKept t f) 0 n → usedBelow t n ≤ rowsOf f
+used-fits t f zero kept = omega (arith, used-none t)
+used-fits t f (suc n) kept =
+    rw (used-next t n)
+    (made-of (row-kept t f n (kept .each n (omega arith) (omega arith)) .shape) .within
+    (used-fits t f n (record { each = λ j low high. kept .each j low (omega arith) })))
 
 -- ---- the whole table
 
