@@ -31,6 +31,10 @@ module _ {X : Type 0} {P : X → Type 0} where
   each-at (more p e) d zero h = p
   each-at (more p e) d (suc k) h = each-at e d k (omega arith)
 
+  pub each-so : {Q : X → Type 0} {l : List X} → Each P l → ((x : X) → P x → Q x) → Each Q l
+  each-so none h = none
+  each-so (more p e) h = more (h _ p) (each-so e h)
+
   pub each-nth : {l : List X} {n : ℕ} {x : X} → Each P l → Nth l n x → P x
   each-nth none h = elim h [ ]
   each-nth (more p e) here = p
