@@ -84,13 +84,13 @@ index-handed As.Stuck t next value = refl
 pub index-none : {x : Answer} (v : Value) → x ≡ As.Val v → OneOf (0 ∷ 2 ∷ []) (tagOf valueType v)
     → (next : ℤ → Found) → index x next ≡ Fs.Stuck
 unfolding index
-index-none v e t next = rw e (no-integer v next t)
+index-none v e t next = rw e (no-integer _ v next t)
 
 -- an INTEGER is one
 pub index-value : {x : Answer} {v : Value} {z : ℤ} → x ≡ As.Val v → v ≡ Vs.Int z → (next : ℤ → Found)
     → index x next ≡ next z
 unfolding index
-index-value e f next = rw e (is-integer next f)
+index-value e f next = rw e (is-integer _ next f)
 
 -- an array without an index
 pub array-stuck : (g : Program) (whole : Place) → arrayPlace g whole As.Stuck ≡ Fs.Stuck

@@ -15,15 +15,15 @@ use Rattle.kinds.specs.declared.KindAnswer.the-variants.{Untyped, Kind}
 
 -- ---- what holds of the kind that an answer has
 
-abbrev Given : (ℕ → Type 0) → KindAnswer → Type 0
-Given P a = (x : ℕ) → a ≡ Kind x → P x
+record Given (P : ℕ → Type 0) (a : KindAnswer) : Type 0 where
+  holds : (x : ℕ) → a ≡ Kind x → P x
 
 module _ {P : ℕ → Type 0} where
   none : Given P Untyped
-  none x e = let z : _≡_ {A = ℕ} 0 1 = cc in absurd (omega arith)
+  none = record { holds = λ x e. let z : _≡_ {A = ℕ} 0 1 = cc in absurd (omega arith) }
 
   one : {k : ℕ} → P k → Given P (Kind k)
-  one {k} h x e = let same : k ≡ x = cc in rw same at h
+  one {k} h = record { holds = λ x e. let same : k ≡ x = cc in rw same at h }
 
   when : (b : Bool) {x y : KindAnswer} → (b ≡ true → Given P x) → Given P y → Given P (choose b x y)
   unfolding choose
@@ -57,15 +57,15 @@ pub record Operands (left right x : ℕ) : Type 0 where
 
 both : (left right : ℕ) {j k : ℕ} {a : KindAnswer} → Scalar j → Scalar k → eqb left j ≡ true → eqb right k ≡ true
     → Given Scalar a → Given (Operands left right) a
-both left right {j} {k} p q l r given x e = record {
+both left right {j} {k} p q l r given = record { holds = λ x e. record {
   left-scalar = rw (eqb-true left j l) p;
   right-scalar = rw (eqb-true right k r) q;
-  given-scalar = given x e;
-}
+  given-scalar = given .holds x e;
+} }
 
-pub dyadic-scalar : (op left right x : ℕ) → dyadicKind op left right ≡ Kind x → Operands left right x
+dyadic-given : (op left right : ℕ) → Given (Operands left right) (dyadicKind op left right)
 unfolding dyadicKind
-dyadic-scalar op left right =
+dyadic-given op left right =
     when (eqb left BOOLEAN) (λ l. when (eqb right BOOLEAN)
     (λ r. both left right a-boolean a-boolean l r (booleans-scalar op)) none)
     (when (eqb left INTEGER) (λ l. when (eqb right INTEGER)
@@ -75,14 +75,16 @@ dyadic-scalar op left right =
     (when (eqb left SET) (λ l. when (eqb right SET)
     (λ r. both left right a-set a-set l r (sets-scalar op)) none) none))
 
+pub dyadic-scalar : (op left right x : ℕ) → dyadicKind op left right ≡ Kind x → Operands left right x
+dyadic-scalar op left right = dyadic-given op left right .holds
+
 both-true : (a b : Bool) → a && b ≡ true → b ≡ true
 both-true true b e = e
 both-true false b e = clash (sym e)
 
--- the operand's kind, and the one that is given
-pub monadic-scalar : (op operand x : ℕ) → monadicKind op operand ≡ Kind x → Scalar operand × Scalar x
+monadic-given : (op operand : ℕ) → Given (λ x. Scalar operand × Scalar x) (monadicKind op operand)
 unfolding monadicKind
-monadic-scalar op operand =
+monadic-given op operand =
     either (eqb op 1)
     (when (leb 1 operand && leb operand 2) (λ e.
     let low = leb-true operand 2 (both-true (leb 1 operand) (leb operand 2) e) in
@@ -90,3 +92,7 @@ monadic-scalar op operand =
     one (scalar, scalar)) none)
     (either (eqb op 2) (when (eqb operand BOOLEAN) (λ e.
     one (rw (eqb-true operand BOOLEAN e) a-boolean, a-boolean)) none) none)
+
+-- the operand's kind, and the one that is given
+pub monadic-scalar : (op operand x : ℕ) → monadicKind op operand ≡ Kind x → Scalar operand × Scalar x
+monadic-scalar op operand = monadic-given op operand .holds

@@ -44,15 +44,15 @@ not-integer op x q = refl
 pub not-booleans : (op : ℕ) (p : Bool) (w : Value) → OneOf (1 ∷ 2 ∷ []) (tagOf the-type w)
     → dyadicOf op (Vs.Bool p) w ≡ As.Stuck
 unfolding dyadicOf
-not-booleans op p w t = no-boolean w _ t
+not-booleans op p w t = no-boolean _ w _ t
 
 -- no SET beside a SET
 pub not-sets : (op : ℕ) (s : ℕ) (w : Value) → OneOf (0 ∷ 1 ∷ []) (tagOf the-type w)
     → dyadicOf op (Vs.Set s) w ≡ As.Stuck
 unfolding dyadicOf
-not-sets op s w t = no-set w _ t
+not-sets op s w t = no-set _ w _ t
 
 -- only a BOOLEAN decides
 pub no-boolean-decides : (op : ℕ) (v : Value) → OneOf (1 ∷ 2 ∷ []) (tagOf the-type v) → decides op v ≡ false
 unfolding decides
-no-boolean-decides op v t = no-boolean v _ t
+no-boolean-decides op v t = no-boolean _ v _ t

@@ -108,7 +108,7 @@ module _ {g : Program} {fs : List Frame} where
   index-ok : {y : ℕ} {m : Answer} (k : ℤ → Found) → Gives INTEGER m → ((z : ℤ) → FoundOk g fs y (k z))
       → FoundOk g fs y (index m k)
   unfolding index
-  index-ok {y} k (value {v = v} e range) next = integer-only (FoundOk g fs y) v k e next
+  index-ok {y} k (value {v = v} e range) next = integer-only (FoundOk g fs y) _ v k e next
   index-ok k trapped next = found-trap
 
   -- "every other object's is its declared type"

@@ -392,7 +392,7 @@ module _ (g : Program)
       let known = form .condition .within in
       on-value-ok g s (unchanged g s) _ (given-here (row .a) BOOLEAN known (ruled .type) (ruled .own)
       (row-single g ok a-boolean))
-      (λ v k range. boolean-only (NextOk g s) v _ (k ∙ kind-row g ok a-boolean) (λ holds.
+      (λ v k range. boolean-only (NextOk g s) _ v _ (k ∙ kind-row g ok a-boolean) (λ holds.
       ok-either g s holds (gone-ok (s .at .row + 1) inside)
       (gone-ok (row .b) (target-inside (row .b) (form .target)))))
 
@@ -492,7 +492,7 @@ module _ (g : Program)
       let inside = kind-inside 6 kind (omega arith) (omega arith) (omega arith) in
       on-value-ok g s (unchanged g s) _ (given-here (row .a) INTEGER (form .value .within) (ruled .type) (ruled .own)
       (row-single g ok an-integer))
-      (λ v k range. integer-only (NextOk g s) v _ (k ∙ kind-row g ok an-integer) (λ z.
+      (λ v k range. integer-only (NextOk g s) _ v _ (k ∙ kind-row g ok an-integer) (λ z.
       ok-choose g s _
       (λ more. ok-goes (sound-with (s .at .row + 1) (s .at .read) (s .at .written + 1) (s .cells)
       _ inside (sound .holding) refl) refl (length-set (s .output) _ z))
@@ -505,7 +505,7 @@ module _ (g : Program)
       let ruled = rules (ok .questions .rules) (s .at .row) row-within kind .value in
       on-value-ok g s (unchanged g s) _ (given-here (row .a) INTEGER (form .value .within) (ruled .type) (ruled .own)
       (row-single g ok an-integer))
-      (λ v k range. integer-only (NextOk g s) v _ (k ∙ kind-row g ok an-integer) (λ z. ok-trapped (unchanged g s)))
+      (λ v k range. integer-only (NextOk g s) _ v _ (k ∙ kind-row g ok an-integer) (λ z. ok-trapped (unchanged g s)))
 
   -- ---- by the kind
 

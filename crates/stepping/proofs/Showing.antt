@@ -74,12 +74,12 @@ module _ {s : State ℤ} {r : Step} {cells output : List ℤ} where
   -- with an INTEGER's number
   pub shows-integer : {v : Value} {z : ℤ} {x : Next ℤ} (next : ℤ → Next ℤ) → v ≡ Vs.Int z
       → Shows s (next z) r cells output → Shows s (asInteger x v next) r cells output
-  shows-integer next t h = shows-by (is-integer next t) h
+  shows-integer next t h = shows-by (is-integer _ next t) h
 
   -- with a BOOLEAN's
   pub shows-boolean : {v : Value} {b : Bool} {x : Next ℤ} (next : Bool → Next ℤ) → v ≡ Vs.Bool b
       → Shows s (next b) r cells output → Shows s (asBoolean x v next) r cells output
-  shows-boolean next t h = shows-by (is-boolean next t) h
+  shows-boolean next t h = shows-by (is-boolean _ next t) h
 
   -- with a link's
   pub shows-mark : {mark x : Mark} {n : ℕ} (next : ℕ → Next ℤ) → mark ≡ x → mark ≡ Number n
@@ -127,12 +127,12 @@ module _ {s : State ℤ} where
   -- a value that is no INTEGER
   pub shows-no-integer : (v : Value) (next : ℤ → Next ℤ) → OneOf (0 ∷ 2 ∷ []) (tagOf valueType v)
       → Shows s (asInteger (stuck s) v next) Steps.Stuck (s .cells) (s .output)
-  shows-no-integer v next t = shows-by (no-integer v next t) (shows-stuck refl refl)
+  shows-no-integer v next t = shows-by (no-integer _ v next t) (shows-stuck refl refl)
 
   -- no BOOLEAN
   pub shows-no-boolean : (v : Value) (next : Bool → Next ℤ) → OneOf (1 ∷ 2 ∷ []) (tagOf valueType v)
       → Shows s (asBoolean (stuck s) v next) Steps.Stuck (s .cells) (s .output)
-  shows-no-boolean v next t = shows-by (no-boolean v next t) (shows-stuck refl refl)
+  shows-no-boolean v next t = shows-by (no-boolean _ v next t) (shows-stuck refl refl)
 
   -- a cell that holds no link
   pub shows-no-mark : {mark x : Mark} (next : ℕ → Next ℤ) → mark ≡ x → mark ≡ Nothing

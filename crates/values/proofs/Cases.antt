@@ -40,7 +40,7 @@ module _ {X : Type 0} (P : X → Type 0) {x : X} (other : P x) where
 
 -- ---- a value of the kind
 
-module _ {X : Type 0} (P : X → Type 0) {x : X} where
+module _ {X : Type 0} (P : X → Type 0) (x : X) where
   pub boolean-only : (v : Value) (k : Bool → X) → kindOf v ≡ BOOLEAN → ((b : Bool) → P (k b)) → P (asBoolean x v k)
   unfolding asBoolean kindOf
   boolean-only (Vs.Bool b) k e f = f b
@@ -53,7 +53,7 @@ module _ {X : Type 0} (P : X → Type 0) {x : X} where
   integer-only (Vs.Int z) k e f = f z
   integer-only (Vs.Set s) k e f = absurd (omega arith)
 
-module _ {X : Type 0} {x : X} {v : Value} where
+module _ {X : Type 0} (x : X) {v : Value} where
   pub is-boolean : {b : Bool} (k : Bool → X) → v ≡ Vs.Bool b → asBoolean x v k ≡ k b
   unfolding asBoolean
   is-boolean k e = rw e
@@ -64,7 +64,7 @@ module _ {X : Type 0} {x : X} {v : Value} where
 
 -- ---- let .. else: a value of another kind
 
-module _ {X : Type 0} {x : X} where
+module _ {X : Type 0} (x : X) where
   pub no-boolean : (v : Value) (k : Bool → X) → OneOf (1 ∷ 2 ∷ []) (tagOf the-type v) → asBoolean x v k ≡ x
   unfolding asBoolean
   no-boolean (Vs.Bool b) k t = neither (omega arith) (omega arith) t
