@@ -144,7 +144,7 @@ module _ (t f plan : List ℕ) (kept : TypesKept t f) (p : Plan t f (rowsOf t) p
       → (0 < a) × (a - 1 < r) × (plannedField t f plan n (a - 1) ≡ fieldIn (sizeOf t f) (ofBase [] (fieldsOf t f) a ++ own) n)
   up-field n r zero low on less own ih = absurd (omega (arith, ap length (of-no-base [] (fieldsOf t f) 0 refl)))
   up-field n r (suc b) low (on-base l kind) less own ih =
-      let base = of-row [] (fieldsOf t f) refl in (
+      let base : ofBase [] (fieldsOf t f) (suc b) ≡ fieldsOf t f b = of-row [] (fieldsOf t f) refl in (
         omega arith,
         omega arith,
         rw (less-one b, base) (ih b l ∙ sym (field-front (sizeOf t f) (fieldsOf t f b) own n (rw base at less))),

@@ -168,3 +168,18 @@ unfolding ownTypes
 own-at f j zero k h = absurd (omega arith)
 own-at f zero (suc n) k h = let q : k + 0 ≡ k = omega arith in rw q
 own-at f (suc j) (suc n) k h = let q : k + 1 + j ≡ k + suc j = omega arith in rw q at (own-at f j n (k + 1) (omega arith))
+
+-- the sizes of one own field more, at the end
+pub sum-more : (f : List ℕ) (g : ℕ → ℕ) (m k : ℕ) → sum (map g (ownTypes f k (suc m))) ≡ sum (map g (ownTypes f k m)) + g (rowAt f (k + m) .a)
+unfolding ownTypes sum
+sum-more f g zero k = let q : k + 0 ≡ k = omega arith in rw q (omega arith)
+sum-more f g (suc m) k =
+    let q : k + 1 + m ≡ k + suc m = omega arith in
+    let rest = rw q at (sum-more f g m (k + 1)) in
+    omega (arith, rest)
+
+pub sum-up : (f : List ℕ) (g : ℕ → ℕ) (m n k : ℕ) → m ≤ n → sum (map g (ownTypes f k m)) ≤ sum (map g (ownTypes f k n))
+unfolding ownTypes sum
+sum-up f g zero n k h = omega arith
+sum-up f g (suc m) zero k h = absurd (omega arith)
+sum-up f g (suc m) (suc n) k h = let rest = sum-up f g m n (k + 1) (omega arith) in omega (arith, rest)
