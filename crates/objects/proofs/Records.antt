@@ -133,7 +133,7 @@ module _ {t f plan : List ℕ} (typed : Typed t f plan) where
       }
 
     inner-low : {n u : ℕ} → Nth (ofBase [] (fieldsOf t f) (row .a)) n u → u < at
-    inner-low h = each-nth (fields-low t f kept at low) (rw whole (nth-more (ownTypes f (row .b) (row .c)) h))
+    inner-low h = each-nth (rw whole at (fields-low t f kept at low)) (nth-more (ownTypes f (row .b) (row .c)) h)
 
     module _ (deeper : ℕ → ℕ → Bool) {before : ℕ} (is : before ≡ ofBase 0 (held plan) (row .a)) (o : ℕ) where
       abbrev pub inner : Bool
