@@ -41,14 +41,26 @@ returns-2 : tie.Need-returns-2
 unfolding dyadicNode
 returns-2 c = sym (typed-known _ _ (sym (c .before .before .before .before .before .before .type-at .ensures) ∙ c .before .before .before .before .left .given .1) ∙ typed-none _ _ (sym (c .before .before .type-at2 .ensures) ∙ c .enum-told2 .given .1))
 
+kind-in-requires : tie.Need-kind-in-requires
+kind-in-requires c κs = search needs
+
+kind-in-requires-2 : tie.Need-kind-in-requires-2
+kind-in-requires-2 c κs = search needs
+
 dyadic-kind-requires : tie.Need-dyadic-kind-requires
 dyadic-kind-requires c κs = search needs
 
 returns-3 : tie.Need-returns-3
 unfolding dyadicNode
-returns-3 c = c .dyadic-kind .ensures
-    ∙ sym (typed-known _ _ (sym (c .before .before .before .before .before .before .before .before .type-at .ensures) ∙ c .before .before .before .before .before .before .left .given .1)
-    ∙ typed-known _ _ (sym (c .before .before .before .before .type-at2 .ensures) ∙ c .before .before .right .given .1))
+returns-3 c =
+    let second = c .before in
+    let first = second .before in
+    let r = first .before .before in
+    let l = r .before .before .before .before in
+    c .dyadic-kind .ensures
+    ∙ rw (first .kind-in .ensures, second .kind-in2 .ensures)
+    (sym (typed-known _ _ (sym (l .before .before .type-at .ensures) ∙ l .left .given .1)
+    ∙ typed-known _ _ (sym (r .before .before .type-at2 .ensures) ∙ r .right .given .1)))
 
 pub dyadic-node-spec : {M : Type 1} → statement M
 dyadic-node-spec =
@@ -64,5 +76,7 @@ dyadic-node-spec =
     enum-known-right
     enum-told-2
     returns-2
+    kind-in-requires
+    kind-in-requires-2
     dyadic-kind-requires
     returns-3)

@@ -25,12 +25,19 @@ returns : tie.Need-returns
 unfolding monadicNode
 returns c = sym (typed-none _ _ (sym (c .before .before .type-at .ensures) ∙ c .enum-told .given .1))
 
+kind-in-requires : tie.Need-kind-in-requires
+kind-in-requires c κs = search needs
+
 monadic-kind-requires : tie.Need-monadic-kind-requires
 monadic-kind-requires c κs = search needs
 
 returns-2 : tie.Need-returns-2
 unfolding monadicNode
-returns-2 c = c .monadic-kind .ensures ∙ sym (typed-known _ _ (sym (c .before .before .before .before .type-at .ensures) ∙ c .before .before .operand .given .1))
+returns-2 c =
+    let o = c .before .before .before in
+    c .monadic-kind .ensures
+    ∙ rw (c .before .kind-in .ensures)
+    (sym (typed-known _ _ (sym (o .before .before .type-at .ensures) ∙ o .operand .given .1)))
 
 pub monadic-node-spec : {M : Type 1} → statement M
 monadic-node-spec =
@@ -41,5 +48,6 @@ monadic-node-spec =
     enum-known-operand
     enum-told
     returns
+    kind-in-requires
     monadic-kind-requires
     returns-2)
