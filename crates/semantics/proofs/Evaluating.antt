@@ -158,11 +158,11 @@ module _ (g : Program)
       scalar-row (g .types) (g .fields) (ok .types) k low (omega arith)
 
   -- what has one is a single cell
-  pub kind-scalar : {x : ℕ} → Scalar (kindIn (g .types) x) → isSingle (g .types) x ≡ true
-  kind-scalar {x} scalar = let low = scalar-below scalar in kind-single (g .types) x (λ e. absurd (omega arith))
+  pub kind-scalar : (x : ℕ) → Scalar (kindIn (g .types) x) → isSingle (g .types) x ≡ true
+  kind-scalar x scalar = let low = scalar-below scalar in kind-single (g .types) x (λ e. absurd (omega arith))
 
   pub row-single : {k : ℕ} → Scalar k → isSingle (g .types) k ≡ true
-  row-single scalar = kind-scalar (rw (kind-row scalar) scalar)
+  row-single {k} scalar = kind-scalar k (rw (kind-row scalar) scalar)
 
   pub single-values : (x : ℕ) → isSingle (g .types) x ≡ true → valuesOf g x ≡ any-value (kindIn (g .types) x) ∷ []
   unfolding valuesOf
@@ -522,8 +522,8 @@ module _ (g : Program)
         let (left-own, right-own) = dyadic-own (g .types) (g .variables) (g .procedures) (g .nodes)
         (ok .questions .nodes) procedure r low own k in
         let scalars = dyadic-scalar (row .c) _ _ x (type .result) in
-        let left-single = kind-scalar g ok (scalars .left-scalar) in
-        let right-single = kind-scalar g ok (scalars .right-scalar) in
+        let left-single = kind-scalar g ok _ (scalars .left-scalar) in
+        let right-single = kind-scalar g ok _ (scalars .right-scalar) in
         expression-ok r x (not-designator r (omega arith)) (λ e. absurd (omega arith)) (scalars .given-scalar)
         (bind-ok (λ left. appliedTo (row .c) left (child (row .b) .value))
         (child-value (row .a) (type .left) (c .left .low) (c .left .node .within) (type .left-type) left-own left-single)
@@ -542,7 +542,7 @@ module _ (g : Program)
         expression-ok r x (not-designator r (omega arith)) (λ e. absurd (omega arith)) given-scalar
         (bind-ok (λ operand. monadicOf (row .c) operand)
         (child-value (row .a) (type .operand) (c .operand .low) (c .operand .node .within)
-        (type .operand-type) mine (kind-scalar g ok operand-scalar))
+        (type .operand-type) mine (kind-scalar g ok _ operand-scalar))
         (λ v e range. operator-typed (row .c) (rw e (type .result)) range))
 
     test-node : row .kind ≡ 7 → GuardNode (g .types) (g .variables) row → MeaningOk g frames r x (by child 7 row)

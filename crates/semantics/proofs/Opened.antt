@@ -6,13 +6,13 @@ use Rattle.prelude.specs.Rec.{below, turns, rec}
 use Rattle.image.specs.Rows.{numberAt, wordAt, rowsOf, rowAt}
 use Rattle.image.specs.Faults.{firstFrom, lowestFault, ruleUpTo, allFrom}
 use Rattle.values.specs.Values.{kindOf, isInteger, isSet, trapNumber, numberOf as cellNumber, booleanCell}
-use Rattle.values.specs.Values.{integerCell, setCell, cellOf, signedOf, constantOf, bind}
+use Rattle.values.specs.Values.{integerCell, setCell, cellOf, signedOf, constantOf, asBoolean, asInteger, asSet, bind}
 use Rattle.kinds.specs.Kinds.{integersKind, setsKind, booleansKind, dyadicKind, monadicKind}
 use Rattle.integers.specs.Integers.{integerOf, quotientOf, divOf, modOf, divisionOf, arithmeticOf}
 use Rattle.sets.specs.Sets.{isElement, containsOf, elementsOf, rangeOf, complementOf}
 use Rattle.operators.specs.Operators.{compareOf, equalZ, integersOf, setsOf, booleansOf, membershipOf, dyadicOf}
 use Rattle.operators.specs.Operators.{monadicOf, decides, appliedTo}
-use Rattle.shapes.specs.Forms.{formOf, form, baseOf, countOf, ofBase, ownTypes}
+use Rattle.shapes.specs.Forms.{formOf, form, baseOf, countOf, kindBy, kindIn, isSingle, ofBase, ownTypes}
 use Rattle.shapes.specs.Sizes.{sizeBy, sizeOf, layoutBy, layoutOf, fieldsBy, fieldsOf, offsetOf}
 use Rattle.shapes.specs.Shapes.{usedBelow, scalarKept, arrayKept, fieldKept, baseKept, recordKept, laterKept}
 use Rattle.shapes.specs.Shapes.{shapeKept, typeKept}
@@ -66,8 +66,8 @@ unfolding usedBelow scalarKept arrayKept fieldKept baseKept recordKept laterKept
 shapes = tt
 
 unfoldable pub sizes : Unit {0}
-unfolding formOf form baseOf countOf ofBase ownTypes sizeBy sizeOf layoutBy layoutOf fieldsBy fieldsOf offsetOf
-    extendsTo fieldOf
+unfolding formOf form baseOf countOf kindBy kindIn isSingle ofBase ownTypes sizeBy sizeOf layoutBy layoutOf fieldsBy
+    fieldsOf offsetOf extendsTo fieldOf
 sizes = tt
 
 -- values
@@ -77,8 +77,8 @@ unfolding isInteger trapNumber integerOf quotientOf divOf modOf divisionOf arith
 integers = tt
 
 unfoldable pub operators : Unit {0}
-unfolding asBoolean asInteger asSet bind bitOf containsOf elementsOf complementOf setsOf booleansOf membershipOf dyadicOf monadicOf decides
-    appliedTo
+unfolding asBoolean asInteger asSet bind bitOf containsOf elementsOf complementOf setsOf booleansOf membershipOf
+    dyadicOf monadicOf decides appliedTo
 operators = tt
 
 unfoldable pub values : Unit {0}
