@@ -232,8 +232,8 @@ module _ (t f : List ℕ) where
             (told-low c (even-many _ n (layoutOf t f e) (p .even c))) (ih e h .settled)
         go (inr several) (yes b) (no c) =
             let empty : evenOf t f e ≡ EMPTY = omega arith in
-            row-as (is ∙ rw (ne-eqb n 1 several, lt-ltb _ PARTS b) empty) (layout ∙ none-many n (p .none empty)) told-empty
-            (λ e. absurd (omega arith))
+            row-as (is ∙ rw (ne-eqb n 1 several, lt-ltb _ PARTS b) empty) (layout ∙ none-many n (p .none empty))
+            told-empty (λ e. absurd (omega arith))
         go (inr several) (no b) c =
             row-own r (omega arith) (is ∙ rw (ne-eqb n 1 several, le-ltb (evenOf t f e) PARTS (omega arith)))
 

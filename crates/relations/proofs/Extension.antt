@@ -32,7 +32,8 @@ pub data Extends (t : List ℕ) : ℕ → ℕ → Type 0 where
 
 base-yes : (t : List ℕ) (u r a : ℕ) → baseOf (form t r) ≡ a → ofBase false (below false r (extendsTo t u)) a ≡ true
     → ((b : ℕ) → b < r → extendsTo t u b ≡ true → Extends t b u) → Extends t r u
-base-yes t u r a base e ih = by-base (λ x. x ≡ true → Extends t r u) a (λ e. clash (sym e)) (λ b is. go b is (decLt b r)) e
+base-yes t u r a base e ih =
+    by-base (λ x. x ≡ true → Extends t r u) a (λ e. clash (sym e)) (λ b is. go b is (decLt b r)) e
   where
     go : (b : ℕ) → a ≡ suc b → Dec (b < r) → below false r (extendsTo t u) b ≡ true → Extends t r u
     go b is (yes low) e = up (base ∙ is) low (ih b low (sym (below-low false r (extendsTo t u) b low) ∙ e))
@@ -53,7 +54,9 @@ pub yes-extends : {t : List ℕ} {r u : ℕ} → Extends t r u → extends t r u
 unfolding choose
 yes-extends {t} {r} same = extends-same t r r refl
 yes-extends {t} {r} {u} (up {b = b} base low e) =
-    extends-eq t u r ∙ rw (of-row false (below false r (extendsTo t u)) base) (either (eqb r u) (below-low false r (extendsTo t u) b low ∙ yes-extends e))
+    extends-eq t u r
+    ∙ rw (of-row false (below false r (extendsTo t u)) base)
+    (either (eqb r u) (below-low false r (extendsTo t u) b low ∙ yes-extends e))
   where
     either : (x : Bool) → below false r (extendsTo t u) b ≡ true → choose x true (below false r (extendsTo t u) b) ≡ true
     either true h = refl

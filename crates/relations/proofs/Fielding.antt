@@ -167,7 +167,8 @@ module _ (t f plan : List ℕ) (kept : TypesKept t f) (p : Plan t f (rowsOf t) p
           let q : length (ofBase [] (fieldsOf t f) (rowAt t r .a)) + (n - length (ofBase [] (fieldsOf t f) (rowAt t r .a))) ≡ n = omega arith in
           planned-own t f plan n r refl kind (omega arith)
           ∙ ap (λ k. plannedOwn f plan (rowAt t r .b) (rowAt t r .c) (n - k)) inh
-          ∙ own-field r (rowAt t r .a) (rowAt t r .b) (rowAt t r .c) low (record-form t r kind) on (n - length (ofBase [] (fieldsOf t f) (rowAt t r .a)))
+          ∙ own-field r (rowAt t r .a) (rowAt t r .b) (rowAt t r .c) low (record-form t r kind) on
+          (n - length (ofBase [] (fieldsOf t f) (rowAt t r .a)))
           ∙ ap (λ k. fieldIn (sizeOf t f) (ofBase [] (fieldsOf t f) (rowAt t r .a) ++ ownTypes f (rowAt t r .b) (rowAt t r .c)) k) q
 
       go : (rowAt t r .kind ≡ 4) ⊎ (rowAt t r .kind ≡ 4 → ⊥) → ((b : ℕ) → b < r → plannedField t f plan n b ≡ fieldIn (sizeOf t f) (fieldsOf t f b) n)

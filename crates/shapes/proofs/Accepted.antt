@@ -1,5 +1,5 @@
 -- What the rule says of an accepted row, and of an accepted table.
-use mathlib.Core.Path.{_≡_, refl, sym, _∙_}
+use mathlib.Core.Path.{_≡_, refl, sym, _∙_, ap}
 use mathlib.Core.Bool.{true}
 use mathlib.Core.List.{List, [], _++_, map}
 use mathlib.Core.Logic.{⊎-elim}
@@ -9,7 +9,7 @@ use native.Mathlib.Decide.{decLt}
 use borrow.Author.Tests.{ltb-true, leb-true, eqb-true, lt-ltb, le-ltb}
 use lib.Dec.{ltb, eqb}
 use Rattle.prelude.specs.Choice.{choose}
-use Rattle.prelude.specs.Parts.{joined, sum, Part}
+use Rattle.prelude.specs.Parts.{sum, Part}
 use Rattle.prelude.proofs.Choice.{choose-yes, choose-no, choose-cases, also-true, clash}
 use Rattle.prelude.proofs.Each.{each-map}
 use Rattle.prelude.proofs.Rec.{rec-eq, below-low}
@@ -17,12 +17,12 @@ use Rattle.image.specs.declared.Row.{Row}
 use Rattle.image.specs.Rows.{rowAt, rowsOf}
 use Rattle.image.specs.Faults.{KeptIn}
 use Rattle.image.proofs.Faults.{all-each}
-use Rattle.shapes.specs.Forms.{Form, Form.scalar, Form.array, Form.recordOf, Form.noForm, formOf, form}
+use Rattle.shapes.specs.Forms.{Form, Form.scalar, Form.array, Form.recordOf, formOf, form}
 use Rattle.shapes.specs.Forms.{baseOf, countOf, ofBase, ownTypes}
 use Rattle.shapes.specs.Sizes.{sizeBy, sizeOf, layoutBy, layoutOf, fieldsBy, fieldsOf}
 use Rattle.shapes.specs.Shapes.{usedBelow, scalarKept, arrayKept, fieldKept, baseKept, recordKept, laterKept}
 use Rattle.shapes.specs.Shapes.{shapeKept, typeKept}
-use Rattle.shapes.proofs.Rows.{form-scalar, form-array, form-record, by-bases, own-each}
+use Rattle.shapes.proofs.Rows.{form-scalar, form-array, form-record, of-row, by-bases, own-each}
 
 -- ---- a row
 
@@ -153,6 +153,44 @@ field-low f r k e =
     let (low, e₃) = also-true _ _ e₂ in
     ltb-true _ _ low
 
+-- ---- base and own fields, whatever the form
+
+-- a shape x has these; its layout begins with the base's, its fields and its size are made of theirs
+pub record Made (t f : List ℕ) (used r : ℕ) (x : Form) : Type 0 where
+  pub on : Based t r (baseOf x)
+  pub within : used ≤ rowsOf f → used + countOf x ≤ rowsOf f
+  pub own : KeptIn (fieldKept f r) used (used + countOf x)
+  pub layout : (g : ℕ → List ℕ) → (rest : List ℕ) × (layoutBy f g x ≡ ofBase [] g (baseOf x) ++ rest)
+  pub fields : (g : ℕ → List ℕ) → fieldsBy f g x ≡ ofBase [] g (baseOf x) ++ ownTypes f used (countOf x)
+  pub size : (g : ℕ → ℕ) → ofBase 0 g (baseOf x) + sum (map g (ownTypes f used (countOf x))) ≤ sizeBy f g x
+
+pub made-of : {t f : List ℕ} {used r : ℕ} {x : Form} → Shape t f used r x → Made t f used r x
+unfolding baseOf countOf layoutBy fieldsBy sizeBy ofBase ownTypes sum
+made-of (is-scalar l) = record {
+  on = no-base;
+  within = λ h. omega arith;
+  own = record { each = λ j low high. absurd (omega arith) };
+  layout = λ g. (_, refl);
+  fields = λ g. refl;
+  size = λ g. omega arith;
+}
+made-of (is-array l a b c) = record {
+  on = no-base;
+  within = λ h. omega arith;
+  own = record { each = λ j low high. absurd (omega arith) };
+  layout = λ g. (_, refl);
+  fields = λ g. refl;
+  size = λ g. omega arith;
+}
+made-of (is-record l on rows own) = record {
+  on = on;
+  within = λ h. rows;
+  own = own;
+  layout = λ g. (_, refl);
+  fields = λ g. refl;
+  size = λ g. omega arith;
+}
+
 -- ---- a row's size, layout and fields hang on lower rows alone
 
 pub base-agree : {X : Type 0} {t : List ℕ} {r a : ℕ} (none : X) (g h : ℕ → X) → Based t r a → ((b : ℕ) → b < r → g b ≡ h b) → ofBase none g a ≡ ofBase none h a
@@ -179,53 +217,21 @@ module _ {t f : List ℕ} {used r : ℕ} where
       rw (base-agree [] g h base same, fields-agree f g h r used c kept same)
 
   pub fields-by-agree : {x : Form} (g h : ℕ → List ℕ) → Shape t f used r x → ((b : ℕ) → b < r → g b ≡ h b) → fieldsBy f g x ≡ fieldsBy f h x
-  unfolding fieldsBy
-  fields-by-agree g h (is-scalar l) same = refl
-  fields-by-agree g h (is-array l low a b) same = refl
-  fields-by-agree g h (is-record {base = a} {count = c} l base rows kept) same = rw (base-agree [] g h base same)
+  fields-by-agree {x} g h shape same =
+      let made = made-of shape in
+      made .fields g
+      ∙ ap (λ l. l ++ ownTypes f used (countOf x)) (base-agree [] g h (made .on) same)
+      ∙ sym (made .fields h)
 
 -- what holds of every form that a row may have holds of its own
 pub by-shape : {t f : List ℕ} {used r : ℕ} {x : Form} (P : Form → Type 0) → Shape t f used r x
     → ((k : ℕ) → k < 3 → P (scalar k))
     → ((element n : ℕ) → element < r → P (array element n))
-    → ((base count : ℕ) → Based t r base → KeptIn (fieldKept f r) used (used + count) → P (recordOf base used count)) → P x
+    → ((base count : ℕ) → Based t r base → KeptIn (fieldKept f r) used (used + count) → P (recordOf base used count))
+    → P x
 by-shape {r = r} P (is-scalar l) s a c = s r l
 by-shape P (is-array {element = e} {n = n} l low x y) s a c = a e n low
 by-shape P (is-record {base = b} {count = n} l on rows own) s a c = c b n on own
-
--- ---- base and own fields, whatever the form
-
--- a shape x has these, and its fields and its size are made of theirs
-pub record Made (t f : List ℕ) (used r : ℕ) (x : Form) : Type 0 where
-  pub on : Based t r (baseOf x)
-  pub within : used ≤ rowsOf f → used + countOf x ≤ rowsOf f
-  pub own : KeptIn (fieldKept f r) used (used + countOf x)
-  pub fields : (g : ℕ → List ℕ) → fieldsBy f g x ≡ ofBase [] g (baseOf x) ++ ownTypes f used (countOf x)
-  pub size : (g : ℕ → ℕ) → ofBase 0 g (baseOf x) + sum (map g (ownTypes f used (countOf x))) ≤ sizeBy f g x
-
-pub made-of : {t f : List ℕ} {used r : ℕ} {x : Form} → Shape t f used r x → Made t f used r x
-unfolding baseOf countOf fieldsBy sizeBy ofBase ownTypes sum
-made-of (is-scalar l) = record {
-  on = no-base;
-  within = λ h. omega arith;
-  own = record { each = λ j low high. absurd (omega arith) };
-  fields = λ g. refl;
-  size = λ g. omega arith;
-}
-made-of (is-array l a b c) = record {
-  on = no-base;
-  within = λ h. omega arith;
-  own = record { each = λ j low high. absurd (omega arith) };
-  fields = λ g. refl;
-  size = λ g. omega arith;
-}
-made-of (is-record l on rows own) = record {
-  on = on;
-  within = λ h. rows;
-  own = own;
-  fields = λ g. refl;
-  size = λ g. omega arith;
-}
 
 -- so the definitions hold as they read
 module _ (t f : List ℕ) (r : ℕ) {used : ℕ} (shape : Shape t f used r (form t r)) where
@@ -254,31 +260,25 @@ pub record Begins (t f : List ℕ) (r u : ℕ) : Type 0 where
   pub layout : Part (layoutOf t f r) 0 (layoutOf t f u)
   pub fields : Part (fieldsOf t f r) 0 (fieldsOf t f u)
 
--- what has a base is a record
-based-form : (x : Form) {b : ℕ} → baseOf x ≡ suc b → (first : ℕ) × (count : ℕ) × (x ≡ recordOf (suc b) first count)
-unfolding baseOf
-based-form (scalar k) e = absurd (omega arith)
-based-form (array m n) e = absurd (omega arith)
-based-form (recordOf base first count) e = (first, count, rw e)
-based-form noForm e = absurd (omega arith)
-
 -- a record begins with its base
 pub base-first : (t f : List ℕ) (r : ℕ) {used b : ℕ} → Shape t f used r (form t r) → baseOf (form t r) ≡ suc b
     → Begins t f r b
-unfolding layoutBy fieldsBy ofBase
-base-first t f r {b = b} shape base = let (first, count, is) = based-form (form t r) base in go first count is
-  where
-    go : (first count : ℕ) → form t r ≡ recordOf (suc b) first count → Begins t f r b
-    go first count is =
-        let own : List ℕ = ownTypes f first count in
-        record {
-          layout = record {
-            rest = joined (map (layoutOf t f) own);
-            seen = layout-is t f r shape ∙ rw is;
-            within = omega arith;
-          };
-          fields = record { rest = own; seen = fields-are t f r shape ∙ rw is; within = omega arith };
-        }
+base-first t f r {used} {b} shape base =
+    let made = made-of shape in
+    let layout = made .layout (layoutOf t f) in
+    record {
+      layout = record {
+        rest = layout .0;
+        seen = layout-is t f r shape ∙ layout .1 ∙ ap (λ l. l ++ layout .0) (of-row [] (layoutOf t f) base);
+        within = omega arith;
+      };
+      fields = record {
+        rest = ownTypes f used (countOf (form t r));
+        seen = fields-are t f r shape ∙ made .fields (fieldsOf t f)
+            ∙ ap (λ l. l ++ ownTypes f used (countOf (form t r))) (of-row [] (fieldsOf t f) base);
+        within = omega arith;
+      };
+    }
 
 -- ---- field rows used up
 

@@ -9,28 +9,24 @@ use lib.ListN.{replicate}
 use Rattle.prelude.specs.Parts.{joined, sum}
 use Rattle.prelude.proofs.Each.{Each, Each.none, each-append}
 use Rattle.prelude.proofs.Rec.{rec-eq}
-use Rattle.image.specs.declared.Row.{Row}
-use Rattle.image.specs.Rows.{rowAt, rowsOf}
+use Rattle.image.specs.Rows.{rowAt, rowsOf, noRow}
 use Rattle.image.proofs.Bytes.{row-missing}
-use Rattle.shapes.specs.Forms.{Form, Form.noForm, formOf, form, baseOf, ofBase, ownTypes, isSingle}
+use Rattle.shapes.specs.Forms.{Form, Form.noForm, form, baseOf, ofBase, ownTypes, isSingle}
 use Rattle.shapes.specs.Sizes.{sizeBy, sizeOf, layoutBy, layoutOf, fieldsBy, fieldsOf}
 use Rattle.shapes.specs.Shapes.{usedBelow}
-use Rattle.shapes.proofs.Rows.{form-none, by-form, row-form, array-form, record-form, by-base, own-each}
+use Rattle.shapes.proofs.Rows.{form-none, no-record, row-form, array-form, record-form, of-no-base}
+use Rattle.shapes.proofs.Rows.{by-base, own-none, own-each}
 use Rattle.shapes.proofs.Accepted.{Shape, Shape.is-scalar, Shape.is-array, Shape.is-record, IsArray, IsRecord}
 use Rattle.shapes.proofs.Accepted.{TypesKept, array-is, record-is, based-on, made-of, size-is, layout-is}
 use Rattle.shapes.proofs.Accepted.{fields-are, field-low}
 use Rattle.shapes.proofs.Singles.{low-single}
 
-other-fields : (f : List ℕ) (fields : ℕ → List ℕ) (row : Row) → (row .kind ≡ 4 → ⊥) → fieldsBy f fields (formOf row) ≡ []
-unfolding fieldsBy
-other-fields f fields row other = by-form row (λ x. fieldsBy f fields x ≡ []) (λ k. refl) (λ e n. refl) refl other
-
 -- a type that is no row has no fields
 pub missing-fields : (t f : List ℕ) (r : ℕ) → rowsOf t ≤ r → fieldsOf t f r ≡ []
-unfolding fieldsOf form
+unfolding fieldsOf form fieldsBy
 missing-fields t f r h =
-    let other : rowAt t r .kind ≡ 4 → ⊥ = rw (row-missing t r h) (λ e. absurd (omega arith)) in
-    rec-eq [] (λ fields k. fieldsBy f fields (form t k)) r ∙ other-fields f _ (rowAt t r) other
+    rec-eq [] (λ fields k. fieldsBy f fields (form t k)) r
+    ∙ rw (row-missing t r h, form-none noRow (omega arith))
 
 no-shape : {t f : List ℕ} {used r : ℕ} {x : Form} → Shape t f used r x → x ≡ noForm → ⊥
 no-shape (is-scalar l) e = let z : _≡_ {A = ℕ} 0 1 = cc in absurd (omega arith)
@@ -90,8 +86,12 @@ module _ (t f : List ℕ) (kept : TypesKept t f) where
       record-fields = fields-are t f r (kept .row r low .shape) ∙ rw (record-form t r kind)
 
     pub no-fields : (rowAt t r .kind ≡ 4 → ⊥) → fieldsOf t f r ≡ []
-    unfolding form
-    no-fields other = fields-are t f r (kept .row r low .shape) ∙ other-fields f (fieldsOf t f) (rowAt t r) other
+    no-fields other =
+        let shape = kept .row r low .shape in
+        let (base, count) = rw (row-form t r refl) at (no-record (rowAt t r) other) in
+        fields-are t f r shape
+        ∙ made-of shape .fields (fieldsOf t f)
+        ∙ rw (base, count, of-no-base [] (fieldsOf t f) 0 refl) (own-none f (usedBelow t r))
 
     -- a base is a record in a lower row
     pub base-record : {b : ℕ} → baseOf (form t r) ≡ suc b → (b < r) × (rowAt t b .kind ≡ 4)

@@ -74,7 +74,8 @@ unfolding form
 row-form t r this = ap formOf this
 
 -- a record's base, and how many field rows it claims
-pub of-record : {x : Form} {base first count : ℕ} → x ≡ recordOf base first count → (baseOf x ≡ base) × (countOf x ≡ count)
+pub of-record : {x : Form} {base first count : ℕ} → x ≡ recordOf base first count
+    → (baseOf x ≡ base) × (countOf x ≡ count)
 unfolding baseOf countOf
 of-record e = (rw e, rw e)
 
@@ -144,6 +145,10 @@ module _ (f : List ℕ) (k e : ℕ) where
   unfolding sum
   sum-end g h = rw (own-end h)
 
+pub own-none : (f : List ℕ) (k : ℕ) → ownTypes f k 0 ≡ []
+unfolding ownTypes
+own-none f k = refl
+
 pub own-length : (f : List ℕ) (k n : ℕ) → length (ownTypes f k n) ≡ n
 unfolding ownTypes
 own-length f k zero = refl
@@ -167,10 +172,13 @@ pub own-at : (f : List ℕ) (j n k : ℕ) → j < n → getD (ownTypes f k n) j 
 unfolding ownTypes
 own-at f j zero k h = absurd (omega arith)
 own-at f zero (suc n) k h = let q : k + 0 ≡ k = omega arith in rw q
-own-at f (suc j) (suc n) k h = let q : k + 1 + j ≡ k + suc j = omega arith in rw q at (own-at f j n (k + 1) (omega arith))
+own-at f (suc j) (suc n) k h =
+    let q : k + 1 + j ≡ k + suc j = omega arith in
+    rw q at (own-at f j n (k + 1) (omega arith))
 
 -- the sizes of one own field more, at the end
-pub sum-more : (f : List ℕ) (g : ℕ → ℕ) (m k : ℕ) → sum (map g (ownTypes f k (suc m))) ≡ sum (map g (ownTypes f k m)) + g (rowAt f (k + m) .a)
+pub sum-more : (f : List ℕ) (g : ℕ → ℕ) (m k : ℕ) → sum (map g (ownTypes f k (suc m)))
+    ≡ sum (map g (ownTypes f k m)) + g (rowAt f (k + m) .a)
 unfolding ownTypes sum
 sum-more f g zero k = let q : k + 0 ≡ k = omega arith in rw q (omega arith)
 sum-more f g (suc m) k =

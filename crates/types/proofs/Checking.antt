@@ -1,5 +1,5 @@
 -- Laws of the loop that asks question 4, row by row.
-use mathlib.Core.Path.{_≡_, refl, sym, _∙_, ap}
+use mathlib.Core.Path.{_≡_, sym, _∙_, ap}
 use mathlib.Core.Bool.{true, false}
 use mathlib.Core.List.{List}
 use Prim.Native.Nat.{ℕ, suc, _+_, _≤_, _<_}
@@ -111,7 +111,9 @@ module _ (t f old plan : List ℕ) (r used : ℕ) (s : Sofar t f old plan r used
           few-fields = few-fields;
           room = room;
           within = omega arith;
-          claimed = let one : r + 1 ≡ suc r = omega arith in rw one (rw (claimed, counted, row-form t r this-row) (sym (used-next t r)));
+          claimed =
+              let one : r + 1 ≡ suc r = omega arith in
+              rw one (rw (claimed, counted, row-form t r this-row) (sym (used-next t r)));
           below = kept-next (typeKept t f) 0 r below kept-here;
           planned = p;
           rest = rest-more t r old plan next rest q;

@@ -1,10 +1,9 @@
 -- Laws of the loop that writes the places of own fields.
-use mathlib.Core.Path.{_≡_, refl, _∙_}
+use mathlib.Core.Path.{_≡_, _∙_}
 use mathlib.Core.List.{List, map}
-use Prim.Native.Nat.{ℕ, zero, suc, _+_, _-_, _≤_, _<_}
+use Prim.Native.Nat.{ℕ, suc, _+_, _-_, _≤_, _<_}
 use native.Mathlib.Omega.{arith}
-use native.Mathlib.Decide.{decLt}
-use lib.ListN.{length, getD, set, length-set}
+use lib.ListN.{length, getD, set}
 use Rattle.prelude.specs.Parts.{sum}
 use Rattle.prelude.proofs.Cells.{filled-none, filled-next}
 use Rattle.image.specs.Rows.{rowAt}

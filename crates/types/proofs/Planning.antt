@@ -30,9 +30,13 @@ unfolding inheritedOf
 fields-count t f r kept =
     let shape = row-kept t f r kept .shape in
     let base = baseOf (form t r) in
+    let count = countOf (form t r) in
     ap length (fields-are t f r shape ∙ made-of shape .fields (fieldsOf t f))
-    ∙ length-append (ofBase [] (fieldsOf t f) base) (ownTypes f (usedBelow t r) (countOf (form t r)))
-    ∙ rw (length-based (λ b. length (fieldsOf t f b)) (fieldsOf t f) (λ b. refl) base, own-length f (usedBelow t r) (countOf (form t r)))
+    ∙ length-append (ofBase [] (fieldsOf t f) base) (ownTypes f (usedBelow t r) count)
+    ∙ rw (
+      length-based (λ b. length (fieldsOf t f b)) (fieldsOf t f) (λ b. refl) base,
+      own-length f (usedBelow t r) count,
+    )
 
 base-few : {t : List ℕ} {r a : ℕ} (g : ℕ → ℕ) (n : ℕ) → Based t r a → ((b : ℕ) → b < r → g b ≤ n) → ofBase 0 g a ≤ n
 base-few {a = a} g n on h = by-base (λ k. k ≤ n) a (omega arith) (λ b e. h b (based-on on e .0))
@@ -187,7 +191,8 @@ module _ (t f plan : List ℕ) (used r : ℕ) (row : Row) (size : ℕ) (ready : 
         let shape = this-form ∙ e in
         let few : j < countOf (formOf row) = rw (of-record shape .1) h in
         let own = fields-agree f held (sizeOf t f) r first j (record { each = λ k low high. is .own .each k low (omega arith) }) held-is in
-        let base-size : ofBase 0 held (baseOf (formOf row)) ≡ ofBase 0 (sizeOf t f) base = base-is ∙ ap (λ b. ofBase 0 (sizeOf t f) b) (of-record e .0) in
+        let base-size : ofBase 0 held (baseOf (formOf row)) ≡ ofBase 0 (sizeOf t f) base =
+        base-is ∙ ap (λ b. ofBase 0 (sizeOf t f) b) (of-record e .0) in
         other (OFFSETS + (first + j)) (omega arith) (omega arith)
         ∙ rw (is .claims) (field-place j few ∙ rw (base-size, ← is .claims, own))
 
