@@ -1,5 +1,5 @@
 -- Objects that are found lie low enough to add an offset, and are of types that there are.
-use mathlib.Core.Path.{_≡_, refl, sym, subst}
+use mathlib.Core.Path.{_≡_, refl, sym, subst, _∙_}
 use mathlib.Core.List.{List}
 use Prim.Native.Nat.{ℕ, _+_, _*_, _≤_, _<_}
 use native.Mathlib.Omega.{arith}
@@ -192,22 +192,24 @@ module _ {image plan : List ℕ} (p : Planned image plan) where
     typed-at : {n : ℕ} {y : Found} → x ≡ y → Low image n y → place .declared < rowsOf (g .types)
     typed-at {n} e h = low-typed (subst (Low image n) (sym e ∙ at) h)
 
-    pub variable-there : {base top : ℕ} {cells : List ℤ} → base ≤ 65536 → (a : ℕ)
+    pub variable-there : (base top : ℕ) (cells : List ℤ) → base ≤ 65536 → (a : ℕ)
         → x ≡ variablePlace bare g base top cells a (rowAt (g .variables) a) → place .declared < rowsOf (g .types)
-    variable-there {base} {top} {cells} low a e = typed-at e (variable-low base top cells low a)
+    variable-there base top cells low a e = typed-at e (variable-low base top cells low a)
 
     pub field-there : (whole : Place) (r j : ℕ) → x ≡ fieldPlace whole (fieldOf (g .types) (g .fields) r j)
         → place .declared < rowsOf (g .types)
     field-there whole r j e = typed-at e (field-place-low (whole .address) r j whole (omega arith))
 
-    pub element-there : (whole : Place) (z : ℤ) → rowAt (g .types) (whole .declared) .kind ≡ 3
-        → x ≡ elementPlace g whole (rowAt (g .types) (whole .declared)) z → place .declared < rowsOf (g .types)
-    element-there whole z kind e = typed-at e (element-place-low (whole .address) whole (omega arith) kind z)
+    pub element-there : (whole : Place) {array : Row} (z : ℤ) → array ≡ rowAt (g .types) (whole .declared)
+        → array .kind ≡ 3 → x ≡ elementPlace g whole array z → place .declared < rowsOf (g .types)
+    element-there whole z is kind e =
+        typed-at (rw is at e) (element-place-low (whole .address) whole (omega arith) (rw is at kind) z)
 
-    pub guard-there : (whole : Place) (r : ℕ) → rowAt (g .nodes) r .kind ≡ 4
-        → x ≡ guardPlace g (rowAt (g .nodes) r .b) whole → place .declared < rowsOf (g .types)
-    guard-there whole r kind e =
-        typed-at e (guard-place-low (whole .address) (rowAt (g .nodes) r .b) whole (omega arith) (guard-typed p r kind))
+    pub guard-there : (whole : Place) {node : Row} (r : ℕ) → node ≡ rowAt (g .nodes) r → node .kind ≡ 4
+        → x ≡ guardPlace g (node .b) whole → place .declared < rowsOf (g .types)
+    guard-there whole r is kind e =
+        typed-at (rw is at e) (guard-place-low (whole .address) (rowAt (g .nodes) r .b) whole (omega arith)
+        (guard-typed p r (rw is at kind)))
 
   -- ---- every node, from the low rows up
 

@@ -14,6 +14,7 @@ use Rattle.values.proofs.Numbers.{plain32}
 use Rattle.operators.specs.Operators.{dyadicOf, monadicOf, appliedTo}
 use Rattle.operators.proofs.Operands.{two-booleans, two-integers, integer-and-set, two-sets}
 use Rattle.operators.proofs.Operands.{not-booleans, not-integer, not-sets}
+use Rattle.shapes.specs.Forms.{kindIn}
 use Rattle.relations.specs.Fields.{fieldOf}
 use Rattle.semantics.specs.declared.Place.{Place}
 use Rattle.semantics.specs.declared.Found.{Found}
@@ -27,7 +28,7 @@ use Rattle.finding.specs.Standing.{Within}
 use Rattle.finding.proofs.Missed.{reach-object, content-object, reach-other, content-other, index-other}
 use Rattle.finding.proofs.Missed.{index-handed, index-none, index-value, array-stuck, array-none, array-index}
 use Rattle.finding.proofs.Laws.{lower, find-row, eval-row, find-lower, eval-lower, not-lower, find-other}
-use Rattle.finding.proofs.Low.{find-within}
+use Rattle.finding.proofs.Low.{find-within, variable-there, field-there, element-there, guard-there}
 use Prim.Native.Nat.{ℕ, _<_}
 use borrow.Fn.Kinds.{In}
 use borrow.Fn.PlainCycle.{Measures, is, falls, and}
@@ -405,7 +406,7 @@ eval-load-requires t c κs =
     let m = v .before .before in
     let s = m .before .pre .1 in (
       s .planned,
-      variable-there (s .planned) (c .before .variable .given .1) (s .low) _ (v .variable-place .ensures),
+      variable-there (s .planned) (c .before .variable .given .1) _ _ _ (s .low) _ (v .variable-place .ensures),
       s .stored,
     )
 
@@ -551,8 +552,15 @@ eval-returns-11 t c =
 
 eval-load-requires-3 : (t : ℕ) → eval-lts.Need-load-requires-3 (eval-claims t) (eval-at t) eval.Post
 eval-load-requires-3 t c κs =
-    let f = c .before .before .before .before .before .before .before .before .before .before .before in
-    array-of t f .before .before .before .before .before .before .before .pre .1 .stored
+    let p = c .before .before .before in
+    let f = p .before .before .before .before .before .before .before .before in
+    let k = f .before .before .before in
+    let s = array-of t f .before .before .before .before .before .before .before .pre .1 in (
+      s .planned,
+      element-there (s .planned) (c .before .element .given .1) _ _ (k .before .before .type-at .ensures) (k .if3 .left)
+          (p .fresh-place4 .ensures ∙ p .before .element-place .ensures),
+      s .stored,
+    )
 
 eval-fresh-requires-4 : (t : ℕ) → eval-lts.Need-fresh-requires-4 (eval-claims t) (eval-at t) eval.Post
 eval-fresh-requires-4 t c κs = search needs
@@ -587,7 +595,15 @@ eval-returns-13 t c =
     c .no-value7 .ensures ∙ sym (at-narrowed t (c .before .before) ∙ content-other _ (c .before .match10 .keys2) _)
 
 eval-load-requires-4 : (t : ℕ) → eval-lts.Need-load-requires-4 (eval-claims t) (eval-at t) eval.Post
-eval-load-requires-4 t c κs = search needs
+eval-load-requires-4 t c κs =
+    let n = c .before .before .before in
+    let m = n .before .before .before .before .before .before in
+    let s = m .before .pre .1 in (
+      s .planned,
+      guard-there (s .planned) (c .before .narrowed .given .1) _ _ (m .node-at .ensures)
+          (n .before .before .before .before .before .match .keys5) (n .guard-place .ensures),
+      s .stored,
+    )
 
 eval-fresh-requires-5 : (t : ℕ) → eval-lts.Need-fresh-requires-5 (eval-claims t) (eval-at t) eval.Post
 eval-fresh-requires-5 t c κs = search needs
