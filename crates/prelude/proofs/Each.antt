@@ -1,9 +1,8 @@
 -- Lists of which every member has a property.
 use mathlib.Core.Path.{_≡_, refl}
 use mathlib.Core.List.{List, [], _∷_, _++_, map}
-use Prim.Native.Nat.{ℕ, zero, suc, _<_}
-use native.Mathlib.Omega.{arith}
-use lib.ListN.{length, getD, replicate}
+use Prim.Native.Nat.{ℕ, zero, suc}
+use lib.ListN.{replicate}
 use Rattle.prelude.specs.Parts.{joined, Nth, Nth.here, Nth.there}
 
 pub data Each {X : Type 0} (P : X → Type 0) : List X → Type 0 where
@@ -25,11 +24,6 @@ module _ {X : Type 0} {P : X → Type 0} where
   unfolding joined
   each-joined parts h [] = none
   each-joined parts h (y ∷ l) = each-append (h y) (each-joined parts h l)
-
-  pub each-at : {l : List X} → Each P l → (d : X) (k : ℕ) → k < length l → P (getD l k d)
-  each-at none d k h = absurd (omega arith)
-  each-at (more p e) d zero h = p
-  each-at (more p e) d (suc k) h = each-at e d k (omega arith)
 
   pub each-so : {Q : X → Type 0} {l : List X} → Each P l → ((x : X) → P x → Q x) → Each Q l
   each-so none h = none
