@@ -1,5 +1,6 @@
 -- Laws of arguments and of what passing them comes to.
 use mathlib.Core.Path.{_≡_, refl, sym, _∙_, ap}
+use mathlib.Core.Bool.{true, false}
 use mathlib.Core.List.{List, [], _∷_}
 use Prim.Native.Nat.{ℕ, zero, suc, _+_, _-_, _≤_, _<_}
 use native.Mathlib.Omega.{arith}
@@ -11,9 +12,9 @@ use types.Run.{OneOf}
 use Rattle.prelude.proofs.Choice.{choose-yes, choose-no}
 use Rattle.image.specs.declared.Row.{Row}
 use Rattle.image.specs.Rows.{rowAt, rowsOf}
+use Rattle.shapes.specs.Forms.{isSingle}
 use Rattle.shapes.specs.Sizes.{sizeOf}
-use Rattle.shapes.proofs.Accepted.{TypesKept}
-use Rattle.shapes.proofs.Layouts.{layout-length}
+use Rattle.shapes.proofs.Singles.{single-size}
 use Rattle.places.specs.Places.{widthBy, widthOf}
 use Rattle.values.specs.declared.Value.{Value}
 use Rattle.values.specs.declared.Answer.{Answer}

@@ -72,13 +72,13 @@ module _ {s : State ℤ} {r : Step} {cells output : List ℤ} where
   shows-value next e t h = rw (← e, t) h
 
   -- with an INTEGER's number
-  pub shows-integer : {v : Value} {z : ℤ} {x : Next ℤ} (next : ℤ → Next ℤ) → v ≡ Vs.Int z
-      → Shows s (next z) r cells output → Shows s (asInteger x v next) r cells output
+  pub shows-integer : {v : Value} {z : ℤ} (next : ℤ → Next ℤ) → v ≡ Vs.Int z
+      → Shows s (next z) r cells output → Shows s (asInteger (stuck s) v next) r cells output
   shows-integer next t h = shows-by (is-integer _ next t) h
 
   -- with a BOOLEAN's
-  pub shows-boolean : {v : Value} {b : Bool} {x : Next ℤ} (next : Bool → Next ℤ) → v ≡ Vs.Bool b
-      → Shows s (next b) r cells output → Shows s (asBoolean x v next) r cells output
+  pub shows-boolean : {v : Value} {b : Bool} (next : Bool → Next ℤ) → v ≡ Vs.Bool b
+      → Shows s (next b) r cells output → Shows s (asBoolean (stuck s) v next) r cells output
   shows-boolean next t h = shows-by (is-boolean _ next t) h
 
   -- with a link's

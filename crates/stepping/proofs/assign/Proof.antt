@@ -1,6 +1,5 @@
 -- `stepping::assign` meets its contract: the target, the source by the target's type, and what is written.
 use mathlib.Core.Path.{sym, _∙_}
-use borrow.Author.Tests.{le-leb, lt-leb}
 use borrow.Author.Needs.{needs}
 use mir.Syntax.{w64}
 use mir.Val.{SFits}
@@ -41,6 +40,13 @@ returns c = λ output.
     shows-lost-place _ (c .before .before .before .locate-at .ensures) (c .before .before .match .keys2)
     (c .before .lost-place .ensures) (c .ended-by .ensures)
 
+is-single-requires : tie.Need-is-single-requires
+is-single-requires c κs =
+    let first = c .before .before .before in
+    let start = first .before .before .before .before in
+    let stands = standing (start .pre .0) (start .pre .1) in
+    (start .pre .0 .planned, find-within stands _ _ (sym (first .locate-at .ensures) ∙ c .before .found .given .1) .typed)
+
 eval-at-requires : tie.Need-eval-at-requires
 eval-at-requires c κs = search needs
 
@@ -63,8 +69,9 @@ returns-2 : tie.Need-returns-2
 unfolding assigned
 returns-2 c = λ output.
     let before = c .before .before .before .before .before .before in
-    shows-place _ (before .before .before .before .before .locate-at .ensures) (before .before .before .found .given .1)
-    (shows-yes _ (le-leb _ 2 (before .if1 .taken))
+    let chosen = before .before in
+    shows-place _ (chosen .before .before .before .before .locate-at .ensures) (chosen .before .before .found .given .1)
+    (shows-yes _ (rw (← chosen .is-single .ensures) (before .if1 .taken))
     (shows-lost-value _ (c .before .before .before .fresh .ensures
     ∙ c .before .before .before .before .eval-at .ensures) (c .before .before .match2 .keys2)
     (c .before .lost-value .ensures) (c .ended-by2 .ensures)))
@@ -84,8 +91,9 @@ returns-3 c = λ output.
     let number = c .before .before .before in
     let before = number .before .before .before .before .before .before .before in
     let fits : SFits w64 (number .number-of .result) = search needs in
-    shows-place _ (before .before .before .before .before .locate-at .ensures) (before .before .before .found .given .1)
-    (shows-yes _ (le-leb _ 2 (before .if1 .taken))
+    let chosen = before .before in
+    shows-place _ (chosen .before .before .before .before .locate-at .ensures) (chosen .before .before .found .given .1)
+    (shows-yes _ (rw (← chosen .is-single .ensures) (before .if1 .taken))
     (shows-value _ (number .before .before .before .before .fresh .ensures
     ∙ number .before .before .before .before .before .eval-at .ensures) (number .before .before .answer .given .1)
     (rw (plain64 _ fits, number .number-of .ensures) at (c .before .write-cell .ensures output))))
@@ -112,8 +120,9 @@ returns-4 : tie.Need-returns-4
 unfolding assigned
 returns-4 c = λ output.
     let before = c .before .before .before .before .before .before in
-    shows-place _ (before .before .before .before .before .locate-at .ensures) (before .before .before .found .given .1)
-    (shows-no _ (lt-leb _ 2 (before .if1 .left))
+    let chosen = before .before in
+    shows-place _ (chosen .before .before .before .before .locate-at .ensures) (chosen .before .before .found .given .1)
+    (shows-no _ (rw (← chosen .is-single .ensures) (before .if1 .left))
     (shows-lost-place _ (c .before .before .before .fresh-place .ensures
     ∙ c .before .before .before .before .find-at .ensures)
     (c .before .before .match3 .keys2)
@@ -122,14 +131,14 @@ returns-4 c = λ output.
 copy-object-requires : tie.Need-copy-object-requires
 copy-object-requires c κs =
     let second = c .before .before .before .before in
-    let first = second .before .before .before .before .before .before .before in
+    let first = second .before .before .before .before .before .before .before .before in
     let start = first .before .before .before .before in
     let stands = standing (start .pre .0) (start .pre .1) in (
       start .pre .0,
       start .pre .1,
       start .pre .2,
       find-within stands _ _ (sym (first .locate-at .ensures)
-          ∙ second .before .before .before .before .before .found .given .1),
+          ∙ second .before .before .before .before .before .before .found .given .1),
       find-within stands _ _ (sym (second .fresh-place .ensures ∙ second .before .find-at .ensures)
           ∙ c .before .before .origin .given .1),
     )
@@ -141,8 +150,9 @@ returns-5 : tie.Need-returns-5
 unfolding assigned
 returns-5 c = λ output.
     let before = c .before .before .before .before .before .before .before .before .before in
-    shows-place _ (before .before .before .before .before .locate-at .ensures) (before .before .before .found .given .1)
-    (shows-no _ (lt-leb _ 2 (before .if1 .left))
+    let chosen = before .before in
+    shows-place _ (chosen .before .before .before .before .locate-at .ensures) (chosen .before .before .found .given .1)
+    (shows-no _ (rw (← chosen .is-single .ensures) (before .if1 .left))
     (shows-place _ (c .before .before .before .before .before .before .fresh-place .ensures
     ∙ c .before .before .before .before .before .before .before .find-at .ensures)
     (c .before .before .before .before .origin .given .1) (c .before .copy-object .ensures output)))
@@ -159,6 +169,7 @@ assign-spec =
     ended-by-requires
     same-length
     returns
+    is-single-requires
     eval-at-requires
     fresh-requires
     enum-known-answer
