@@ -52,7 +52,7 @@ even-agree {f = f} {used} {r} s g h shape same =
     by-shape (λ x. evenBy f g s x ≡ evenBy f h s x) shape
     (λ k l. refl)
     (λ e n low. rw (same e low))
-    (λ a c on own. rw (base-agree EMPTY g h on same, fields-agree f g h r used c own same))
+    (λ a c on rows own. rw (base-agree EMPTY g h on same, fields-agree f g h r used c own same))
 
 even-is : (t f : List ℕ) (r : ℕ) {used : ℕ} → Shape t f used r (form t r)
     → evenOf t f r ≡ evenBy f (evenOf t f) r (form t r)

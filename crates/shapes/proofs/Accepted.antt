@@ -133,6 +133,17 @@ array-is {element = element} {n} (is-array {element = b} {n = m} l a x y) e =
     record { later = l; low = rw (← elements) a; least = rw (← counts) x; most = rw (← counts) y }
 array-is (is-record l on rows own) e = let z : _≡_ {A = ℕ} 0 1 = cc in absurd (omega arith)
 
+-- what holds of every form that a row may have holds of its own
+pub by-shape : {t f : List ℕ} {used r : ℕ} {x : Form} (P : Form → Type 0) → Shape t f used r x
+    → ((k : ℕ) → k < 3 → P (scalar k))
+    → ((element n : ℕ) → element < r → P (array element n))
+    → ((base count : ℕ) → Based t r base → used + count ≤ rowsOf f → KeptIn (fieldKept f r) used (used + count)
+    → P (recordOf base used count))
+    → P x
+by-shape {r = r} P (is-scalar l) s a c = s r l
+by-shape P (is-array {element = e} {n = n} l low x y) s a c = a e n low
+by-shape P (is-record {base = b} {count = n} l on rows own) s a c = c b n on rows own
+
 -- an accepted row: its shape, and "No size exceeds 4,096."
 pub record RowKept (t f : List ℕ) (r : ℕ) : Type 0 where
   pub shape : Shape t f (usedBelow t r) r (form t r)
@@ -166,30 +177,32 @@ pub record Made (t f : List ℕ) (used r : ℕ) (x : Form) : Type 0 where
 
 pub made-of : {t f : List ℕ} {used r : ℕ} {x : Form} → Shape t f used r x → Made t f used r x
 unfolding baseOf countOf layoutBy fieldsBy sizeBy ofBase ownTypes sum
-made-of (is-scalar l) = record {
-  on = no-base;
-  within = λ h. omega arith;
-  own = record { each = λ j low high. absurd (omega arith) };
-  layout = λ g. (_, refl);
-  fields = λ g. refl;
-  size = λ g. omega arith;
-}
-made-of (is-array l a b c) = record {
-  on = no-base;
-  within = λ h. omega arith;
-  own = record { each = λ j low high. absurd (omega arith) };
-  layout = λ g. (_, refl);
-  fields = λ g. refl;
-  size = λ g. omega arith;
-}
-made-of (is-record l on rows own) = record {
-  on = on;
-  within = λ h. rows;
-  own = own;
-  layout = λ g. (_, refl);
-  fields = λ g. refl;
-  size = λ g. omega arith;
-}
+made-of {t} {f} {used} {r} shape =
+    by-shape (λ x. Made t f used r x) shape
+    (λ k l. record {
+      on = no-base;
+      within = λ h. omega arith;
+      own = record { each = λ j low high. absurd (omega arith) };
+      layout = λ g. (_, refl);
+      fields = λ g. refl;
+      size = λ g. omega arith;
+    })
+    (λ e n low. record {
+      on = no-base;
+      within = λ h. omega arith;
+      own = record { each = λ j low high. absurd (omega arith) };
+      layout = λ g. (_, refl);
+      fields = λ g. refl;
+      size = λ g. omega arith;
+    })
+    (λ a c on rows own. record {
+      on = on;
+      within = λ h. rows;
+      own = own;
+      layout = λ g. (_, refl);
+      fields = λ g. refl;
+      size = λ g. omega arith;
+    })
 
 -- ---- a row's size, layout and fields hang on lower rows alone
 
@@ -204,17 +217,19 @@ fields-agree f g h r k n kept same =
 module _ {t f : List ℕ} {used r : ℕ} where
   pub size-agree : {x : Form} (g h : ℕ → ℕ) → Shape t f used r x → ((b : ℕ) → b < r → g b ≡ h b) → sizeBy f g x ≡ sizeBy f h x
   unfolding sizeBy
-  size-agree g h (is-scalar l) same = refl
-  size-agree g h (is-array {element = e} {n = n} l low a b) same = rw (same e low)
-  size-agree g h (is-record {base = a} {count = c} l base rows kept) same =
-      rw (base-agree 0 g h base same, fields-agree f g h r used c kept same)
+  size-agree g h shape same =
+      by-shape (λ x. sizeBy f g x ≡ sizeBy f h x) shape
+      (λ k l. refl)
+      (λ e n low. rw (same e low))
+      (λ a c on rows own. rw (base-agree 0 g h on same, fields-agree f g h r used c own same))
 
   pub layout-agree : {x : Form} (g h : ℕ → List ℕ) → Shape t f used r x → ((b : ℕ) → b < r → g b ≡ h b) → layoutBy f g x ≡ layoutBy f h x
   unfolding layoutBy
-  layout-agree g h (is-scalar l) same = refl
-  layout-agree g h (is-array {element = e} {n = n} l low a b) same = rw (same e low)
-  layout-agree g h (is-record {base = a} {count = c} l base rows kept) same =
-      rw (base-agree [] g h base same, fields-agree f g h r used c kept same)
+  layout-agree g h shape same =
+      by-shape (λ x. layoutBy f g x ≡ layoutBy f h x) shape
+      (λ k l. refl)
+      (λ e n low. rw (same e low))
+      (λ a c on rows own. rw (base-agree [] g h on same, fields-agree f g h r used c own same))
 
   pub fields-by-agree : {x : Form} (g h : ℕ → List ℕ) → Shape t f used r x → ((b : ℕ) → b < r → g b ≡ h b) → fieldsBy f g x ≡ fieldsBy f h x
   fields-by-agree {x} g h shape same =
@@ -222,16 +237,6 @@ module _ {t f : List ℕ} {used r : ℕ} where
       made .fields g
       ∙ ap (λ l. l ++ ownTypes f used (countOf x)) (base-agree [] g h (made .on) same)
       ∙ sym (made .fields h)
-
--- what holds of every form that a row may have holds of its own
-pub by-shape : {t f : List ℕ} {used r : ℕ} {x : Form} (P : Form → Type 0) → Shape t f used r x
-    → ((k : ℕ) → k < 3 → P (scalar k))
-    → ((element n : ℕ) → element < r → P (array element n))
-    → ((base count : ℕ) → Based t r base → KeptIn (fieldKept f r) used (used + count) → P (recordOf base used count))
-    → P x
-by-shape {r = r} P (is-scalar l) s a c = s r l
-by-shape P (is-array {element = e} {n = n} l low x y) s a c = a e n low
-by-shape P (is-record {base = b} {count = n} l on rows own) s a c = c b n on own
 
 -- so the definitions hold as they read
 module _ (t f : List ℕ) (r : ℕ) {used : ℕ} (shape : Shape t f used r (form t r)) where

@@ -16,8 +16,8 @@ use Rattle.shapes.specs.Sizes.{sizeBy, sizeOf, layoutBy, layoutOf, field
 use Rattle.shapes.specs.Shapes.{usedBelow}
 use Rattle.shapes.proofs.Rows.{form-none, no-record, row-form, array-form, record-form, of-no-base}
 use Rattle.shapes.proofs.Rows.{by-base, own-none, own-each}
-use Rattle.shapes.proofs.Accepted.{Shape, Shape.is-scalar, Shape.is-array, Shape.is-record, IsArray, IsRecord}
-use Rattle.shapes.proofs.Accepted.{TypesKept, array-is, record-is, based-on, made-of, size-is, layout-is}
+use Rattle.shapes.proofs.Accepted.{Shape, IsArray, IsRecord, TypesKept, array-is, record-is, by-shape}
+use Rattle.shapes.proofs.Accepted.{based-on, made-of, size-is, layout-is}
 use Rattle.shapes.proofs.Accepted.{fields-are, field-low}
 use Rattle.shapes.proofs.Singles.{low-single}
 
@@ -29,9 +29,11 @@ missing-fields t f r h =
     ∙ rw (row-missing t r h, form-none noRow (omega arith))
 
 no-shape : {t f : List ℕ} {used r : ℕ} {x : Form} → Shape t f used r x → x ≡ noForm → ⊥
-no-shape (is-scalar l) e = let z : _≡_ {A = ℕ} 0 1 = cc in absurd (omega arith)
-no-shape (is-array l a b c) e = let z : _≡_ {A = ℕ} 0 1 = cc in absurd (omega arith)
-no-shape (is-record l on rows own) e = let z : _≡_ {A = ℕ} 0 1 = cc in absurd (omega arith)
+no-shape shape =
+    by-shape (λ x. x ≡ noForm → ⊥) shape
+    (λ k l e. let z : _≡_ {A = ℕ} 0 1 = cc in absurd (omega arith))
+    (λ m n low e. let z : _≡_ {A = ℕ} 0 1 = cc in absurd (omega arith))
+    (λ a c on rows own e. let z : _≡_ {A = ℕ} 0 1 = cc in absurd (omega arith))
 
 -- what there is
 pub data Sort (t : List ℕ) (r : ℕ) : Type 0 where

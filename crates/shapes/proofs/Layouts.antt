@@ -31,8 +31,8 @@ length-replicated zero x = sym (zero-mul (length x))
 length-replicated (suc n) x =
     omega (arith, length-append x (joined (replicate n x)), length-replicated n x, suc-mul n (length x))
 
-length-joined : {X : Type 0} (size : ℕ → ℕ) (layout : ℕ → List X) → ((k : ℕ) → length (layout k) ≡ size k) → (l : List ℕ)
-    → length (joined (map layout l)) ≡ sum (map size l)
+length-joined : {X : Type 0} (size : ℕ → ℕ) (layout : ℕ → List X) → ((k : ℕ) → length (layout k) ≡ size k)
+    → (l : List ℕ) → length (joined (map layout l)) ≡ sum (map size l)
 unfolding joined sum
 length-joined size layout h [] = refl
 length-joined size layout h (k ∷ l) =
@@ -105,7 +105,8 @@ decide a b = go (eqb a b) refl
 
 module _ (t f : List ℕ) (kept : TypesKept t f) where
   -- a record's layout is its fields' layouts, one after the other
-  record-layout : (n r : ℕ) → r < n → r < rowsOf t → rowAt t r .kind ≡ 4 → layoutOf t f r ≡ joined (map (layoutOf t f) (fieldsOf t f r))
+  record-layout : (n r : ℕ) → r < n → r < rowsOf t → rowAt t r .kind ≡ 4
+      → layoutOf t f r ≡ joined (map (layoutOf t f) (fieldsOf t f r))
   record-layout zero r h low kind = absurd (omega arith)
   record-layout (suc n) r h low kind =
       let own = ownTypes f (rowAt t r .b) (rowAt t r .c) in
