@@ -57,11 +57,13 @@ pub record Operands (left right x : ℕ) : Type 0 where
 
 both : (left right : ℕ) {j k : ℕ} {a : KindAnswer} → Scalar j → Scalar k → eqb left j ≡ true → eqb right k ≡ true
     → Given Scalar a → Given (Operands left right) a
-both left right {j} {k} p q l r given = record { holds = λ x e. record {
-  left-scalar = rw (eqb-true left j l) p;
-  right-scalar = rw (eqb-true right k r) q;
-  given-scalar = given .holds x e;
-} }
+both left right {j} {k} p q l r given = record {
+  holds = λ x e. record {
+    left-scalar = rw (eqb-true left j l) p;
+    right-scalar = rw (eqb-true right k r) q;
+    given-scalar = given .holds x e;
+  };
+}
 
 dyadic-given : (op left right : ℕ) → Given (Operands left right) (dyadicKind op left right)
 unfolding dyadicKind

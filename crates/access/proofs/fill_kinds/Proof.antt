@@ -62,7 +62,7 @@ loop-again c = let l = c .before .before .loop in
     let one : l .r + 1 ≡ suc (l .r) = omega arith in
     let low = small (c .before) in
     let filled = filled-next KINDS (l .r) _ _ _ _ _ (l .inv .2) refl
-        (omega (arith, l .inv .2 .cells, s .pre .1)) (c .kind-in .ensures) in
+    (omega (arith, l .inv .2 .cells, s .pre .1)) (c .kind-in .ensures) in
     (omega arith, l .inv .1, rw one filled)
 
 same-length : tie.Need-same-length Inv-loop μ-loop

@@ -42,8 +42,7 @@ pass-value-requires c κs =
     let q = c .before .before .before .before .before in
     let first = q .before in
     let at = c .before .before .before .before .place-of .ensures in
-    let room = value-room (first .pre .2) (q .variable-at .ensures) at (first .pre .0 .planned) in
-    (
+    let room = value-room (first .pre .2) (q .variable-at .ensures) at (first .pre .0 .planned) in (
       first .pre .0,
       first .pre .1,
       room (c .before .before .before .if1 .left)
