@@ -115,7 +115,8 @@ record Left (image old plan : List ℕ) : Type 0 where
   filled : Filled BOUNDS 12 (boundOf (tablesIn image)) between plan
 
 -- with acceptance the plan is whole
-leaves-whole : {t f v p old plan : List ℕ} {x : CheckAnswer} → x ≡ Accepted → Leaves t f v p old x plan
+leaves-whole : {version : ℕ} {t f v p old plan : List ℕ} {x : CheckAnswer} → x ≡ Accepted
+    → Leaves version t f v p old x plan
     → Whole t f v p old plan
 leaves-whole e (whole w) = w
 leaves-whole e (some p r) = let z : _≡_ {A = ℕ} 0 1 = cc in absurd (omega arith)

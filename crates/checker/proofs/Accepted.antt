@@ -9,20 +9,20 @@ use Rattle.prelude.proofs.Choice.{clash}
 use Rattle.image.specs.declared.Verdict.{Verdict}
 use Rattle.image.specs.declared.Verdict.the-variants.{Kept, Fault}
 use Rattle.image.specs.Rows.{rowsOf}
+use Rattle.image.proofs.Versions.{three-rows}
 use Rattle.header.specs.declared.HeaderAnswer.{HeaderAnswer}
 use Rattle.header.specs.declared.HeaderAnswer.the-variants.{Yes}
-use Rattle.header.specs.Header.{question1, question2, question3, tablesIn, headerOf}
+use Rattle.header.specs.Header.{versionOf, question1, question2, question3, tablesIn, headerOf}
 use Rattle.header.proofs.Fitting.{Fits, header-fits, HeaderCase, HeaderCase.first-no, HeaderCase.second-no, HeaderCase.third-no}
 use Rattle.header.proofs.Fitting.{HeaderCase.all-yes, header-case}
 use Rattle.kinds.specs.declared.KindAnswer.the-variants.{Kind}
 use Rattle.shapes.proofs.Accepted.{TypesKept}
-use Rattle.types.specs.Question.{question4}
+use Rattle.types.specs.Question.{TypesAccepted}
 use Rattle.types.proofs.Accepted.{types-kept}
 use Rattle.frames.specs.Variables.{question5}
 use Rattle.frames.specs.Procedures.{question6}
 use Rattle.frames.proofs.Accepted.{VariableRow, variables-kept, ProceduresKept, procedures-kept}
-use Rattle.nodes.specs.Nodes.{question7}
-use Rattle.nodes.proofs.Accepted.{NodeRow, nodes-kept}
+use Rattle.nodes.proofs.Accepted.{NodeRow, NodesAccepted, nodes-kept}
 use Rattle.statements.specs.Statements.{procedureAt, question8}
 use Rattle.statements.proofs.Accepted.{StatementRow, statements-kept}
 use Rattle.statements.proofs.Bodies.{InBody, in-body}
@@ -39,12 +39,12 @@ use Rattle.checker.specs.Prepared.{CountsFit}
 use Rattle.checker.proofs.Chain.{AllKept, accepted-all}
 use Rattle.checker.proofs.Asking.{counts-fit}
 
--- questions 4 to 11 of six tables
+-- questions 4 to 11 of the six tables of an image of a version
 pub record AllYes (t f v p n s : List ℕ) : Type 0 where
-  pub types : question4 t f ≡ Kept
+  pub types : TypesAccepted t f
   pub variables : question5 t v ≡ Kept
   pub procedures : question6 v p s ≡ Kept
-  pub nodes : question7 t v n ≡ Kept
+  pub nodes : NodesAccepted (types .version) t v n
   pub statements : question8 n p s ≡ Kept
   pub names : question9 n p s ≡ Kept
   pub typing : question10 t f v n ≡ Kept
@@ -116,10 +116,10 @@ module _ (image : List ℕ) where
     all-yes-tables : AllYes (typesIn image) (fieldsIn image) (variablesIn image) (proceduresIn image) (nodesIn image) (statementsIn image)
     unfolding questionOf tableQuestion choose
     all-yes-tables = record {
-      types = each 4 (omega arith) (omega arith);
+      types = record { version = versionOf image; passes = each 4 (omega arith) (omega arith) };
       variables = each 5 (omega arith) (omega arith);
       procedures = each 6 (omega arith) (omega arith);
-      nodes = each 7 (omega arith) (omega arith);
+      nodes = record { passes = each 7 (omega arith) (omega arith) };
       statements = each 8 (omega arith) (omega arith);
       names = each 9 (omega arith) (omega arith);
       typing = each 10 (omega arith) (omega arith);
@@ -131,8 +131,10 @@ module _ (image : List ℕ) where
         AcceptedTables (typesIn image) (fieldsIn image) (variablesIn image) (proceduresIn image) (nodesIn image) (statementsIn image)
     image-accepted =
         let fits = header-fits image (tablesIn image) header-yes in
+        let least = fits .types .least in
+        let three = three-rows (versionOf image) in
         tables-accepted (typesIn image) (fieldsIn image) (variablesIn image) (proceduresIn image) (nodesIn image) (statementsIn image)
-        (counts-fit image header-yes) (fits .types .least) (fits .statements .least) all-yes-tables
+        (counts-fit image header-yes) (omega arith) (fits .statements .least) all-yes-tables
 
     -- and the tables that it has
     pub accepted-header : headerOf image ≡ Yes (tablesIn image)

@@ -17,11 +17,11 @@ use mathlib.Core.Bool.{Bool, true}
 use Rattle.header.specs.declared.Tables.{Tables}
 use Rattle.header.specs.declared.HeaderAnswer.{HeaderAnswer}
 use Rattle.header.specs.declared.HeaderAnswer.the-variants.{No, Yes}
-use Rattle.header.specs.Header.{question1, question2, question3, tablesIn, headerOf, partOf}
+use Rattle.header.specs.Header.{versionOf, question1, question2, question3, tablesIn, headerOf, partOf}
 use Rattle.header.proofs.Fitting.{header-fits, HeaderCase, HeaderCase.first-no, HeaderCase.second-no, HeaderCase.third-no}
 use Rattle.header.proofs.Fitting.{HeaderCase.all-yes, header-case}
 use Rattle.sizes.specs.Cells.{BOUNDS}
-use Rattle.types.specs.Question.{question4}
+use Rattle.types.specs.Question.{question4, TypesAccepted}
 use Rattle.types.specs.Plan.{Plan, Rest, passed as passedTypes}
 use Rattle.places.specs.Places.{Places}
 use Rattle.places.specs.Filling.{PlacesFit}
@@ -62,11 +62,12 @@ module _ (t f v n old types : List ℕ) (x : Verdict) (table : Typed (typeOf t f
 
 -- ---- what is left in the plan
 
-pub places-fit : (t f v p n s plan : List ℕ) → CountsFit t f v p n s → BOUNDS ≤ length plan → question4 t f ≡ Kept
-    → firstNo (tableQuestion t f v p n s) 5 7 ≡ Accepted → Plan t f (rowsOf t) plan → PlacesFit t f v p plan
+pub places-fit : (version : ℕ) (t f v p n s plan : List ℕ) → CountsFit t f v p n s → BOUNDS ≤ length plan
+    → TypesAccepted t f → firstNo (tableQuestion version t f v p n s) 5 7 ≡ Accepted
+    → Plan t f (rowsOf t) plan → PlacesFit t f v p plan
 unfolding tableQuestion choose
-places-fit t f v p n s plan fit cells four accepted planned =
-    let all = accepted-all (tableQuestion t f v p n s) 7 5 accepted in
+places-fit version t f v p n s plan fit cells four accepted planned =
+    let all = accepted-all (tableQuestion version t f v p n s) 7 5 accepted in
     record {
       cells = cells;
       few-types = fit .types;
@@ -78,8 +79,8 @@ places-fit t f v p n s plan fit cells four accepted planned =
       planned = planned;
     }
 
-module _ (t f old plan : List ℕ) (y : Verdict) (four : y ≡ question4 t f) (planned : Plan t f (passedTypes t y) plan)
-    (rest : Rest t (passedTypes t y) old plan) where
+module _ (version : ℕ) (t f old plan : List ℕ) (y : Verdict) (four : y ≡ question4 version t f)
+    (planned : Plan t f (passedTypes t y) plan) (rest : Rest t (passedTypes t y) old plan) where
   pub plan-all : y ≡ Kept → Plan t f (rowsOf t) plan
   unfolding passedTypes
   plan-all kept = rw kept at planned
@@ -88,10 +89,10 @@ module _ (t f old plan : List ℕ) (y : Verdict) (four : y ≡ question4 t f) (p
   unfolding passedTypes
   rest-all kept = rw kept at rest
 
-  pub leaves-some : (v p : List ℕ) (x : CheckAnswer) {q row : ℕ} → x ≡ Refused q row → Leaves t f v p old x plan
+  pub leaves-some : (v p : List ℕ) (x : CheckAnswer) {q row : ℕ} → x ≡ Refused q row → Leaves version t f v p old x plan
   leaves-some v p x e = rw e (some (rw four at planned) (rw four at rest))
 
-  pub leaves-whole : (v p new : List ℕ) → y ≡ Kept → Places t f v p plan new → Leaves t f v p old Accepted new
+  pub leaves-whole : (v p new : List ℕ) → y ≡ Kept → Places t f v p plan new → Leaves version t f v p old Accepted new
   leaves-whole v p new kept places =
       whole (record { typed = plan; planned = plan-all kept; rest = rest-all kept; places = places })
 
@@ -132,7 +133,8 @@ module _ (image : List ℕ) where
   -- the tables' questions are left
   tables-left : question1 image ≡ true → question2 image ≡ true → question3 image ≡ true
       → checkOf image
-      ≡ firstNo (tableQuestion (typesIn image) (fieldsIn image) (variablesIn image) (proceduresIn image) (nodesIn image) (statementsIn image)) 4 8
+      ≡ firstNo (tableQuestion (versionOf image) (typesIn image) (fieldsIn image) (variablesIn image)
+      (proceduresIn image) (nodesIn image) (statementsIn image)) 4 8
   unfolding checkOf yesOrNo firstNo questionOf tableQuestion choose
   tables-left a b c =
       chain-next (questionOf image) 1 10 refl (first-is a)
@@ -165,13 +167,13 @@ module _ (image : List ℕ) where
         }
 
     pub header-yes : checkOf image
-        ≡ firstNo (tableQuestion (partOf image (ts .types)) (partOf image (ts .fields)) (partOf image (ts .variables))
-        (partOf image (ts .procedures)) (partOf image (ts .nodes)) (partOf image (ts .statements))) 4 8
+        ≡ firstNo (tableQuestion (versionOf image) (partOf image (ts .types)) (partOf image (ts .fields))
+        (partOf image (ts .variables)) (partOf image (ts .procedures)) (partOf image (ts .nodes)) (partOf image (ts .statements))) 4 8
     header-yes = let (same, a, b, c) = yes-case (header-case image) yes in rw (← same) (tables-left a b c)
 
     -- where a table's question refuses
     pub prepared-no : (old plan : List ℕ) (x : CheckAnswer) {q row : ℕ} → x ≡ Refused q row
-        → Leaves (partOf image (ts .types)) (partOf image (ts .fields)) (partOf image (ts .variables))
+        → Leaves (versionOf image) (partOf image (ts .types)) (partOf image (ts .fields)) (partOf image (ts .variables))
         (partOf image (ts .procedures)) old x plan
         → Prepared image old x plan
     prepared-no old plan x {q} {row} e left =
@@ -179,7 +181,7 @@ module _ (image : List ℕ) where
 
     -- with acceptance
     pub prepared-yes : (old between plan : List ℕ) (x : CheckAnswer) → x ≡ Accepted
-        → Leaves (partOf image (ts .types)) (partOf image (ts .fields)) (partOf image (ts .variables))
+        → Leaves (versionOf image) (partOf image (ts .types)) (partOf image (ts .fields)) (partOf image (ts .variables))
         (partOf image (ts .procedures)) old x between
         → Filled BOUNDS 12 (boundOf ts) between plan → Prepared image old Accepted plan
     prepared-yes old between plan x e left filled =

@@ -6,7 +6,7 @@ use lib.Dec.{eqb}
 use Rattle.prelude.specs.Choice.{choose}
 use Rattle.image.specs.declared.Verdict.{Verdict}
 use Rattle.image.specs.declared.Verdict.the-variants.{Kept, Fault}
-use Rattle.header.specs.Header.{question1, question2, question3, tablesIn, partOf}
+use Rattle.header.specs.Header.{versionOf, question1, question2, question3, tablesIn, partOf}
 use Rattle.types.specs.Question.{question4}
 use Rattle.frames.specs.Variables.{question5}
 use Rattle.frames.specs.Procedures.{question6}
@@ -45,13 +45,13 @@ unfoldable pub yesOrNo : Bool → Verdict
 yesOrNo true = Kept
 yesOrNo false = Fault 0
 
--- questions 4 to 11 of six tables
-unfoldable pub tableQuestion : List ℕ → List ℕ → List ℕ → List ℕ → List ℕ → List ℕ → ℕ → Verdict
-tableQuestion t f v p n s q =
-    choose (eqb q 4) (question4 t f)
+-- questions 4 to 11 of the six tables of an image of a version
+unfoldable pub tableQuestion : ℕ → List ℕ → List ℕ → List ℕ → List ℕ → List ℕ → List ℕ → ℕ → Verdict
+tableQuestion version t f v p n s q =
+    choose (eqb q 4) (question4 version t f)
     (choose (eqb q 5) (question5 t v)
     (choose (eqb q 6) (question6 v p s)
-    (choose (eqb q 7) (question7 t v n)
+    (choose (eqb q 7) (question7 version t v n)
     (choose (eqb q 8) (question8 n p s)
     (choose (eqb q 9) (question9 n p s)
     (choose (eqb q 10) (question10 t f v n) (question11 t f v p n s)))))))
@@ -62,8 +62,8 @@ questionOf image q =
     choose (eqb q 1) (yesOrNo (question1 image))
     (choose (eqb q 2) (yesOrNo (question2 image))
     (choose (eqb q 3) (yesOrNo (question3 image))
-    (tableQuestion (typesIn image) (fieldsIn image) (variablesIn image) (proceduresIn image) (nodesIn image)
-    (statementsIn image) q)))
+    (tableQuestion (versionOf image) (typesIn image) (fieldsIn image) (variablesIn image) (proceduresIn image)
+    (nodesIn image) (statementsIn image) q)))
 
 -- ---- the check
 

@@ -7,7 +7,7 @@ use lib.Dec.{eqb}
 use Rattle.prelude.specs.Choice.{choose}
 use Rattle.image.specs.Rows.{rowsOf}
 use Rattle.image.specs.Faults.{ruleUpTo, Lowest}
-use Rattle.header.specs.Header.{question1, question2, question3}
+use Rattle.header.specs.Header.{versionOf, question1, question2, question3}
 use Rattle.shapes.specs.Shapes.{usedBelow, typeKept}
 use Rattle.frames.specs.Variables.{variableKept}
 use Rattle.frames.specs.Procedures.{firstVariable, procedureKept}
@@ -24,6 +24,7 @@ use Rattle.checker.specs.Check.{typesIn, fieldsIn, variablesIn, procedur
 -- "(.. Unclaimed variable: row = procedure count.)".
 unfoldable pub ruleOf : List ℕ → ℕ → ℕ → Bool
 ruleOf image q r =
+    let version : ℕ = versionOf image in
     let t : List ℕ = typesIn image in
     let f : List ℕ = fieldsIn image in
     let v : List ℕ = variablesIn image in
@@ -33,10 +34,10 @@ ruleOf image q r =
     choose (eqb q 1) (question1 image)
     (choose (eqb q 2) (question2 image)
     (choose (eqb q 3) (question3 image)
-    (choose (eqb q 4) (ruleUpTo (typeKept t f) (rowsOf t) (eqb (usedBelow t (rowsOf t)) (rowsOf f)) r)
+    (choose (eqb q 4) (ruleUpTo (typeKept version t f) (rowsOf t) (eqb (usedBelow t (rowsOf t)) (rowsOf f)) r)
     (choose (eqb q 5) (variableKept t v r)
     (choose (eqb q 6) (ruleUpTo (procedureKept v p s) (rowsOf p) (eqb (firstVariable v p (rowsOf p)) (rowsOf v)) r)
-    (choose (eqb q 7) (nodeKept (rowsOf t) (rowsOf v) n r)
+    (choose (eqb q 7) (nodeKept version (rowsOf t) (rowsOf v) n r)
     (choose (eqb q 8) (statementKept n p s r)
     (choose (eqb q 9) (namedOnce (namesIn n p s) r)
     (choose (eqb q 10) (hasType (typeOf t f v n r)) (statementRule t v p n s (typeOf t f v n) r))))))))))

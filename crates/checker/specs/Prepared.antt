@@ -10,7 +10,7 @@ use Rattle.image.specs.Rows.{rowsOf}
 use Rattle.image.specs.declared.Verdict.the-variants.{Kept}
 use Rattle.header.specs.declared.HeaderAnswer.the-variants.{No}
 use Rattle.header.specs.declared.Tables.{Tables}
-use Rattle.header.specs.Header.{headerOf, tablesIn}
+use Rattle.header.specs.Header.{versionOf, headerOf, tablesIn}
 use Rattle.sizes.specs.Cells.{BOUNDS}
 use Rattle.types.specs.Plan.{Plan, Rest, passed}
 use Rattle.types.specs.Question.{question4}
@@ -39,10 +39,10 @@ pub record Whole (t f v p old plan : List ℕ) : Type 0 where
   pub places : Places t f v p typed plan
 
 -- what the check leaves of six tables: where they are refused, what question 4 found of the type rows it passed
-pub data Leaves (t f v p old : List ℕ) : CheckAnswer → List ℕ → Type 0 where
-  whole : {plan : List ℕ} → Whole t f v p old plan → Leaves t f v p old Accepted plan
-  some : {q row : ℕ} {plan : List ℕ} → Plan t f (passed t (question4 t f)) plan
-      → Rest t (passed t (question4 t f)) old plan → Leaves t f v p old (Refused q row) plan
+pub data Leaves (version : ℕ) (t f v p old : List ℕ) : CheckAnswer → List ℕ → Type 0 where
+  whole : {plan : List ℕ} → Whole t f v p old plan → Leaves version t f v p old Accepted plan
+  some : {q row : ℕ} {plan : List ℕ} → Plan t f (passed t (question4 version t f)) plan
+      → Rest t (passed t (question4 version t f)) old plan → Leaves version t f v p old (Refused q row) plan
 
 -- where the six tables stand: number j of twelve, a start and an end for each, in the tables' order
 unfoldable pub boundOf : Tables → ℕ → ℕ
@@ -67,8 +67,10 @@ pub record BoundsFit (t : Tables) : Type 0 where
 pub data Prepared (image old : List ℕ) : CheckAnswer → List ℕ → Type 0 where
   untouched : {q : ℕ} → headerOf image ≡ No q → Prepared image old (Refused q 0) old
   refused : {q row : ℕ} {plan : List ℕ}
-      → Leaves (typesIn image) (fieldsIn image) (variablesIn image) (proceduresIn image) old (Refused q row) plan
+      → Leaves (versionOf image) (typesIn image) (fieldsIn image) (variablesIn image) (proceduresIn image) old
+      (Refused q row) plan
       → Prepared image old (Refused q row) plan
   prepared : {between plan : List ℕ}
-      → Leaves (typesIn image) (fieldsIn image) (variablesIn image) (proceduresIn image) old Accepted between
+      → Leaves (versionOf image) (typesIn image) (fieldsIn image) (variablesIn image) (proceduresIn image) old Accepted
+      between
       → Filled BOUNDS 12 (boundOf (tablesIn image)) between plan → Prepared image old Accepted plan

@@ -6,12 +6,12 @@ use image::Verdict;
 use sizes::BOUNDS;
 use sizes::CHECK_PLAN;
 ghost use mathlib.Core.Path.{_≡_};
-ghost use Prim.Native.Nat.{_+_, _*_, _≤_, _<_};
+ghost use Prim.Native.Nat.{ℕ, _+_, _*_, _≤_, _<_};
 ghost use lib.ListN.{length, set};
 ghost use Rattle.image.specs.declared.Verdict.the-variants.{Kept};
 ghost use Rattle.image.specs.Rows.{rowsOf};
 ghost use Rattle.sizes.specs.Cells.{BOUNDS, CHECK_PLAN};
-ghost use Rattle.types.specs.Question.{question4};
+ghost use Rattle.types.specs.Question.{TypesAccepted};
 ghost use Rattle.types.specs.Plan.{Plan};
 ghost use Rattle.frames.specs.Variables.{question5};
 ghost use Rattle.frames.specs.Procedures.{question6};
@@ -48,11 +48,11 @@ fn check_meaning(
     plan: &[u32],
     types: &mut [u16],
 ) -> CheckAnswer
-    requires { ⌜ CountsFit (now t) (now f) (now v) (now p) (now n) (now s) × (question4 (now t) (now f) ≡ Kept) ×
+    requires { ⌜ CountsFit (now t) (now f) (now v) (now p) (now n) (now s) × TypesAccepted (now t) (now f) ×
         (question6 (now v) (now p) (now s) ≡ Kept) × Plan (now t) (now f) (rowsOf (now t)) (now plan) ×
         (rowsOf (now n) ≤ length (now types)) ⌝ }
-    ensures { λ x. ⌜ x ≡ firstNo (tableQuestion (now (t .entry)) (now (f .entry)) (now (v .entry)) (now (p .entry))
-        (now (n .entry)) (now (s .entry))) 10 2 ⌝ }
+    ensures { λ x. ⌜ ((version : ℕ) → x ≡ firstNo (tableQuestion version (now (t .entry)) (now (f .entry))
+        (now (v .entry)) (now (p .entry)) (now (n .entry)) (now (s .entry))) 10 2) ⌝ }
     ensures types { λ x. ⌜ Typed (typeOf (now (t .entry)) (now (f .entry)) (now (v .entry)) (now (n .entry)))
         (passed (now (n .entry)) (question10 (now (t .entry)) (now (f .entry)) (now (v .entry)) (now (n .entry))))
         (now (types .entry)) (now (types .exit)) ⌝ }
@@ -66,8 +66,9 @@ fn check_meaning(
     answer_of(11, ruled)
 }
 
-// Questions 5 to 9, and then 10 and 11.
+// Questions 5 to 9 of an image of a version, and then 10 and 11.
 fn check_rows(
+    version: u8,
     t: &[u8],
     f: &[u8],
     v: &[u8],
@@ -76,10 +77,10 @@ fn check_rows(
     s: &[u8],
     plan: &[u32],
 ) -> CheckAnswer
-    requires { ⌜ CountsFit (now t) (now f) (now v) (now p) (now n) (now s) × (question4 (now t) (now f) ≡ Kept)
+    requires { ⌜ CountsFit (now t) (now f) (now v) (now p) (now n) (now s) × TypesAccepted (now t) (now f)
         × Plan (now t) (now f) (rowsOf (now t)) (now plan) ⌝ }
-    ensures { λ x. ⌜ x ≡ firstNo (tableQuestion (now (t .entry)) (now (f .entry)) (now (v .entry)) (now (p .entry))
-        (now (n .entry)) (now (s .entry))) 5 7 ⌝ }
+    ensures { λ x. ⌜ x ≡ firstNo (tableQuestion version (now (t .entry)) (now (f .entry)) (now (v .entry))
+        (now (p .entry)) (now (n .entry)) (now (s .entry))) 5 7 ⌝ }
 {
     let variables = frames::check_variables(t, v);
     let Verdict::Kept = variables else {
@@ -89,7 +90,7 @@ fn check_rows(
     let Verdict::Kept = procedures else {
         return answer_of(6, procedures);
     };
-    let nodes = nodes::check_nodes(t, v, n);
+    let nodes = nodes::check_nodes(version, t, v, n);
     let Verdict::Kept = nodes else {
         return answer_of(7, nodes);
     };
@@ -108,6 +109,7 @@ fn check_rows(
 
 // Questions 4 to 11. What question 4 finds goes into the plan, and with acceptance the places and frame sizes too.
 fn check_tables(
+    version: u8,
     t: &[u8],
     f: &[u8],
     v: &[u8],
@@ -117,16 +119,16 @@ fn check_tables(
     plan: &mut [u32],
 ) -> CheckAnswer
     requires { ⌜ CountsFit (now t) (now f) (now v) (now p) (now n) (now s) × (BOUNDS ≤ length (now plan)) ⌝ }
-    ensures { λ x. ⌜ x ≡ firstNo (tableQuestion (now (t .entry)) (now (f .entry)) (now (v .entry)) (now (p .entry))
-        (now (n .entry)) (now (s .entry))) 4 8 ⌝ }
-    ensures plan { λ x. ⌜ Leaves (now (t .entry)) (now (f .entry)) (now (v .entry)) (now (p .entry)) (now
+    ensures { λ x. ⌜ x ≡ firstNo (tableQuestion version (now (t .entry)) (now (f .entry)) (now (v .entry))
+        (now (p .entry)) (now (n .entry)) (now (s .entry))) 4 8 ⌝ }
+    ensures plan { λ x. ⌜ Leaves version (now (t .entry)) (now (f .entry)) (now (v .entry)) (now (p .entry)) (now
         (plan .entry)) x (now (plan .exit)) ⌝ }
 {
-    let types = types::check_types(t, f, plan);
+    let types = types::check_types(version, t, f, plan);
     let Verdict::Kept = types else {
         return answer_of(4, types);
     };
-    let answer = check_rows(t, f, v, p, n, s, plan);
+    let answer = check_rows(version, t, f, v, p, n, s, plan);
     let CheckAnswer::Accepted = answer else {
         return answer;
     };
@@ -175,6 +177,7 @@ pub fn prepare(image: &[u8], plan: &mut [u32]) -> CheckAnswer
     match header::header(image) {
         HeaderAnswer::No(question) => CheckAnswer::Refused(question, 0),
         HeaderAnswer::Yes(tables) => {
+            let version = image[0];
             let types = tables.types;
             let fields = tables.fields;
             let variables = tables.variables;
@@ -187,7 +190,7 @@ pub fn prepare(image: &[u8], plan: &mut [u32]) -> CheckAnswer
             let p = header::part(image, procedures);
             let n = header::part(image, nodes);
             let s = header::part(image, statements);
-            let answer = check_tables(t, f, v, p, n, s, plan);
+            let answer = check_tables(version, t, f, v, p, n, s, plan);
             let CheckAnswer::Accepted = answer else {
                 return answer;
             };

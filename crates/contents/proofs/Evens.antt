@@ -17,7 +17,6 @@ use Rattle.prelude.proofs.Cells.{filled-next, filled-at}
 use Rattle.prelude.proofs.Each.{Each, Each.none, Each.more}
 use Rattle.prelude.proofs.Rec.{rec-eq, below-low}
 use Rattle.image.specs.declared.Row.{Row as TableRow}
-use Rattle.image.specs.declared.Verdict.the-variants.{Kept}
 use Rattle.image.specs.Rows.{rowAt, rowsOf}
 use Rattle.shapes.specs.Forms.{Form, formOf, form, kindIn, isSingle, ofBase, ownTypes}
 use Rattle.shapes.specs.Sizes.{sizeOf, layoutOf}
@@ -27,7 +26,7 @@ use Rattle.shapes.proofs.Singles.{single-form, single-small, single-layout}
 use Rattle.shapes.proofs.ByKind.{Sort, Sort.a-single, Sort.an-array, Sort.a-record, sort-of, array-row, array-layout}
 use Rattle.shapes.proofs.ByKind.{record-row, record-kinds}
 use Rattle.shapes.proofs.Layouts.{layout-length, decide}
-use Rattle.types.specs.Question.{question4}
+use Rattle.types.specs.Question.{TypesAccepted}
 use Rattle.types.proofs.Accepted.{types-kept}
 use Rattle.contents.specs.Kinds.{EMPTY, PARTS, MIXED, joint, jointFrom, repeated, owned, evenBy, evenOf}
 
@@ -50,7 +49,7 @@ pub even-agree : {t f : List ℕ} {used r : ℕ} {x : Form} (s : ℕ) (g h : ℕ
 unfolding evenBy
 even-agree {f = f} {used} {r} s g h shape same =
     by-shape (λ x. evenBy f g s x ≡ evenBy f h s x) shape
-    (λ k l. refl)
+    (λ k. refl)
     (λ e n low. rw (same e low))
     (λ a c on rows own. rw (base-agree EMPTY g h on same, fields-agree f g h r used c own same))
 
@@ -327,7 +326,7 @@ module _ (t f : List ℕ) where
 
 -- ---- one row more of the table
 
-pub fill-next : (t f old even : List ℕ) (r kind : ℕ) (row : TableRow) → question4 t f ≡ Kept → r < rowsOf t
+pub fill-next : (t f old even : List ℕ) (r kind : ℕ) (row : TableRow) → TypesAccepted t f → r < rowsOf t
     → r < length even → Filled 0 r (evenOf t f) old even → row ≡ rowAt t r
     → kind ≡ evenBy f (λ u. getD even u 0) r (formOf row) → Filled 0 (r + 1) (evenOf t f) old (set even r kind)
 fill-next t f old even r kind row accepted low room filled this is =

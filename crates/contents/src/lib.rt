@@ -8,11 +8,10 @@ ghost use Prim.Native.Nat.{_+_, _≤_, _<_};
 ghost use lib.ListN.{length, getD, drop, replicate};
 ghost use Rattle.prelude.specs.Cells.{Filled};
 ghost use Rattle.prelude.specs.Parts.{joined, sum};
-ghost use Rattle.image.specs.declared.Verdict.the-variants.{Kept};
 ghost use Rattle.image.specs.Rows.{rowAt, rowsOf};
 ghost use Rattle.shapes.specs.Forms.{formOf, ofBase, ownTypes};
 ghost use Rattle.shapes.specs.Sizes.{sizeOf, layoutOf};
-ghost use Rattle.types.specs.Question.{question4};
+ghost use Rattle.types.specs.Question.{TypesAccepted};
 ghost use Rattle.objects.specs.Looking.{LowTypes};
 ghost use Rattle.asking.specs.State.{valuesKept};
 ghost use Rattle.contents.specs.Kinds.{EMPTY as NONE, PARTS as SEVERAL, joint as jointOf, jointFrom};
@@ -139,7 +138,7 @@ fn type_kind(f: &[u8], even: &[u8], r: u8, row: Row) -> u8
 
 // Fills the table.
 pub fn fill_even(t: &[u8], f: &[u8], even: &mut [u8])
-    requires { ⌜ (rowsOf (now t) ≤ 64) × (question4 (now t) (now f) ≡ Kept) × (rowsOf (now t) ≤ length (now even)) ⌝ }
+    requires { ⌜ (rowsOf (now t) ≤ 64) × TypesAccepted (now t) (now f) × (rowsOf (now t) ≤ length (now even)) ⌝ }
     ensures { λ x. ⌜ Filled 0 (rowsOf (now (t .entry))) (evenOf (now (t .entry)) (now (f .entry)))
         (now (even .entry)) (now (even .exit)) ⌝ }
 {

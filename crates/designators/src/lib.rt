@@ -8,10 +8,9 @@ ghost use Prim.Native.Nat.{_+_, _≤_};
 ghost use lib.ListN.{length, getD};
 ghost use Rattle.prelude.specs.Cells.{Filled};
 ghost use Rattle.prelude.specs.Rec.{below};
-ghost use Rattle.image.specs.declared.Verdict.the-variants.{Kept};
 ghost use Rattle.image.specs.Rows.{rowsOf};
 ghost use Rattle.sizes.specs.Cells.{NODES, RUN_PLAN};
-ghost use Rattle.types.specs.Question.{question4};
+ghost use Rattle.types.specs.Question.{TypesAccepted};
 ghost use Rattle.types.specs.Plan.{Plan};
 ghost use Rattle.designators.specs.Designators.{UNKNOWN, offsetIn, typeIn, recordIn, fieldCell, typedCell};
 ghost use Rattle.designators.specs.Designators.{cellBy, cellOf};
@@ -86,7 +85,7 @@ fn type_below(plan: &[u32], r: usize, a: u16) -> u16
 
 // Node row r, from the cells of lower rows.
 fn node_cell(t: &[u8], f: &[u8], v: &[u8], plan: &[u32], r: usize, row: Row) -> u32
-    requires { ⌜ (question4 (now t) (now f) ≡ Kept) × Plan (now t) (now f) (rowsOf (now t)) (now plan) ⌝ }
+    requires { ⌜ TypesAccepted (now t) (now f) × Plan (now t) (now f) (rowsOf (now t)) (now plan) ⌝ }
     ensures { λ x. ⌜ x ≡ cellBy (now (t .entry)) (now (f .entry)) (now (v .entry))
         (below UNKNOWN r (λ k. getD (now (plan .entry)) (NODES + k) 0)) (row .kind) row ⌝ }
 {
@@ -114,7 +113,7 @@ fn node_cell(t: &[u8], f: &[u8], v: &[u8], plan: &[u32], r: usize, row: Row) -> 
 
 // Writes the cell of each node row.
 pub fn fill(t: &[u8], f: &[u8], v: &[u8], n: &[u8], plan: &mut [u32])
-    requires { ⌜ (question4 (now t) (now f) ≡ Kept) × Plan (now t) (now f) (rowsOf (now t)) (now plan)
+    requires { ⌜ TypesAccepted (now t) (now f) × Plan (now t) (now f) (rowsOf (now t)) (now plan)
         × (rowsOf (now t) ≤ 64) × (rowsOf (now f) ≤ 256) × (rowsOf (now n) ≤ 2048) × (RUN_PLAN ≤ length (now plan)) ⌝ }
     ensures { λ x. ⌜ Filled NODES (rowsOf (now (n .entry)))
         (cellOf (now (t .entry)) (now (f .entry)) (now (v .entry)) (now (n .entry)))

@@ -7,14 +7,15 @@ use Prim.Native.Nat.{ℕ, _+_, _-_, _*_, _≤_}
 use native.Mathlib.Omega.{arith}
 use borrow.Author.Tests.{ltb-false, eqb-true, le-leb}
 use lib.Dec.{leb, eqb}
-use lib.ListN.{length, getD, take, drop, length-drop}
+use lib.ListN.{length, take, drop, length-drop}
 use lib.Seq.{length-take-le}
 use Rattle.prelude.specs.Choice.{choose, _also_}
 use Rattle.prelude.proofs.Choice.{choose-cases, choose-yes, also-true, also-yes}
 use Rattle.image.specs.Rows.{Bytes, numberAt, wordAt, rowsOf}
+use Rattle.image.specs.Versions.{scalarRows}
 use Rattle.image.proofs.Bytes.{slice-bytes}
 use Rattle.header.specs.Header.{question1, question2, tableFrom, thenTable, tablesOf, thirdAnswer, headerOf}
-use Rattle.header.specs.Header.{partOf, question3, areSix, sixOf, tablesIn}
+use Rattle.header.specs.Header.{versionOf, partOf, question3, areSix, sixOf, tablesIn}
 use Rattle.header.specs.declared.HeaderAnswer.{HeaderAnswer}
 use Rattle.header.specs.declared.Table.{Table}
 use Rattle.header.specs.declared.Tables.{Tables}
@@ -107,9 +108,9 @@ found-within image from low high e = placed image from low high e .within
 
 -- "Then the six tables follow one another", and fill the image
 pub record Fits (image : List ℕ) (ts : Tables) : Type 0 where
-  pub version : getD image 0 0 ≡ 1
+  pub version : versionOf image ≡ 1
   pub size : wordAt image 1 ≡ length image
-  pub types : Placed image 5 3 64 (ts .types)
+  pub types : Placed image 5 (scalarRows (versionOf image)) 64 (ts .types)
   pub fields : Placed image (ts .types .end) 0 256 (ts .fields)
   pub variables : Placed image (ts .fields .end) 0 256 (ts .variables)
   pub procedures : Placed image (ts .variables .end) 1 64 (ts .procedures)
@@ -117,7 +118,8 @@ pub record Fits (image : List ℕ) (ts : Tables) : Type 0 where
   pub statements : Placed image (ts .nodes .end) 1 1024 (ts .statements)
   pub filled : ts .statements .end ≡ length image
 
-tables-fit : (image : List ℕ) (ts : Tables) → getD image 0 0 ≡ 1 → wordAt image 1 ≡ length image → tablesOf image ≡ Six ts → Fits image ts
+tables-fit : (image : List ℕ) (ts : Tables) → versionOf image ≡ 1 → wordAt image 1 ≡ length image
+    → tablesOf image ≡ Six ts → Fits image ts
 unfolding tablesOf
 tables-fit image ts version size e =
     let (t, a, e₁) = then-six _ _ e in
@@ -127,13 +129,14 @@ tables-fit image ts version size e =
     let (n, g, e₅) = then-six _ _ e₄ in
     let (s, h, e₆) = then-six _ _ e₅ in
     ⊎-elim
-    (λ k. six t f v p n s (placed image 5 3 64 a) (placed image _ 0 256 b) (placed image _ 0 256 c) (placed image _ 1 64 d)
-    (placed image _ 0 2048 g) (placed image _ 1 1024 h) (eqb-true _ _ (k .0)) (k .1))
+    (λ k. six t f v p n s (placed image 5 _ 64 a) (placed image _ 0 256 b) (placed image _ 0 256 c)
+    (placed image _ 1 64 d) (placed image _ 0 2048 g) (placed image _ 1 1024 h) (eqb-true _ _ (k .0)) (k .1))
     (λ k. not-six (k .1))
     (choose-cases (eqb (s .end) (length image)) e₆)
   where
-    six : (t f v p n s : Table) → Placed image 5 3 64 t → Placed image (t .end) 0 256 f → Placed image (f .end) 0 256 v
-        → Placed image (v .end) 1 64 p → Placed image (p .end) 0 2048 n → Placed image (n .end) 1 1024 s → s .end ≡ length image
+    six : (t f v p n s : Table) → Placed image 5 (scalarRows (versionOf image)) 64 t → Placed image (t .end) 0 256 f
+        → Placed image (f .end) 0 256 v → Placed image (v .end) 1 64 p → Placed image (p .end) 0 2048 n
+        → Placed image (n .end) 1 1024 s → s .end ≡ length image
         → Six (record { types = t; fields = f; variables = v; procedures = p; nodes = n; statements = s }) ≡ Six ts → Fits image ts
     six t f v p n s a b c d g h end e =
         let same : record { types = t; fields = f; variables = v; procedures = p; nodes = n; statements = s } ≡ ts = cc in
@@ -165,7 +168,7 @@ header-fits image ts e =
     ⊎-elim
     (λ a. ⊎-elim
     (λ b. tables-fit image ts
-    (eqb-true (getD image 0 0) 1 (also-true _ _ (a .0) .1))
+    (eqb-true (versionOf image) 1 (also-true _ _ (a .0) .1))
     (eqb-true (wordAt image 1) (length image) (also-true _ _ (b .0) .1))
     (third-six (tablesOf image) (b .1)))
     (λ b. no-header (b .1))

@@ -6,6 +6,7 @@ use lib.Dec.{ltb, leb, eqb}
 use lib.ListN.{length, getD, take, drop}
 use Rattle.prelude.specs.Choice.{choose, _also_}
 use Rattle.image.specs.Rows.{numberAt, wordAt}
+use Rattle.image.specs.Versions.{scalarRows}
 use Rattle.header.specs.declared.Table.{Table}
 use Rattle.header.specs.declared.Tables.{Tables}
 use Rattle.header.specs.declared.TableAnswer.{TableAnswer}
@@ -15,9 +16,13 @@ use Rattle.header.specs.declared.TablesAnswer.the-variants.{Amiss, Six}
 use Rattle.header.specs.declared.HeaderAnswer.{HeaderAnswer}
 use Rattle.header.specs.declared.HeaderAnswer.the-variants.{No, Yes}
 
+-- "Byte 0 is the version, 1."
+unfoldable pub versionOf : List ℕ → ℕ
+versionOf image = getD image 0 0
+
 -- "1. Is there a first byte, and is it 1?"
 unfoldable pub question1 : List ℕ → Bool
-question1 image = ltb 0 (length image) also eqb (getD image 0 0) 1
+question1 image = ltb 0 (length image) also eqb (versionOf image) 1
 
 -- "2. Are bytes 1 to 4 present, equal to the image's length?"
 unfoldable pub question2 : List ℕ → Bool
@@ -42,7 +47,7 @@ thenTable (Found t) next = next t
 -- "3. Are the counts in range, and do the tables fill the image exactly?"
 unfoldable pub tablesOf : List ℕ → TablesAnswer
 tablesOf image =
-    thenTable (tableFrom image 5 3 64) λ types.
+    thenTable (tableFrom image 5 (scalarRows (versionOf image)) 64) λ types.
     thenTable (tableFrom image (types .end) 0 256) λ fields.
     thenTable (tableFrom image (fields .end) 0 256) λ variables.
     thenTable (tableFrom image (variables .end) 1 64) λ procedures.

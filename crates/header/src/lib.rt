@@ -2,7 +2,7 @@
 ghost use mathlib.Core.Path.{_≡_};
 ghost use Prim.Native.Nat.{_+_, _≤_};
 ghost use lib.ListN.{length};
-ghost use Rattle.header.specs.Header.{tableFrom, tablesOf, headerOf, partOf};
+ghost use Rattle.header.specs.Header.{versionOf, tableFrom, tablesOf, headerOf, partOf};
 
 // Where a table's rows stand in the image.
 pub struct Table {
@@ -58,12 +58,13 @@ fn table_from(image: &[u8], at: usize, low: usize, high: usize) -> TableAnswer
     TableAnswer::Found(Table { start, end })
 }
 
-// Question 3.
-fn tables_of(image: &[u8]) -> TablesAnswer
-    requires { ⌜ 5 ≤ length (now image) ⌝ }
+// Question 3 of an image of a version.
+fn tables_of(version: u8, image: &[u8]) -> TablesAnswer
+    requires { ⌜ (version ≡ versionOf (now image)) × (5 ≤ length (now image)) ⌝ }
     ensures { λ r. ⌜ r ≡ tablesOf (now (image .entry)) ⌝ }
 {
-    let TableAnswer::Found(types) = table_from(image, 5, 3, 64) else {
+    let scalars = image::scalar_rows(version) as usize;
+    let TableAnswer::Found(types) = table_from(image, 5, scalars, 64) else {
         return TablesAnswer::Amiss;
     };
     let TableAnswer::Found(fields) = table_from(image, types.end, 0, 256) else {
@@ -101,7 +102,8 @@ pub fn header(image: &[u8]) -> HeaderAnswer
     if image.len() == 0 {
         return HeaderAnswer::No(1);
     }
-    if image[0] != 1 {
+    let version = image[0];
+    if version != 1 {
         return HeaderAnswer::No(1);
     }
     if image.len() < 5 {
@@ -111,7 +113,7 @@ pub fn header(image: &[u8]) -> HeaderAnswer
     if length != image.len() {
         return HeaderAnswer::No(2);
     }
-    match tables_of(image) {
+    match tables_of(version, image) {
         TablesAnswer::Amiss => HeaderAnswer::No(3),
         TablesAnswer::Six(t) => HeaderAnswer::Yes(t),
     }

@@ -12,8 +12,10 @@ use Rattle.prelude.proofs.Choice.{choose-yes, choose-cases, also-true, clash}
 use Rattle.image.specs.declared.Row.{Row}
 use Rattle.image.specs.declared.Verdict.the-variants.{Kept}
 use Rattle.image.specs.Rows.{rowAt, rowsOf}
+use Rattle.image.specs.Versions.{scalarRows, monadics}
 use Rattle.image.proofs.Bytes.{row-there}
 use Rattle.image.proofs.Faults.{verdict-kept}
+use Rattle.image.proofs.Versions.{few-rows, few-monadics}
 use Rattle.nodes.specs.Nodes.{isDesignator, isArgument, childKept, designatorKept, constantKept, variableKept}
 use Rattle.nodes.specs.Nodes.{fieldKept, elementKept, guardKept, dyadicKept, monadicKept, argumentKept}
 use Rattle.nodes.specs.Nodes.{formKept, nodeKept, question7}
@@ -120,12 +122,12 @@ pub data NodeRow (t v n : List ℕ) (r : ℕ) : Type 0 where
 
 -- ---- what the rules say
 
-constant-node : (row : Row) → constantKept row ≡ true → ConstantNode row
+constant-node : (version : ℕ) (row : Row) → constantKept version row ≡ true → ConstantNode row
 unfolding constantKept
-constant-node row e =
+constant-node version row e =
     let (typed, rest) = also-true _ _ e in
     record {
-      typed = leb-true _ _ typed;
+      typed = omega (arith, ltb-true (row .a) (scalarRows version) typed, few-rows version);
       boolean = λ z.
           let (b, c) = also-true _ _ (sym (choose-yes _ _ _ (eq-eqb (row .a) 0 z)) ∙ rest) in
           (eqb-true _ _ b, leb-true _ _ c);
@@ -176,13 +178,18 @@ module _ (n : List ℕ) (r : ℕ) (h : r < rowsOf n) where
       let (low, high) = also-true _ _ e₂ in
       record { left = child _ a; right = child _ b; least = leb-true _ _ low; most = leb-true _ _ high }
 
-  monadic-node : (row : Row) → monadicKept n r row ≡ true → MonadicNode n r row
+  monadic-node : (version : ℕ) (row : Row) → monadicKept version n r row ≡ true → MonadicNode n r row
   unfolding monadicKept
-  monadic-node row e =
+  monadic-node version row e =
       let (a, e₁) = also-true _ _ e in
       let (b, e₂) = also-true _ _ e₁ in
       let (low, high) = also-true _ _ e₂ in
-      record { operand = child _ a; unused-b = eqb-true _ _ b; least = leb-true _ _ low; most = leb-true _ _ high }
+      record {
+        operand = child _ a;
+        unused-b = eqb-true _ _ b;
+        least = leb-true _ _ low;
+        most = omega (arith, leb-true (row .c) (monadics version) high, few-monadics version);
+      }
 
   argument-node : (row : Row) → argumentKept n r row ≡ true → ArgumentNode n r row
   unfolding argumentKept
@@ -191,19 +198,19 @@ module _ (n : List ℕ) (r : ℕ) (h : r < rowsOf n) where
       let (b, c) = also-true _ _ e₁ in
       record { holds = child _ a; unused-b = eqb-true _ _ b; unused-c = eqb-true _ _ c }
 
-  node-row : (t v : List ℕ) → nodeKept (rowsOf t) (rowsOf v) n r ≡ true → NodeRow t v n r
+  node-row : (version : ℕ) (t v : List ℕ) → nodeKept version (rowsOf t) (rowsOf v) n r ≡ true → NodeRow t v n r
   unfolding nodeKept formKept
-  node-row t v e =
+  node-row version t v e =
       let (zero, form) = also-true _ _ e in
       let row = rowAt n r in
       let z : rowAt n r .zero ≡ 0 = eqb-true _ _ zero in
-      ⊎-elim (λ k. is-constant z (eqb-true _ _ (k .0)) (constant-node row (k .1)))
+      ⊎-elim (λ k. is-constant z (eqb-true _ _ (k .0)) (constant-node version row (k .1)))
       (λ o. ⊎-elim (λ k. is-variable z (eqb-true _ _ (k .0)) (variable-node v row (k .1)))
       (λ o. ⊎-elim (λ k. is-field z (eqb-true _ _ (k .0)) (field-node row (k .1)))
       (λ o. ⊎-elim (λ k. is-element z (eqb-true _ _ (k .0)) (element-node row (k .1)))
       (λ o. ⊎-elim (λ k. is-guard z (eqb-true _ _ (k .0)) (guard-node t v row (k .1)))
       (λ o. ⊎-elim (λ k. is-dyadic z (eqb-true _ _ (k .0)) (dyadic-node row (k .1)))
-      (λ o. ⊎-elim (λ k. is-monadic z (eqb-true _ _ (k .0)) (monadic-node row (k .1)))
+      (λ o. ⊎-elim (λ k. is-monadic z (eqb-true _ _ (k .0)) (monadic-node version row (k .1)))
       (λ o. ⊎-elim (λ k. is-test z (eqb-true _ _ (k .0)) (guard-node t v row (k .1)))
       (λ o. ⊎-elim (λ k. is-argument z (eqb-true _ _ (k .0)) (argument-node row (k .1)))
       (λ o. clash (sym (o .1)))
@@ -219,22 +226,26 @@ module _ (n : List ℕ) (r : ℕ) (h : r < rowsOf n) where
 
 -- ---- the whole table
 
-module _ (t v n : List ℕ) (e : question7 t v n ≡ Kept) (r : ℕ) (h : r < rowsOf n) where
-  kept : nodeKept (rowsOf t) (rowsOf v) n r ≡ true
+-- question 7 accepts the nodes of an image of a version
+pub record NodesAccepted (version : ℕ) (t v n : List ℕ) : Type 0 where
+  pub passes : question7 version t v n ≡ Kept
+
+module _ {version : ℕ} (t v n : List ℕ) (accepted : NodesAccepted version t v n) (r : ℕ) (h : r < rowsOf n) where
+  kept : nodeKept version (rowsOf t) (rowsOf v) n r ≡ true
   unfolding question7
-  kept = verdict-kept (nodeKept (rowsOf t) (rowsOf v) n) (rowsOf n) e r h
+  kept = verdict-kept (nodeKept version (rowsOf t) (rowsOf v) n) (rowsOf n) (accepted .passes) r h
 
   pub nodes-kept : NodeRow t v n r
-  nodes-kept = node-row n r h t v kept
+  nodes-kept = node-row n r h version t v kept
 
   -- where the kind is known
-  form : (k : ℕ) → rowAt n r .kind ≡ k → formKept (rowsOf t) (rowsOf v) n r k (rowAt n r) ≡ true
+  form : (k : ℕ) → rowAt n r .kind ≡ k → formKept version (rowsOf t) (rowsOf v) n r k (rowAt n r) ≡ true
   unfolding nodeKept
-  form k kind = sym (ap (λ j. formKept (rowsOf t) (rowsOf v) n r j (rowAt n r)) kind) ∙ also-true _ _ kept .1
+  form k kind = sym (ap (λ j. formKept version (rowsOf t) (rowsOf v) n r j (rowAt n r)) kind) ∙ also-true _ _ kept .1
 
   pub constant-is : rowAt n r .kind ≡ 0 → ConstantNode (rowAt n r)
   unfolding formKept choose
-  constant-is k = constant-node (rowAt n r) (form 0 k)
+  constant-is k = constant-node version (rowAt n r) (form 0 k)
 
   pub variable-is : rowAt n r .kind ≡ 1 → VariableNode v (rowAt n r)
   unfolding formKept choose
@@ -258,7 +269,7 @@ module _ (t v n : List ℕ) (e : question7 t v n ≡ Kept) (r : ℕ) (h : r < ro
 
   pub monadic-is : rowAt n r .kind ≡ 6 → MonadicNode n r (rowAt n r)
   unfolding formKept choose
-  monadic-is k = monadic-node n r h (rowAt n r) (form 6 k)
+  monadic-is k = monadic-node n r h version (rowAt n r) (form 6 k)
 
   pub test-is : rowAt n r .kind ≡ 7 → GuardNode t v (rowAt n r)
   unfolding formKept choose

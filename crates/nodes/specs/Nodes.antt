@@ -8,6 +8,7 @@ use Rattle.image.specs.declared.Row.{Row}
 use Rattle.image.specs.declared.Verdict.{Verdict}
 use Rattle.image.specs.Rows.{rowAt, rowsOf}
 use Rattle.image.specs.Faults.{lowestFault}
+use Rattle.image.specs.Versions.{scalarRows, monadics}
 
 -- "Kinds 1 to 4 are designators"
 unfoldable pub isDesignator : List ℕ → ℕ → Bool
@@ -26,8 +27,9 @@ unfoldable pub designatorKept : List ℕ → ℕ → ℕ → Bool
 designatorKept n r k = ltb k r also isDesignator n k
 
 -- "0 constant: a type (0 to 2); .. 0 or 1 for BOOLEAN."
-unfoldable pub constantKept : Row → Bool
-constantKept row = leb (row .a) 2 also choose (eqb (row .a) 0) (eqb (row .b) 0 also leb (row .c) 1) true
+unfoldable pub constantKept : ℕ → Row → Bool
+constantKept version row =
+    ltb (row .a) (scalarRows version) also choose (eqb (row .a) 0) (eqb (row .b) 0 also leb (row .c) 1) true
 
 -- "1 variable a."
 unfoldable pub variableKept : ℕ → Row → Bool
@@ -50,30 +52,31 @@ unfoldable pub dyadicKept : List ℕ → ℕ → Row → Bool
 dyadicKept n r row = childKept n r (row .a) also childKept n r (row .b) also leb 1 (row .c) also leb (row .c) 16
 
 -- "6 monadic a, operator c: 1 -, 2 ~."
-unfoldable pub monadicKept : List ℕ → ℕ → Row → Bool
-monadicKept n r row = childKept n r (row .a) also eqb (row .b) 0 also leb 1 (row .c) also leb (row .c) 2
+unfoldable pub monadicKept : ℕ → List ℕ → ℕ → Row → Bool
+monadicKept version n r row =
+    childKept n r (row .a) also eqb (row .b) 0 also leb 1 (row .c) also leb (row .c) (monadics version)
 
 -- "8 argument holding a"
 unfoldable pub argumentKept : List ℕ → ℕ → Row → Bool
 argumentKept n r row = childKept n r (row .a) also eqb (row .b) 0 also eqb (row .c) 0
 
 -- by the kind
-unfoldable pub formKept : ℕ → ℕ → List ℕ → ℕ → ℕ → Row → Bool
-formKept types variables n r kind row =
-    choose (eqb kind 0) (constantKept row)
+unfoldable pub formKept : ℕ → ℕ → ℕ → List ℕ → ℕ → ℕ → Row → Bool
+formKept version types variables n r kind row =
+    choose (eqb kind 0) (constantKept version row)
     (choose (eqb kind 1) (variableKept variables row)
     (choose (eqb kind 2) (fieldKept n r row)
     (choose (eqb kind 3) (elementKept n r row)
     (choose (eqb kind 4) (guardKept types variables row)
     (choose (eqb kind 5) (dyadicKept n r row)
-    (choose (eqb kind 6) (monadicKept n r row)
+    (choose (eqb kind 6) (monadicKept version n r row)
     (choose (eqb kind 7) (guardKept types variables row)
     (choose (eqb kind 8) (argumentKept n r row) false))))))))
 
-unfoldable pub nodeKept : ℕ → ℕ → List ℕ → ℕ → Bool
-nodeKept types variables n r =
-    eqb (rowAt n r .zero) 0 also formKept types variables n r (rowAt n r .kind) (rowAt n r)
+unfoldable pub nodeKept : ℕ → ℕ → ℕ → List ℕ → ℕ → Bool
+nodeKept version types variables n r =
+    eqb (rowAt n r .zero) 0 also formKept version types variables n r (rowAt n r .kind) (rowAt n r)
 
 -- "7. Is each node well formed, its rows existing?"
-unfoldable pub question7 : List ℕ → List ℕ → List ℕ → Verdict
-question7 t v n = lowestFault (nodeKept (rowsOf t) (rowsOf v) n) (rowsOf n)
+unfoldable pub question7 : ℕ → List ℕ → List ℕ → List ℕ → Verdict
+question7 version t v n = lowestFault (nodeKept version (rowsOf t) (rowsOf v) n) (rowsOf n)

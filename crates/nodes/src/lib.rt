@@ -48,13 +48,13 @@ fn designator_kept(n: &[u8], r: usize, k: u16) -> bool
     is_designator(n, child)
 }
 
-fn constant_kept(row: Row) -> bool
-    ensures { λ x. ⌜ x ≡ constantKept row ⌝ }
+fn constant_kept(version: u8, row: Row) -> bool
+    ensures { λ x. ⌜ x ≡ constantKept version row ⌝ }
 {
     let a = row.a;
     let b = row.b;
     let c = row.c;
-    if 2 < a {
+    if image::scalar_rows(version) <= a {
         return false;
     }
     if a != 0 {
@@ -140,8 +140,8 @@ fn dyadic_kept(n: &[u8], r: usize, row: Row) -> bool
     c <= 16
 }
 
-fn monadic_kept(n: &[u8], r: usize, row: Row) -> bool
-    ensures { λ x. ⌜ x ≡ monadicKept (now (n .entry)) r row ⌝ }
+fn monadic_kept(version: u8, n: &[u8], r: usize, row: Row) -> bool
+    ensures { λ x. ⌜ x ≡ monadicKept version (now (n .entry)) r row ⌝ }
 {
     let a = row.a;
     let b = row.b;
@@ -155,7 +155,7 @@ fn monadic_kept(n: &[u8], r: usize, row: Row) -> bool
     if c < 1 {
         return false;
     }
-    c <= 2
+    c <= image::monadics(version)
 }
 
 fn argument_kept(n: &[u8], r: usize, row: Row) -> bool
@@ -173,28 +173,28 @@ fn argument_kept(n: &[u8], r: usize, row: Row) -> bool
     c == 0
 }
 
-fn node_form(types: usize, variables: usize, n: &[u8], r: usize, row: Row) -> bool
-    ensures { λ x. ⌜ x ≡ formKept types variables (now (n .entry)) r (row .kind) row ⌝ }
+fn node_form(version: u8, types: usize, variables: usize, n: &[u8], r: usize, row: Row) -> bool
+    ensures { λ x. ⌜ x ≡ formKept version types variables (now (n .entry)) r (row .kind) row ⌝ }
 {
     let kind = row.kind;
     match kind {
-        0 => constant_kept(row),
+        0 => constant_kept(version, row),
         1 => variable_kept(variables, row),
         2 => field_kept(n, r, row),
         3 => element_kept(n, r, row),
         4 => guard_kept(types, variables, row),
         5 => dyadic_kept(n, r, row),
-        6 => monadic_kept(n, r, row),
+        6 => monadic_kept(version, n, r, row),
         7 => guard_kept(types, variables, row),
         8 => argument_kept(n, r, row),
         _ => false,
     }
 }
 
-// Question 7.
-pub fn check_nodes(t: &[u8], v: &[u8], n: &[u8]) -> Verdict
+// Question 7 of an image of a version.
+pub fn check_nodes(version: u8, t: &[u8], v: &[u8], n: &[u8]) -> Verdict
     requires { ⌜ rowsOf (now n) ≤ 2048 ⌝ }
-    ensures { λ x. ⌜ x ≡ question7 (now (t .entry)) (now (v .entry)) (now (n .entry)) ⌝ }
+    ensures { λ x. ⌜ x ≡ question7 version (now (t .entry)) (now (v .entry)) (now (n .entry)) ⌝ }
 {
     let types = image::rows_of(t);
     let variables = image::rows_of(v);
@@ -207,7 +207,7 @@ pub fn check_nodes(t: &[u8], v: &[u8], n: &[u8]) -> Verdict
             let filled = r as u16;
             return Verdict::Fault(filled);
         }
-        if !node_form(types, variables, n, r, row) {
+        if !node_form(version, types, variables, n, r, row) {
             let bad = r as u16;
             return Verdict::Fault(bad);
         }

@@ -8,11 +8,10 @@ use lib.ListN.{length, getD}
 use Rattle.prelude.specs.Bits.{bitOf}
 use Rattle.prelude.specs.Choice.{choose}
 use Rattle.prelude.specs.Parts.{sum}
-use Rattle.image.specs.declared.Verdict.the-variants.{Kept}
 use Rattle.image.specs.Rows.{rowAt, rowsOf}
 use Rattle.shapes.specs.Forms.{ofBase, ownTypes}
 use Rattle.shapes.specs.Sizes.{sizeOf}
-use Rattle.types.specs.Question.{question4}
+use Rattle.types.specs.Question.{TypesAccepted}
 use Rattle.objects.specs.declared.Look.{Look}
 use Rattle.objects.specs.declared.Look.the-variants as Ls
 
@@ -25,7 +24,7 @@ held plan r = getD plan r 0
 -- accepted types, and a plan that holds their sizes
 pub record Typed (t f plan : List ℕ) : Type 0 where
   pub few : rowsOf t ≤ 64
-  pub kept : question4 t f ≡ Kept
+  pub kept : TypesAccepted t f
   pub room : rowsOf t ≤ length plan
   pub size : (r : ℕ) → r < rowsOf t → getD plan r 0 ≡ sizeOf t f r
 

@@ -8,15 +8,13 @@ use borrow.Author.Tests.{ltb-true, leb-true}
 use Rattle.prelude.specs.Choice.{choose, _also_}
 use Rattle.prelude.proofs.Choice.{choose-cases, also-true}
 use Rattle.prelude.proofs.Rec.{below-low, rec-eq}
-use Rattle.image.specs.declared.Verdict.the-variants.{Kept}
 use Rattle.image.specs.Rows.{rowAt, rowsOf}
 use Rattle.frames.specs.Variables.{isGlobal}
 use Rattle.frames.specs.Procedures.{firstVariable}
-use Rattle.nodes.specs.Nodes.{question7}
 use Rattle.nodes.proofs.Accepted.{NodeRow, NodeRow.is-constant, NodeRow.is-variable, NodeRow.is-field}
 use Rattle.nodes.proofs.Accepted.{NodeRow.is-element, NodeRow.is-guard, NodeRow.is-dyadic, NodeRow.is-monadic}
 use Rattle.nodes.proofs.Accepted.{NodeRow.is-test, NodeRow.is-argument}
-use Rattle.nodes.proofs.Accepted.{nodes-kept}
+use Rattle.nodes.proofs.Accepted.{NodesAccepted, nodes-kept}
 use Rattle.owners.specs.Owners.{gather, gathered, ownVariable, ownBelow}
 
 -- ---- a variable
@@ -46,7 +44,7 @@ module _ {X : Type 0} (t v n : List ℕ) (none : X) (one : ℕ → X) (both : X 
   gather-agree (is-test z k c) = rw k
   gather-agree (is-argument z k c) = rw (k, same (rowAt n r .a) (c .holds .low))
 
-module _ (t v p n : List ℕ) (kept : question7 t v n ≡ Kept) (q r : ℕ) (h : r < rowsOf n) where
+module _ {version : ℕ} (t v p n : List ℕ) (kept : NodesAccepted version t v n) (q r : ℕ) (h : r < rowsOf n) where
   pub own-is : ownBelow v p n q r
       ≡ gather true (ownVariable v p q) _also_ (ownBelow v p n q) (rowAt n r .kind) (rowAt n r)
   unfolding ownBelow gathered

@@ -7,7 +7,7 @@ use lib.ListN.{getD}
 use Rattle.image.specs.declared.Verdict.the-variants.{Kept}
 use Rattle.image.specs.Rows.{rowAt, rowsOf}
 use Rattle.shapes.specs.Sizes.{sizeOf}
-use Rattle.types.specs.Question.{question4}
+use Rattle.types.specs.Question.{TypesAccepted}
 use Rattle.types.specs.Plan.{Plan}
 use Rattle.types.proofs.Accepted.{types-kept}
 use Rattle.shapes.proofs.Accepted.{record-is, size-small}
@@ -27,7 +27,7 @@ unfolding claimedBy
 claims-kept v p s e q h = procedures-kept v p s e .row q h .room
 
 -- where the cells of types and fields are as they were, what question 4 put there is still there
-pub plan-kept : (t f old plan : List ℕ) → ((i : ℕ) → i < PLACES → getD plan i 0 ≡ getD old i 0) → question4 t f ≡ Kept
+pub plan-kept : (t f old plan : List ℕ) → ((i : ℕ) → i < PLACES → getD plan i 0 ≡ getD old i 0) → TypesAccepted t f
     → rowsOf t ≤ 64 → rowsOf f ≤ 256 → Plan t f (rowsOf t) old → Plan t f (rowsOf t) plan
 plan-kept t f old plan same four few-types few-fields planned = record {
   size = λ r h. same r (omega arith) ∙ planned .size r h;
@@ -103,7 +103,7 @@ module _ (t f v : List ℕ) (k : ℕ) where
   global-within h = global-apart (globalsOf v) h
 
 -- bounds of accepted tables
-module _ (t f v : List ℕ) (four : question4 t f ≡ Kept) (five : question5 t v ≡ Kept) where
+module _ (t f v : List ℕ) (four : TypesAccepted t f) (five : question5 t v ≡ Kept) where
   pub width-kept : (k : ℕ) → k < rowsOf v → widthOf t f v k ≤ 4096
   width-kept k h =
       let typed = variables-kept t v five k h .typed in

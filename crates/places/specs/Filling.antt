@@ -6,7 +6,7 @@ use lib.ListN.{length, getD}
 use Rattle.image.specs.declared.Verdict.the-variants.{Kept}
 use Rattle.image.specs.Rows.{rowAt, rowsOf}
 use Rattle.sizes.specs.Cells.{PLACES, FRAMES, FIRSTS, BOUNDS}
-use Rattle.types.specs.Question.{question4}
+use Rattle.types.specs.Question.{TypesAccepted}
 use Rattle.types.specs.Plan.{Plan}
 use Rattle.frames.specs.Variables.{globalsOf, question5}
 use Rattle.frames.specs.Procedures.{claimedBy, firstVariable}
@@ -51,7 +51,7 @@ pub record PlacesFit (t f v p plan : List ℕ) : Type 0 where
   pub few-types : rowsOf t ≤ 64
   pub few-variables : rowsOf v ≤ 256
   pub few-procedures : rowsOf p ≤ 64
-  pub types : question4 t f ≡ Kept
+  pub types : TypesAccepted t f
   pub variables : question5 t v ≡ Kept
   pub claims : Claims v p
   pub planned : Plan t f (rowsOf t) plan

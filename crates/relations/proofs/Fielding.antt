@@ -13,10 +13,9 @@ use Rattle.prelude.specs.Choice.{choose}
 use Rattle.prelude.specs.Parts.{sum, Nth, Nth.here, Nth.there, Part}
 use Rattle.prelude.proofs.Choice.{choose-yes, choose-no, choose-cases}
 use Rattle.prelude.proofs.Parts.{map-append}
-use Rattle.image.specs.declared.Verdict.the-variants.{Kept}
 use Rattle.image.specs.Rows.{rowAt, rowsOf}
 use Rattle.image.proofs.Bytes.{row-missing}
-use Rattle.types.specs.Question.{question4}
+use Rattle.types.specs.Question.{TypesAccepted}
 use Rattle.types.proofs.Accepted.{types-kept}
 use Rattle.relations.specs.declared.FieldAnswer.{FieldAnswer}
 use Rattle.relations.specs.declared.FieldAnswer.the-variants.{Missing, Field}
@@ -193,7 +192,8 @@ no-field t f r n h =
     field-in t f r n ∙ rw (missing-fields t f r h) (choose-no _ _ _ (le-ltb n 0 (omega arith)))
 
 -- in a plan that question 4 filled, `field` finds just the fields that there are
-pub field-known : (t f plan : List ℕ) → question4 t f ≡ Kept → Plan t f (rowsOf t) plan → (r n : ℕ) → plannedField t f plan n r ≡ fieldOf t f r n
+pub field-known : (t f plan : List ℕ) → TypesAccepted t f → Plan t f (rowsOf t) plan → (r n : ℕ)
+    → plannedField t f plan n r ≡ fieldOf t f r n
 field-known t f plan kept p r n = go (decLt r (rowsOf t))
   where
     go : Dec (r < rowsOf t) → plannedField t f plan n r ≡ fieldOf t f r n

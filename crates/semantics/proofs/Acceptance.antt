@@ -150,7 +150,7 @@ fieldRows = row 0 1 0 0 ∷ row 0 2 0 0 ∷ []
 pub case-7 :
     let types = joined typeRows in
     let fields = joined fieldRows in
-    (question4 types fields ≡ Kept)
+    (question4 1 types fields ≡ Kept)
     × (sizeOf types fields 3 ≡ 1)
     × (sizeOf types fields 4 ≡ 2)
     × (layoutOf types fields 4 ≡ 1 ∷ 2 ∷ [])

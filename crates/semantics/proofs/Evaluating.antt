@@ -18,9 +18,11 @@ use Rattle.prelude.proofs.Rec.{rec-ind}
 use Rattle.image.specs.declared.Row.{Row}
 use Rattle.image.specs.Rows.{Bytes, rowAt, rowsOf}
 use Rattle.image.proofs.Bytes.{row-small}
+use Rattle.image.proofs.Versions.{three-rows}
 use Rattle.shapes.specs.Forms.{kindIn, isSingle}
 use Rattle.shapes.proofs.Layouts.{decide}
-use Rattle.shapes.proofs.Singles.{kind-single, single-layout, scalar-row}
+use Rattle.shapes.proofs.Singles.{kind-single, single-layout}
+use Rattle.types.proofs.Accepted.{scalar-row}
 use Rattle.relations.specs.declared.FieldAnswer.the-variants.{Field}
 use Rattle.relations.specs.Extends.{extends}
 use Rattle.relations.specs.Fields.{fieldOf}
@@ -155,7 +157,8 @@ module _ (g : Program)
   kind-row {k} scalar =
       let low = scalar-below scalar in
       let most = ok .scalars in
-      scalar-row (g .types) (g .fields) (ok .types) k low (omega arith)
+      let three = three-rows (ok .questions .types .version) in
+      scalar-row (g .types) (g .fields) (ok .questions .types) k (omega arith) (omega arith)
 
   -- what has one is a single cell
   pub kind-scalar : (x : ℕ) → Scalar (kindIn (g .types) x) → isSingle (g .types) x ≡ true

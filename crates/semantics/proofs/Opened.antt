@@ -5,6 +5,7 @@ use Rattle.prelude.specs.Parts.{joined, sum}
 use Rattle.prelude.specs.Rec.{below, turns, rec}
 use Rattle.image.specs.Rows.{numberAt, wordAt, rowsOf, rowAt}
 use Rattle.image.specs.Faults.{firstFrom, lowestFault, ruleUpTo, allFrom}
+use Rattle.image.specs.Versions.{scalarRows, monadics}
 use Rattle.values.specs.Values.{kindOf, isInteger, isSet, trapNumber, numberOf as cellNumber, booleanCell}
 use Rattle.values.specs.Values.{integerCell, setCell, cellOf, signedOf, constantOf, asBoolean, asInteger, asSet, bind}
 use Rattle.kinds.specs.Kinds.{integersKind, setsKind, booleansKind, dyadicKind, monadicKind}
@@ -20,7 +21,7 @@ use Rattle.relations.specs.Extends.{extendsTo}
 use Rattle.relations.specs.Fields.{fieldOf}
 use Rattle.types.specs.Question.{question4}
 use Rattle.header.specs.Header.{question1, question2, question3, tableFrom, thenTable, tablesOf, areSix, sixOf}
-use Rattle.header.specs.Header.{tablesIn, partOf}
+use Rattle.header.specs.Header.{versionOf, tablesIn, partOf}
 use Rattle.frames.specs.Variables.{isGlobal, kindWithin, globalsFrom, globalsOf, formKept as variableForm}
 use Rattle.frames.specs.Variables.{variableKept, question5}
 use Rattle.frames.specs.Procedures.{claimedBy, firstFrom as firstVariableFrom, firstVariable, bodyEnd, moduleKept}
@@ -58,6 +59,7 @@ use Rattle.semantics.specs.Running.{resultOf, storeAfter, outputAfter}
 -- rows and rules
 unfoldable pub rows : Unit {0}
 unfolding choose _also_ joined sum below turns rec numberAt rowsOf rowAt firstFrom lowestFault ruleUpTo allFrom
+    scalarRows monadics
 rows = tt
 
 -- types: their rules, and their sizes and relations
@@ -87,7 +89,7 @@ values = tt
 
 -- the check
 unfoldable pub tables : Unit {0}
-unfolding wordAt question1 question2 question3 tableFrom thenTable tablesOf areSix sixOf tablesIn partOf
+unfolding versionOf wordAt question1 question2 question3 tableFrom thenTable tablesOf areSix sixOf tablesIn partOf
 tables = tt
 
 unfoldable pub bodies : Unit {0}

@@ -7,8 +7,7 @@ use Prim.Native.Nat.{ℕ, zero, suc, _+_, _≤_, _<_}
 use native.Mathlib.Omega.{arith}
 use native.Mathlib.Decide.{decLt}
 use borrow.Author.Tests.{ltb-true, leb-true, eqb-true, lt-ltb, le-ltb}
-use lib.Dec.{ltb, eqb}
-use Rattle.prelude.specs.Choice.{choose}
+use lib.Dec.{eqb}
 use Rattle.prelude.specs.Parts.{sum, Part}
 use Rattle.prelude.proofs.Choice.{choose-yes, choose-no, choose-cases, also-true, clash}
 use Rattle.prelude.proofs.Each.{each-map}
@@ -16,9 +15,11 @@ use Rattle.prelude.proofs.Rec.{rec-eq, below-low}
 use Rattle.image.specs.declared.Row.{Row}
 use Rattle.image.specs.Rows.{rowAt, rowsOf}
 use Rattle.image.specs.Faults.{KeptIn}
+use Rattle.image.specs.Versions.{scalarRows}
 use Rattle.image.proofs.Faults.{all-each}
+use Rattle.image.proofs.Versions.{few-rows}
 use Rattle.shapes.specs.Forms.{Form, Form.scalar, Form.array, Form.recordOf, formOf, form}
-use Rattle.shapes.specs.Forms.{baseOf, countOf, ofBase, ownTypes}
+use Rattle.shapes.specs.Forms.{baseOf, countOf, kindBy, ofBase, ownTypes}
 use Rattle.shapes.specs.Sizes.{sizeBy, sizeOf, layoutBy, layoutOf, fieldsBy, fieldsOf}
 use Rattle.shapes.specs.Shapes.{usedBelow, scalarKept, arrayKept, fieldKept, baseKept, recordKept, laterKept}
 use Rattle.shapes.specs.Shapes.{shapeKept, typeKept}
@@ -41,9 +42,9 @@ base-most (on-base low kind) = omega arith
 
 -- a type row r, where `used` field rows are claimed by the rows below it
 pub data Shape (t f : List ℕ) (used r : ℕ) : Form → Type 0 where
-  is-scalar : r < 3 → Shape t f used r (scalar r)
-  is-array : {element n : ℕ} → 3 ≤ r → element < r → 1 ≤ n → n ≤ 4096 → Shape t f used r (array element n)
-  is-record : {base count : ℕ} → 3 ≤ r → Based t r base → used + count ≤ rowsOf f → KeptIn (fieldKept f r) used (used + count)
+  is-scalar : Shape t f used r (scalar r)
+  is-array : {element n : ℕ} → element < r → 1 ≤ n → n ≤ 4096 → Shape t f used r (array element n)
+  is-record : {base count : ℕ} → Based t r base → used + count ≤ rowsOf f → KeptIn (fieldKept f r) used (used + count)
       → Shape t f used r (recordOf base used count)
 
 based : (t : List ℕ) (r a : ℕ) → baseKept t r a ≡ true → Based t r a
@@ -51,52 +52,68 @@ unfolding baseKept
 based t r zero e = no-base
 based t r (suc b) e = let (l, k) = also-true _ _ e in on-base (ltb-true b r l) (eqb-true _ _ k)
 
-scalar-shape : (t f : List ℕ) (used r : ℕ) (row : Row) → r < 3 → scalarKept r row ≡ true → Shape t f used r (formOf row)
+scalar-form : (r : ℕ) (row : Row) → r < 3 → scalarKept r row ≡ true → formOf row ≡ scalar r
 unfolding scalarKept
-scalar-shape t f used r row h e =
+scalar-form r row h e =
     let kind : row .kind ≡ r = eqb-true _ _ (also-true _ _ e .0) in
-    rw (form-scalar row (omega arith), kind) (is-scalar h)
+    form-scalar row (omega arith) ∙ ap scalar kind
 
-array-shape : (t f : List ℕ) (used r : ℕ) (row : Row) → 3 ≤ r → row .kind ≡ 3 → arrayKept r row ≡ true → Shape t f used r (formOf row)
+array-shape : (t f : List ℕ) (used r : ℕ) (row : Row) → row .kind ≡ 3 → arrayKept r row ≡ true
+    → Shape t f used r (formOf row)
 unfolding arrayKept
-array-shape t f used r row h kind e =
+array-shape t f used r row kind e =
     let (low, e₁) = also-true _ _ e in
     let (least, e₂) = also-true _ _ e₁ in
     let (most, e₃) = also-true _ _ e₂ in
-    rw (form-array row kind) (is-array h (ltb-true _ _ low) (leb-true _ _ least) (leb-true _ _ most))
+    rw (form-array row kind) (is-array (ltb-true _ _ low) (leb-true _ _ least) (leb-true _ _ most))
 
-record-shape : (t f : List ℕ) (used r : ℕ) (row : Row) → 3 ≤ r → row .kind ≡ 4 → recordKept t f used r row ≡ true
+record-shape : (t f : List ℕ) (used r : ℕ) (row : Row) → row .kind ≡ 4 → recordKept t f used r row ≡ true
     → Shape t f used r (formOf row)
 unfolding recordKept
-record-shape t f used r row h kind e =
+record-shape t f used r row kind e =
     let (base, e₁) = also-true _ _ e in
     let (first, e₂) = also-true _ _ e₁ in
     let (rows, own) = also-true _ _ e₂ in
     let at : row .b ≡ used = eqb-true _ _ first in
-    rw (form-record row kind, at) (is-record h (based t r (row .a) base) (leb-true _ _ rows) (all-each (fieldKept f r) (row .c) used own))
+    rw (form-record row kind, at)
+    (is-record (based t r (row .a) base) (leb-true _ _ rows) (all-each (fieldKept f r) (row .c) used own))
 
-later-shape : (t f : List ℕ) (used r : ℕ) (row : Row) → 3 ≤ r → laterKept t f used r row ≡ true → Shape t f used r (formOf row)
+later-shape : (t f : List ℕ) (used r : ℕ) (row : Row) → laterKept t f used r row ≡ true → Shape t f used r (formOf row)
 unfolding laterKept
-later-shape t f used r row h e =
+later-shape t f used r row e =
     ⊎-elim
-    (λ a. array-shape t f used r row h (eqb-true _ _ (a .0)) (a .1))
+    (λ a. array-shape t f used r row (eqb-true _ _ (a .0)) (a .1))
     (λ a. ⊎-elim
-    (λ b. record-shape t f used r row h (eqb-true _ _ (b .0)) (b .1))
+    (λ b. record-shape t f used r row (eqb-true _ _ (b .0)) (b .1))
     (λ b. clash (sym (b .1)))
     (choose-cases (eqb (row .kind) 4) (a .1)))
     (choose-cases (eqb (row .kind) 3) e)
 
-pub shape-of : (t f : List ℕ) (used r : ℕ) (row : Row) → shapeKept t f used r row ≡ true → Shape t f used r (formOf row)
-unfolding shapeKept
-shape-of t f used r row e = go (decLt r 3) (also-true _ _ e .1)
-  where
-    go : Dec (r < 3) → choose (ltb r 3) (scalarKept r row) (laterKept t f used r row) ≡ true → Shape t f used r (formOf row)
-    go (yes h) k = scalar-shape t f used r row h (sym (choose-yes _ _ _ (lt-ltb r 3 h)) ∙ k)
-    go (no h) k = later-shape t f used r row (omega arith) (sym (choose-no _ _ _ (le-ltb r 3 (omega arith))) ∙ k)
+module _ (version : ℕ) (t f : List ℕ) (used r : ℕ) (row : Row) (e : shapeKept version t f used r row ≡ true) where
+  scalar-first : r < scalarRows version → formOf row ≡ scalar r
+  unfolding shapeKept
+  scalar-first h =
+      let few = few-rows version in
+      let kept = sym (choose-yes _ _ _ (lt-ltb r (scalarRows version) h)) ∙ also-true _ _ e .1 in
+      scalar-form r row (omega arith) kept
+
+  -- a row among the first is a scalar of its number: "Rows 0, 1, 2 are kinds 0 BOOLEAN, 1 INTEGER, 2 SET."
+  pub scalar-shaped : r < scalarRows version → kindBy (formOf row) ≡ r
+  unfolding kindBy
+  scalar-shaped h = rw (scalar-first h)
+
+  pub shape-of : Shape t f used r (formOf row)
+  unfolding shapeKept
+  shape-of = go (decLt r (scalarRows version))
+    where
+      go : Dec (r < scalarRows version) → Shape t f used r (formOf row)
+      go (yes h) = rw (scalar-first h) is-scalar
+      go (no h) =
+          later-shape t f used r row
+          (sym (choose-no _ _ _ (le-ltb r (scalarRows version) (omega arith))) ∙ also-true _ _ e .1)
 
 -- a shape that is a record's
 pub record IsRecord (t f : List ℕ) (used r base first count : ℕ) : Type 0 where
-  pub later : 3 ≤ r
   pub on : Based t r base
   pub claims : first ≡ used
   pub within : first + count ≤ rowsOf f
@@ -104,14 +121,13 @@ pub record IsRecord (t f : List ℕ) (used r base first count : ℕ) : Type 0 wh
 
 pub record-is : {t f : List ℕ} {used r : ℕ} {x : Form} {base first count : ℕ} → Shape t f used r x → x ≡ recordOf base first count
     → IsRecord t f used r base first count
-record-is (is-scalar l) e = let z : _≡_ {A = ℕ} 0 1 = cc in absurd (omega arith)
-record-is (is-array l a b c) e = let z : _≡_ {A = ℕ} 0 1 = cc in absurd (omega arith)
-record-is {t} {f} {used} {r} {base = base} {first} {count} (is-record {base = b} {count = n} l on rows own) e =
+record-is is-scalar e = let z : _≡_ {A = ℕ} 0 1 = cc in absurd (omega arith)
+record-is (is-array a b c) e = let z : _≡_ {A = ℕ} 0 1 = cc in absurd (omega arith)
+record-is {t} {f} {used} {r} {base = base} {first} {count} (is-record {base = b} {count = n} on rows own) e =
     let at : used ≡ first = cc in
     let bases : b ≡ base = cc in
     let counts : n ≡ count = cc in
     record {
-      later = l;
       on = rw bases at on;
       claims = sym at;
       within = rw (← at, ← counts) rows;
@@ -120,40 +136,39 @@ record-is {t} {f} {used} {r} {base = base} {first} {count} (is-record {base = b}
 
 -- a shape that is an array's
 pub record IsArray (r element n : ℕ) : Type 0 where
-  pub later : 3 ≤ r
   pub low : element < r
   pub least : 1 ≤ n
   pub most : n ≤ 4096
 
 pub array-is : {t f : List ℕ} {used r : ℕ} {x : Form} {element n : ℕ} → Shape t f used r x → x ≡ array element n → IsArray r element n
-array-is (is-scalar l) e = let z : _≡_ {A = ℕ} 0 1 = cc in absurd (omega arith)
-array-is {element = element} {n} (is-array {element = b} {n = m} l a x y) e =
+array-is is-scalar e = let z : _≡_ {A = ℕ} 0 1 = cc in absurd (omega arith)
+array-is {element = element} {n} (is-array {element = b} {n = m} a x y) e =
     let elements : b ≡ element = cc in
     let counts : m ≡ n = cc in
-    record { later = l; low = rw (← elements) a; least = rw (← counts) x; most = rw (← counts) y }
-array-is (is-record l on rows own) e = let z : _≡_ {A = ℕ} 0 1 = cc in absurd (omega arith)
+    record { low = rw (← elements) a; least = rw (← counts) x; most = rw (← counts) y }
+array-is (is-record on rows own) e = let z : _≡_ {A = ℕ} 0 1 = cc in absurd (omega arith)
 
 -- what holds of every form that a row may have holds of its own
 pub by-shape : {t f : List ℕ} {used r : ℕ} {x : Form} (P : Form → Type 0) → Shape t f used r x
-    → ((k : ℕ) → k < 3 → P (scalar k))
+    → ((k : ℕ) → P (scalar k))
     → ((element n : ℕ) → element < r → P (array element n))
     → ((base count : ℕ) → Based t r base → used + count ≤ rowsOf f → KeptIn (fieldKept f r) used (used + count)
     → P (recordOf base used count))
     → P x
-by-shape {r = r} P (is-scalar l) s a c = s r l
-by-shape P (is-array {element = e} {n = n} l low x y) s a c = a e n low
-by-shape P (is-record {base = b} {count = n} l on rows own) s a c = c b n on rows own
+by-shape {r = r} P is-scalar s a c = s r
+by-shape P (is-array {element = e} {n = n} low x y) s a c = a e n low
+by-shape P (is-record {base = b} {count = n} on rows own) s a c = c b n on rows own
 
 -- an accepted row: its shape, and "No size exceeds 4,096."
 pub record RowKept (t f : List ℕ) (r : ℕ) : Type 0 where
   pub shape : Shape t f (usedBelow t r) r (form t r)
   pub small : sizeOf t f r ≤ 4096
 
-pub row-kept : (t f : List ℕ) (r : ℕ) → typeKept t f r ≡ true → RowKept t f r
+pub row-kept : (version : ℕ) (t f : List ℕ) (r : ℕ) → typeKept version t f r ≡ true → RowKept t f r
 unfolding typeKept form
-row-kept t f r e =
+row-kept version t f r e =
     let (shape, size) = also-true _ _ e in
-    record { shape = shape-of t f (usedBelow t r) r (rowAt t r) shape; small = leb-true _ _ size }
+    record { shape = shape-of version t f (usedBelow t r) r (rowAt t r) shape; small = leb-true _ _ size }
 
 -- a field of an accepted record has a type in a lower row
 pub field-low : (f : List ℕ) (r k : ℕ) → fieldKept f r k ≡ true → rowAt f k .a < r
@@ -179,7 +194,7 @@ pub made-of : {t f : List ℕ} {used r : ℕ} {x : Form} → Shape t f used r x 
 unfolding baseOf countOf layoutBy fieldsBy sizeBy ofBase ownTypes sum
 made-of {t} {f} {used} {r} shape =
     by-shape (λ x. Made t f used r x) shape
-    (λ k l. record {
+    (λ k. record {
       on = no-base;
       within = λ h. omega arith;
       own = record { each = λ j low high. absurd (omega arith) };
@@ -219,7 +234,7 @@ module _ {t f : List ℕ} {used r : ℕ} where
   unfolding sizeBy
   size-agree g h shape same =
       by-shape (λ x. sizeBy f g x ≡ sizeBy f h x) shape
-      (λ k l. refl)
+      (λ k. refl)
       (λ e n low. rw (same e low))
       (λ a c on rows own. rw (base-agree 0 g h on same, fields-agree f g h r used c own same))
 
@@ -227,7 +242,7 @@ module _ {t f : List ℕ} {used r : ℕ} where
   unfolding layoutBy
   layout-agree g h shape same =
       by-shape (λ x. layoutBy f g x ≡ layoutBy f h x) shape
-      (λ k l. refl)
+      (λ k. refl)
       (λ e n low. rw (same e low))
       (λ a c on rows own. rw (base-agree [] g h on same, fields-agree f g h r used c own same))
 
@@ -303,12 +318,12 @@ used-up t m (suc n) h = go (decLt n m) (λ l. used-up t m n l)
     go (yes l) rest = let q : m ≡ suc n = omega arith in rw q (omega arith)
     go (no l) rest = let up = rest (omega arith) in omega (arith, used-next t n)
 
-pub used-fits : (t f : List ℕ) (n : ℕ) → KeptIn (typeKept t f) 0 n → usedBelow t n ≤ rowsOf f
-used-fits t f zero kept = omega (arith, used-none t)
-used-fits t f (suc n) kept =
+pub used-fits : (version : ℕ) (t f : List ℕ) (n : ℕ) → KeptIn (typeKept version t f) 0 n → usedBelow t n ≤ rowsOf f
+used-fits version t f zero kept = omega (arith, used-none t)
+used-fits version t f (suc n) kept =
     rw (used-next t n)
-    (made-of (row-kept t f n (kept .each n (omega arith) (omega arith)) .shape) .within
-    (used-fits t f n (record { each = λ j low high. kept .each j low (omega arith) })))
+    (made-of (row-kept version t f n (kept .each n (omega arith) (omega arith)) .shape) .within
+    (used-fits version t f n (record { each = λ j low high. kept .each j low (omega arith) })))
 
 -- ---- the whole table
 

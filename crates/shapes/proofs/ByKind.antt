@@ -31,7 +31,7 @@ missing-fields t f r h =
 no-shape : {t f : List ℕ} {used r : ℕ} {x : Form} → Shape t f used r x → x ≡ noForm → ⊥
 no-shape shape =
     by-shape (λ x. x ≡ noForm → ⊥) shape
-    (λ k l e. let z : _≡_ {A = ℕ} 0 1 = cc in absurd (omega arith))
+    (λ k e. let z : _≡_ {A = ℕ} 0 1 = cc in absurd (omega arith))
     (λ m n low e. let z : _≡_ {A = ℕ} 0 1 = cc in absurd (omega arith))
     (λ a c on rows own e. let z : _≡_ {A = ℕ} 0 1 = cc in absurd (omega arith))
 

@@ -13,8 +13,7 @@ use Rattle.shapes.specs.Forms.{Form, Form.scalar, Form.array, Form.recor
 use Rattle.shapes.specs.Forms.{baseOf, NO_KIND, kindBy, kindIn, isSingle}
 use Rattle.shapes.specs.Sizes.{sizeBy, sizeOf, layoutBy, layoutOf, fieldsBy, fieldsOf}
 use Rattle.shapes.proofs.Rows.{form-scalar, form-array, form-record, form-none, by-any-form}
-use Rattle.shapes.proofs.Accepted.{Shape, Shape.is-scalar, Shape.is-array, Shape.is-record, TypesKept, size-is}
-use Rattle.shapes.proofs.Accepted.{layout-is, fields-are}
+use Rattle.shapes.proofs.Accepted.{TypesKept, size-is, layout-is, fields-are}
 
 -- ---- a row's kind
 
@@ -93,27 +92,15 @@ module _ (t : List ℕ) (r : ℕ) where
 
 -- ---- of an accepted table
 
-module _ (t f : List ℕ) (kept : TypesKept t f) (r : ℕ) where
-  module _ (single : isSingle t r ≡ true) where
-    pub single-size : sizeOf t f r ≡ 1
-    unfolding sizeBy
-    single-size = size-is t f r (kept .row r (single-there t r single) .shape) ∙ rw (single-form t r single)
+module _ (t f : List ℕ) (kept : TypesKept t f) (r : ℕ) (single : isSingle t r ≡ true) where
+  pub single-size : sizeOf t f r ≡ 1
+  unfolding sizeBy
+  single-size = size-is t f r (kept .row r (single-there t r single) .shape) ∙ rw (single-form t r single)
 
-    pub single-layout : layoutOf t f r ≡ kindIn t r ∷ []
-    unfolding layoutBy
-    single-layout = layout-is t f r (kept .row r (single-there t r single) .shape) ∙ rw (single-form t r single)
+  pub single-layout : layoutOf t f r ≡ kindIn t r ∷ []
+  unfolding layoutBy
+  single-layout = layout-is t f r (kept .row r (single-there t r single) .shape) ∙ rw (single-form t r single)
 
-    pub single-fields : fieldsOf t f r ≡ []
-    unfolding fieldsBy
-    single-fields = fields-are t f r (kept .row r (single-there t r single) .shape) ∙ rw (single-form t r single)
-
-  shape-kind : {used : ℕ} {x : Form} → Shape t f used r x → r < 3 → kindBy x ≡ r
-  unfolding kindBy
-  shape-kind (is-scalar l) h = refl
-  shape-kind (is-array l a b c) h = absurd (omega arith)
-  shape-kind (is-record l on rows own) h = absurd (omega arith)
-
-  -- "Rows 0, 1, 2 are kinds 0 BOOLEAN, 1 INTEGER, 2 SET."
-  pub scalar-row : r < 3 → r < rowsOf t → kindIn t r ≡ r
-  unfolding kindIn
-  scalar-row h low = shape-kind (kept .row r low .shape) h
+  pub single-fields : fieldsOf t f r ≡ []
+  unfolding fieldsBy
+  single-fields = fields-are t f r (kept .row r (single-there t r single) .shape) ∙ rw (single-form t r single)

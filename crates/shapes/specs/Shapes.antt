@@ -7,6 +7,7 @@ use Rattle.prelude.specs.Choice.{choose, _also_}
 use Rattle.image.specs.declared.Row.{Row}
 use Rattle.image.specs.Rows.{rowAt, rowsOf}
 use Rattle.image.specs.Faults.{allFrom}
+use Rattle.image.specs.Versions.{scalarRows}
 use Rattle.shapes.specs.Forms.{form, countOf}
 use Rattle.shapes.specs.Sizes.{sizeOf}
 
@@ -51,10 +52,10 @@ laterKept t f used r row =
     choose (eqb (row .kind) 3) (arrayKept r row) (choose (eqb (row .kind) 4) (recordKept t f used r row) false)
 
 -- a type row in its table, where `used` field rows are claimed by the rows below it; "a zero byte"
-unfoldable pub shapeKept : List ℕ → List ℕ → ℕ → ℕ → Row → Bool
-shapeKept t f used r row =
-    eqb (row .zero) 0 also choose (ltb r 3) (scalarKept r row) (laterKept t f used r row)
+unfoldable pub shapeKept : ℕ → List ℕ → List ℕ → ℕ → ℕ → Row → Bool
+shapeKept version t f used r row =
+    eqb (row .zero) 0 also choose (ltb r (scalarRows version)) (scalarKept r row) (laterKept t f used r row)
 
 -- "No size exceeds 4,096."
-unfoldable pub typeKept : List ℕ → List ℕ → ℕ → Bool
-typeKept t f r = shapeKept t f (usedBelow t r) r (rowAt t r) also leb (sizeOf t f r) 4096
+unfoldable pub typeKept : ℕ → List ℕ → List ℕ → ℕ → Bool
+typeKept version t f r = shapeKept version t f (usedBelow t r) r (rowAt t r) also leb (sizeOf t f r) 4096

@@ -132,15 +132,15 @@ fn later_kept(t: &[u8], f: &[u8], used: usize, r: usize, row: Row) -> bool
 }
 
 // Whether a row is what a type row may be, where `used` field rows are claimed by the rows below it.
-pub fn shape_kept(t: &[u8], f: &[u8], used: usize, r: usize, row: Row) -> bool
+pub fn shape_kept(version: u8, t: &[u8], f: &[u8], used: usize, r: usize, row: Row) -> bool
     requires { ⌜ (used < 65536) × (rowsOf (now f) ≤ 256) ⌝ }
-    ensures { λ x. ⌜ x ≡ shapeKept (now (t .entry)) (now (f .entry)) used r row ⌝ }
+    ensures { λ x. ⌜ x ≡ shapeKept version (now (t .entry)) (now (f .entry)) used r row ⌝ }
 {
     let zero = row.zero;
     if zero != 0 {
         return false;
     }
-    if r < 3 {
+    if r < image::scalar_rows(version) as usize {
         return scalar_kept(r, row);
     }
     later_kept(t, f, used, r, row)

@@ -25,10 +25,11 @@ use Rattle.sizes.specs.Cells.{INHERITED, OFFSETS}
 -- ---- counts of fields
 
 -- a record's fields are its base's and its own
-pub fields-count : (t f : List ℕ) (r : ℕ) → typeKept t f r ≡ true → length (fieldsOf t f r) ≡ inheritedOf t f r + countOf (form t r)
+pub fields-count : (version : ℕ) (t f : List ℕ) (r : ℕ) → typeKept version t f r ≡ true
+    → length (fieldsOf t f r) ≡ inheritedOf t f r + countOf (form t r)
 unfolding inheritedOf
-fields-count t f r kept =
-    let shape = row-kept t f r kept .shape in
+fields-count version t f r kept =
+    let shape = row-kept version t f r kept .shape in
     let base = baseOf (form t r) in
     let count = countOf (form t r) in
     ap length (fields-are t f r shape ∙ made-of shape .fields (fieldsOf t f))
@@ -42,29 +43,32 @@ base-few : {t : List ℕ} {r a : ℕ} (g : ℕ → ℕ) (n : ℕ) → Based t r 
 base-few {a = a} g n on h = by-base (λ k. k ≤ n) a (omega arith) (λ b e. h b (based-on on e .0))
 
 -- a record has no more fields than field rows are used up
-few-fields : (t f : List ℕ) (n r : ℕ) → r < n → KeptIn (typeKept t f) 0 (r + 1) → inheritedOf t f r ≤ usedBelow t r
+few-fields : (version : ℕ) (t f : List ℕ) (n r : ℕ) → r < n → KeptIn (typeKept version t f) 0 (r + 1)
+    → inheritedOf t f r ≤ usedBelow t r
 unfolding inheritedOf
-few-fields t f zero r h kept = absurd (omega arith)
-few-fields t f (suc n) r h kept =
-    base-few _ _ (made-of (row-kept t f r (kept .each r (omega arith) (omega arith)) .shape) .on)
-    (λ b low. step b low (few-fields t f n b (omega arith) (record { each = λ j a z. kept .each j a (omega arith) })))
+few-fields version t f zero r h kept = absurd (omega arith)
+few-fields version t f (suc n) r h kept =
+    base-few _ _ (made-of (row-kept version t f r (kept .each r (omega arith) (omega arith)) .shape) .on)
+    (λ b low. step b low
+    (few-fields version t f n b (omega arith) (record { each = λ j a z. kept .each j a (omega arith) })))
   where
     step : (b : ℕ) → b < r → inheritedOf t f b ≤ usedBelow t b → length (fieldsOf t f b) ≤ usedBelow t r
     step b low few =
-        let count = fields-count t f b (kept .each b (omega arith) (omega arith)) in
+        let count = fields-count version t f b (kept .each b (omega arith) (omega arith)) in
         let up = used-up t (suc b) r low in
         omega (arith, count, few, used-next t b, up)
 
-pub inherited-fits : (t f : List ℕ) (r : ℕ) → KeptIn (typeKept t f) 0 (r + 1) → inheritedOf t f r ≤ rowsOf f
-inherited-fits t f r kept =
-    let few = few-fields t f (suc r) r (omega arith) kept in
-    let fits = used-fits t f r (record { each = λ j low high. kept .each j low (omega arith) }) in
+pub inherited-fits : (version : ℕ) (t f : List ℕ) (r : ℕ) → KeptIn (typeKept version t f) 0 (r + 1)
+    → inheritedOf t f r ≤ rowsOf f
+inherited-fits version t f r kept =
+    let few = few-fields version t f (suc r) r (omega arith) kept in
+    let fits = used-fits version t f r (record { each = λ j low high. kept .each j low (omega arith) }) in
     omega arith
 
 -- ---- a row that is to be planned
 
 module _ (t f plan : List ℕ) (used r : ℕ) (row : Row) (size : ℕ) (ready : Ready t f plan used r row size) where
-  open Ready ready using (few-rows, cells, this-row, claimed, sized, below, here, planned)
+  open Ready ready using (version, few-rows, cells, this-row, claimed, sized, below, here, planned)
 
   -- its shape, and the plan's sizes of the rows below
   abbrev held : ℕ → ℕ
@@ -74,7 +78,7 @@ module _ (t f plan : List ℕ) (used r : ℕ) (row : Row) (size : ℕ) (ready : 
   this-form = row-form t r this-row
 
   row-shape : Shape t f used r (form t r)
-  row-shape = rw claimed (row-kept t f r here .shape)
+  row-shape = rw claimed (row-kept version t f r here .shape)
 
   row-made : Made t f used r (form t r)
   row-made = made-of row-shape
@@ -89,10 +93,10 @@ module _ (t f plan : List ℕ) (used r : ℕ) (row : Row) (size : ℕ) (ready : 
   base-is : ofBase 0 held (baseOf (formOf row)) ≡ ofBase 0 (sizeOf t f) (baseOf (form t r))
   base-is = base-agree 0 held (sizeOf t f) row-base held-is ∙ ap (λ x. ofBase 0 (sizeOf t f) (baseOf x)) this-form
 
-  kept-to : KeptIn (typeKept t f) 0 (r + 1)
+  kept-to : KeptIn (typeKept version t f) 0 (r + 1)
   kept-to = record { each = λ j low high. go j (decLt j r) high }
     where
-      go : (j : ℕ) → Dec (j < r) → j < r + 1 → typeKept t f j ≡ true
+      go : (j : ℕ) → Dec (j < r) → j < r + 1 → typeKept version t f j ≡ true
       go j (yes h) high = below .each j (omega arith) h
       go j (no h) high = let q : r ≡ j = omega arith in rw (← q) here
 
@@ -102,7 +106,7 @@ module _ (t f plan : List ℕ) (used r : ℕ) (row : Row) (size : ℕ) (ready : 
     where
       few : (b : ℕ) → b < r → getD plan (INHERITED + b) 0 ≤ 65535
       few b low =
-          let fits = inherited-fits t f b (record { each = λ j a z. below .each j a (omega arith) }) in
+          let fits = inherited-fits version t f b (record { each = λ j a z. below .each j a (omega arith) }) in
           let count = planned .inherited b low in
           let rows = ready .few-fields in
           omega arith
@@ -114,7 +118,7 @@ module _ (t f plan : List ℕ) (used r : ℕ) (row : Row) (size : ℕ) (ready : 
       (λ b e.
       let (low, kind) = based-on on e in
       rw (planned .inherited b low, ← of-record (record-form t b kind) .1)
-      (sym (fields-count t f b (below .each b (omega arith) low))))
+      (sym (fields-count version t f b (below .each b (omega arith) low))))
 
   pub inherited-is : ofBase 0 (λ b. getD plan (INHERITED + b) 0 + rowAt t b .c) (baseOf (formOf row))
       ≡ inheritedOf t f r
@@ -126,7 +130,7 @@ module _ (t f plan : List ℕ) (used r : ℕ) (row : Row) (size : ℕ) (ready : 
   offsets-fit = rw this-form (record { cells = room; low = types; total = whole })
     where
       fits : used + countOf (form t r) ≤ rowsOf f
-      fits = row-made .within (rw claimed (used-fits t f r below))
+      fits = row-made .within (rw claimed (used-fits version t f r below))
 
       room : OFFSETS + (used + countOf (form t r)) ≤ length plan
       room = let rows = ready .few-fields in omega (arith, fits)
@@ -138,7 +142,7 @@ module _ (t f plan : List ℕ) (used r : ℕ) (row : Row) (size : ℕ) (ready : 
       whole =
           let total = row-made .size held in
           let size = size-agree held (sizeOf t f) row-shape held-is ∙ sym (size-is t f r row-shape) in
-          let small = row-kept t f r here .small in
+          let small = row-kept version t f r here .small in
           omega (arith, total, size, small)
 
   -- the plan once its places, its count and its size are written
@@ -202,7 +206,7 @@ module _ (t f plan : List ℕ) (used r : ℕ) (row : Row) (size : ℕ) (ready : 
       where
         go : Dec (x < r) → getD next (OFFSETS + (first + j)) 0 ≡ ownOffset t f base first j
         go (yes low) =
-            let is = record-is (row-kept t f x (below .each x (omega arith) low) .shape) e in
+            let is = record-is (row-kept version t f x (below .each x (omega arith) low) .shape) e in
             let claims = is .claims in
             let counted : countOf (form t x) ≡ n = of-record e .1 in
             let up = used-up t (suc x) r low in

@@ -27,12 +27,13 @@ Offsets f k n at old plan = Filled (OFFSETS + k) n (λ j. at + sum (map (λ r. g
 
 -- type row r keeps its rule, and the plan holds what it does of the rows below
 pub record Ready (t f plan : List ℕ) (used r : ℕ) (row : Row) (size : ℕ) : Type 0 where
+  pub version : ℕ
   pub few-rows : r < 64
   pub few-fields : rowsOf f ≤ 256
   pub cells : PLACES ≤ length plan
   pub this-row : row ≡ rowAt t r
   pub claimed : used ≡ usedBelow t r
   pub sized : size ≡ sizeOf t f r
-  pub below : KeptIn (typeKept t f) 0 r
-  pub here : typeKept t f r ≡ true
+  pub below : KeptIn (typeKept version t f) 0 r
+  pub here : typeKept version t f r ≡ true
   pub planned : Plan t f r plan

@@ -61,10 +61,10 @@ fn plan_row(t: &[u8], f: &[u8], plan: &mut [u32], used: usize, r: usize, row: Ro
     plan[r] = size;
 }
 
-// Question 4, with the plan of the rows that it passes.
-pub fn check_types(t: &[u8], f: &[u8], plan: &mut [u32]) -> Verdict
+// Question 4 of an image of a version, with the plan of the rows that it passes.
+pub fn check_types(version: u8, t: &[u8], f: &[u8], plan: &mut [u32]) -> Verdict
     requires { ⌜ (rowsOf (now t) ≤ 64) × (rowsOf (now f) ≤ 256) × (PLACES ≤ length (now plan)) ⌝ }
-    ensures { λ x. ⌜ x ≡ question4 (now (t .entry)) (now (f .entry)) ⌝ }
+    ensures { λ x. ⌜ x ≡ question4 version (now (t .entry)) (now (f .entry)) ⌝ }
     ensures plan { λ x. ⌜ Plan (now (t .entry)) (now (f .entry)) (passed (now (t .entry)) x) (now (plan .exit)) ⌝ }
     ensures rest { λ x. ⌜ Rest (now (t .entry)) (passed (now (t .entry)) x) (now (plan .entry)) (now (plan .exit)) ⌝ }
 {
@@ -74,7 +74,7 @@ pub fn check_types(t: &[u8], f: &[u8], plan: &mut [u32]) -> Verdict
     let mut used: usize = 0;
     while r < n {
         let row = image::row_at(t, r);
-        if !shapes::shape_kept(t, f, used, r, row) {
+        if !shapes::shape_kept(version, t, f, used, r, row) {
             let bad = r as u16;
             return Verdict::Fault(bad);
         }

@@ -25,12 +25,11 @@ use Rattle.relations.specs.declared.FieldAnswer.{FieldAnswer}
 use Rattle.relations.specs.declared.FieldAnswer.the-variants.{Missing, Field}
 use Rattle.relations.specs.Extends.{extends}
 use Rattle.relations.specs.Fields.{fieldOf}
-use Rattle.nodes.specs.Nodes.{question7}
 use Rattle.nodes.proofs.Accepted.{NodeRow, NodeRow.is-constant, NodeRow.is-variable, NodeRow.is-field}
 use Rattle.nodes.proofs.Accepted.{NodeRow.is-element, NodeRow.is-guard, NodeRow.is-dyadic, NodeRow.is-monadic}
-use Rattle.nodes.proofs.Accepted.{NodeRow.is-test, NodeRow.is-argument}
+use Rattle.nodes.proofs.Accepted.{NodeRow.is-test, NodeRow.is-argument, NodesAccepted}
 use Rattle.nodes.proofs.Accepted.{nodes-kept, constant-is, variable-is, field-is, element-is, guard-is, argument-is}
-use Rattle.types.specs.Question.{question4}
+use Rattle.types.specs.Question.{TypesAccepted}
 use Rattle.types.proofs.Accepted.{types-kept}
 use Rattle.shapes.proofs.Accepted.{TypesKept}
 use Rattle.frames.specs.Variables.{question5}
@@ -160,7 +159,7 @@ module _ (t f v n : List ℕ) (r : ℕ) (g h : ℕ → KindAnswer) (same : (k : 
   type-agree (is-test z k c) = rw k
   type-agree (is-argument z k c) = rw (k, same (rowAt n r .a) (c .holds .low))
 
-module _ (t f v n : List ℕ) (kept : question7 t v n ≡ Kept) (r : ℕ) (h : r < rowsOf n) where
+module _ {version : ℕ} (t f v n : List ℕ) (kept : NodesAccepted version t v n) (r : ℕ) (h : r < rowsOf n) where
   pub type-is : typeOf t f v n r ≡ typeBy t f v (typeOf t f v n) (rowAt n r .kind) (rowAt n r)
   unfolding typeOf
   type-is =
@@ -246,7 +245,8 @@ pub nodes-typed : (t f v n : List ℕ) → question10 t f v n ≡ Kept → (r : 
 unfolding question10
 nodes-typed t f v n e r h = has-type (typeOf t f v n r) (verdict-kept _ (rowsOf n) e r h)
 
-pub node-typed : (t f v n : List ℕ) → question7 t v n ≡ Kept → question10 t f v n ≡ Kept → (r : ℕ) → r < rowsOf n
+pub node-typed : {version : ℕ} (t f v n : List ℕ) → NodesAccepted version t v n → question10 t f v n ≡ Kept
+    → (r : ℕ) → r < rowsOf n
     → (x : ℕ) × NodeTyped t f v n r x × (typeOf t f v n r ≡ Kind x)
 node-typed t f v n formed e r h =
     let (x, type) = nodes-typed t f v n e r h in
@@ -254,8 +254,8 @@ node-typed t f v n formed e r h =
 
 -- ---- a node's type is a type row
 
-module _ (t f v n : List ℕ) (types : TypesKept t f) (scalars : 3 ≤ rowsOf t) (variables : question5 t v ≡ Kept)
-    (nodes : question7 t v n ≡ Kept) where
+module _ {version : ℕ} (t f v n : List ℕ) (types : TypesKept t f) (scalars : 3 ≤ rowsOf t)
+    (variables : question5 t v ≡ Kept) (nodes : NodesAccepted version t v n) where
   low-node : (r x : ℕ) → r < rowsOf n
       → ((k : ℕ) → k < r → (y : ℕ) → typeOf t f v n k ≡ Kind y → y < rowsOf t)
       → NodeTyped t f v n r x → x < rowsOf t
@@ -289,7 +289,7 @@ module _ (t f v n : List ℕ) (types : TypesKept t f) (scalars : 3 ≤ rowsOf t)
       go (yes h) ih = low-node r x h ih (typed-node t f v n nodes r h type)
       go (no h) ih = no-kind (sym (type-missing t f v n r (omega arith)) ∙ type)
 
-pub type-low : (t f v n : List ℕ) → question4 t f ≡ Kept → 3 ≤ rowsOf t → question5 t v ≡ Kept → question7 t v n ≡ Kept
-    → (r x : ℕ) → typeOf t f v n r ≡ Kind x → x < rowsOf t
+pub type-low : {version : ℕ} (t f v n : List ℕ) → TypesAccepted t f → 3 ≤ rowsOf t → question5 t v ≡ Kept
+    → NodesAccepted version t v n → (r x : ℕ) → typeOf t f v n r ≡ Kind x → x < rowsOf t
 type-low t f v n types scalars variables nodes r x =
     low-by t f v n (types-kept t f types) scalars variables nodes (suc r) r (omega arith) x

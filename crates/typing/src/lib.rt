@@ -6,9 +6,8 @@ use relations::FieldAnswer;
 ghost use mathlib.Core.Path.{_≡_};
 ghost use Prim.Native.Nat.{_≤_};
 ghost use lib.ListN.{length};
-ghost use Rattle.image.specs.declared.Verdict.the-variants.{Kept};
 ghost use Rattle.image.specs.Rows.{rowAt, rowsOf};
-ghost use Rattle.types.specs.Question.{question4};
+ghost use Rattle.types.specs.Question.{TypesAccepted};
 ghost use Rattle.types.specs.Plan.{Plan};
 ghost use Rattle.typing.specs.Typing.{typeIn, variableNode, fieldNode, elementNode, narrows as narrowsTo};
 ghost use Rattle.typing.specs.Typing.{narrowNode};
@@ -25,7 +24,7 @@ pub fn type_at(types: &[u16], k: usize) -> KindAnswer
 }
 
 fn field_node(t: &[u8], f: &[u8], plan: &[u32], types: &[u16], row: Row) -> KindAnswer
-    requires { ⌜ (question4 (now t) (now f) ≡ Kept) × Plan (now t) (now f) (rowsOf (now t)) (now plan) ⌝ }
+    requires { ⌜ TypesAccepted (now t) (now f) × Plan (now t) (now f) (rowsOf (now t)) (now plan) ⌝ }
     ensures { λ x. ⌜ x ≡ fieldNode (now (t .entry)) (now (f .entry)) (typeIn (now (types .entry))) row ⌝ }
 {
     let a = row.a;
@@ -130,7 +129,7 @@ fn variable_node(v: &[u8], row: Row) -> KindAnswer
 
 // The type of a node from those of the lower rows.
 fn node_type(t: &[u8], f: &[u8], plan: &[u32], v: &[u8], types: &[u16], row: Row) -> KindAnswer
-    requires { ⌜ (question4 (now t) (now f) ≡ Kept) × Plan (now t) (now f) (rowsOf (now t)) (now plan) ⌝ }
+    requires { ⌜ TypesAccepted (now t) (now f) × Plan (now t) (now f) (rowsOf (now t)) (now plan) ⌝ }
     ensures { λ x. ⌜ x ≡ typeBy (now (t .entry)) (now (f .entry)) (now (v .entry)) (typeIn (now (types .entry)))
         (row .kind) row ⌝ }
 {
@@ -158,7 +157,7 @@ pub fn check_typing(
     n: &[u8],
     types: &mut [u16],
 ) -> Verdict
-    requires { ⌜ (question4 (now t) (now f) ≡ Kept) × Plan (now t) (now f) (rowsOf (now t)) (now plan) × (rowsOf
+    requires { ⌜ TypesAccepted (now t) (now f) × Plan (now t) (now f) (rowsOf (now t)) (now plan) × (rowsOf
         (now n) ≤ 2048) × (rowsOf (now n) ≤ length (now types)) ⌝ }
     ensures { λ x. ⌜ x ≡ question10 (now (t .entry)) (now (f .entry)) (now (v .entry)) (now (n .entry)) ⌝ }
     ensures types { λ x. ⌜ Typed (typeOf (now (t .entry)) (now (f .entry)) (now (v .entry)) (now (n .entry)))

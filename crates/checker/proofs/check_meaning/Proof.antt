@@ -38,8 +38,10 @@ same-length c = search needs
 returns : tie.Need-returns
 unfolding tableQuestion choose
 returns c = let k = c .before .before .before .before .before .check-typing .ensures in
-    let fault = c .before .enum-told2 .given .1 in
-    (c .answer-of .ensures ∙ asked-fault _ _ _ fault ∙ sym (chain-stop _ 10 1 (k .0) fault), types-left _ _ _ _ _ _ _ (k .1) (k .0))
+    let fault = c .before .enum-told2 .given .1 in (
+      λ version. c .answer-of .ensures ∙ asked-fault _ _ _ fault ∙ sym (chain-stop _ 10 1 (k .0) fault),
+      types-left _ _ _ _ _ _ _ (k .1) (k .0),
+    )
 
 slice-reshare-prefix-check-rules : tie.Need-slice-reshare-prefix-check-rules
 slice-reshare-prefix-check-rules c = search needs
@@ -69,7 +71,7 @@ returns-2 c = let b = c .before .before .before .before .before .before .before 
     let k = b .check-typing .ensures in
     let kept = c .before .before .before .enum-told .given .1 in
     let all = rules-all _ _ _ _ _ _ _ (k .1) (s .pre .4) (now (s .args .p)) (now (s .args .s)) kept in (
-      c .answer-of2 .ensures
+      λ version. c .answer-of2 .ensures
           ∙ sym (chain-next _ 10 1 (k .0) kept ∙ chain-last _ 11 0 (c .before .check-rules .ensures ∙ rw (nodes .ensures) all) refl),
       types-left _ _ _ _ _ _ _ (k .1) (k .0),
     )

@@ -146,7 +146,7 @@ returns-6 c = let q9 = c .before .before .before in
     let q7 = q8 .before .before .before .before .before in
     let q6 = q7 .before .before .before in
     let q5 = q6 .before .before .before in
-    c .before .check-meaning .ensures .0
+    c .before .check-meaning .ensures .0 _
     ∙ sym (chain-next _ 5 6 (q5 .before .before .check-variables .ensures) (q5 .enum-told .given .1)
     ∙ chain-next _ 6 5 (q6 .before .before .check-procedures .ensures) (q6 .enum-told3 .given .1)
     ∙ chain-next _ 7 4 (q7 .before .before .check-nodes .ensures) (q7 .enum-told5 .given .1)

@@ -35,12 +35,16 @@ unfolding tableQuestion choose
 returns c = let k = c .before .before .before .before .before .check-types .ensures in
     let fault = c .before .enum-told2 .given .1 in
     let answer = c .answer-of .ensures ∙ asked-fault _ _ _ fault in
-    (answer ∙ sym (chain-stop _ 4 7 (k .0) fault), leaves-some _ _ _ _ _ (k .0) (k .1 .0) (k .1 .1) _ _ _ answer)
+    (answer ∙ sym (chain-stop _ 4 7 (k .0) fault), leaves-some _ _ _ _ _ _ (k .0) (k .1 .0) (k .1 .1) _ _ _ answer)
 
 check-rows-requires : tie.Need-check-rows-requires
 check-rows-requires c κs = let k = c .before .before .before .before .before .check-types .ensures in
     let kept = c .before .enum-told .given .1 in
-    (c .before .before .before .before .before .before .before .before .before .before .before .before .before .before .pre .0, sym (k .0) ∙ kept, plan-all _ _ _ _ _ (k .0) (k .1 .0) (k .1 .1) kept)
+    let s = c .before .before .before .before .before .before in (
+      s .before .before .before .before .before .before .before .before .pre .0,
+      record { version = _; passes = sym (k .0) ∙ kept },
+      plan-all _ _ _ _ _ _ (k .0) (k .1 .0) (k .1 .1) kept,
+    )
 
 enum-told-3 : tie.Need-enum-told-3
 enum-told-3 c = search needs
@@ -54,17 +58,19 @@ same-length-2 c = search needs
 returns-2 : tie.Need-returns-2
 unfolding tableQuestion choose
 returns-2 c = let k = c .before .before .before .before .before .before .before .before .check-types .ensures in
-    let kept = c .before .before .before .before .enum-told .given .1 in
-    (c .before .before .check-rows .ensures ∙ sym (chain-next _ 4 7 (k .0) kept), leaves-some _ _ _ _ _ (k .0) (k .1 .0) (k .1 .1) _ _ _ (c .enum-told4 .given .1))
+    let kept = c .before .before .before .before .enum-told .given .1 in (
+      c .before .before .check-rows .ensures ∙ sym (chain-next _ 4 7 (k .0) kept),
+      leaves-some _ _ _ _ _ _ (k .0) (k .1 .0) (k .1 .1) _ _ _ (c .enum-told4 .given .1),
+    )
 
 fill-places-requires : tie.Need-fill-places-requires
 fill-places-requires c κs = let k = c .before .before .before .before .before .before .before .before .before .check-types .ensures in
     let kept = c .before .before .before .before .before .enum-told .given .1 in
     let pre = c .before .before .before .before .before .before .before .before .before .before .before .before .before .before .before .before .before .before .pre in
     let cells = k .1 .1 .cells in
-    let four = sym (k .0) ∙ kept in
     let accepted = sym (c .before .before .before .check-rows .ensures) ∙ c .before .enum-told3 .given .1 in
-    places-fit _ _ _ _ _ _ _ (pre .0) (omega arith) four accepted (plan-all _ _ _ _ _ (k .0) (k .1 .0) (k .1 .1) kept)
+    places-fit _ _ _ _ _ _ _ _ (pre .0) (omega arith) (record { version = _; passes = sym (k .0) ∙ kept }) accepted
+    (plan-all _ _ _ _ _ _ (k .0) (k .1 .0) (k .1 .1) kept)
 
 same-length-3 : tie.Need-same-length-3
 same-length-3 c = search needs
@@ -73,8 +79,10 @@ returns-3 : tie.Need-returns-3
 unfolding tableQuestion choose
 returns-3 c = let k = c .before .before .before .before .before .before .before .before .before .before .before .before .check-types .ensures in
     let kept = c .before .before .before .before .before .before .before .before .enum-told .given .1 in
-    let accepted = sym (c .before .before .before .before .before .before .check-rows .ensures) ∙ c .before .before .before .before .enum-told3 .given .1 in
-    (sym (chain-next _ 4 7 (k .0) kept ∙ accepted), leaves-whole _ _ _ _ _ (k .0) (k .1 .0) (k .1 .1) _ _ _ kept (c .before .before .fill-places .ensures))
+    let accepted = sym (c .before .before .before .before .before .before .check-rows .ensures) ∙ c .before .before .before .before .enum-told3 .given .1 in (
+      sym (chain-next _ 4 7 (k .0) kept ∙ accepted),
+      leaves-whole _ _ _ _ _ _ (k .0) (k .1 .0) (k .1 .1) _ _ _ kept (c .before .before .fill-places .ensures),
+    )
 
 pub check-tables-spec : {M : Type 1} → statement M
 check-tables-spec =

@@ -6,7 +6,7 @@ use denote.Ref.{now}
 use lib.ListN.{length}
 use Rattle.header.specs.declared.Tables.{Tables}
 use Rattle.header.specs.declared.HeaderAnswer.the-variants.{Yes}
-use Rattle.header.specs.Header.{headerOf, partOf}
+use Rattle.header.specs.Header.{versionOf, headerOf, partOf}
 use Rattle.header.proofs.Fitting.{header-fits}
 use Rattle.sizes.specs.Cells.{CHECK_PLAN}
 use Rattle.checker.specs.Check.{checkOf}
@@ -32,6 +32,30 @@ enum-known-question c = search needs
 enum-known-tables : tie.Need-enum-known-tables
 enum-known-tables c = search needs
 
+abbrev at-header : tie.After-tables → tie.After-header
+at-header c = c .before .before
+
+abbrev image-of : tie.After-tables → List ℕ
+image-of c = now (at-header c .before .before .before .args .image)
+
+abbrev plan-of : tie.After-tables → List ℕ
+plan-of c = now (at-header c .before .before .before .args .plan)
+
+abbrev tables-of : tie.After-tables → Tables
+tables-of c = c .tables .given .0 .0
+
+plan-room : (c : tie.After-tables) → CHECK_PLAN ≤ length (plan-of c)
+plan-room c = at-header c .before .before .before .pre
+
+-- the header says yes
+yes : (c : tie.After-tables) → headerOf (image-of c) ≡ Yes (tables-of c)
+yes c = sym (at-header c .header .ensures) ∙ c .tables .given .1
+
+shared-slice-read-version : tie.Need-shared-slice-read-version
+shared-slice-read-version c =
+    let types = header-fits _ _ (yes (c .before .before)) .types in
+    omega (arith, types .start, types .end, types .within)
+
 part-requires : tie.Need-part-requires
 part-requires c κs = search needs
 
@@ -51,26 +75,8 @@ part-requires-6 : tie.Need-part-requires-6
 part-requires-6 c κs = search needs
 
 abbrev at-tables : tie.After-part6 → tie.After-tables
-at-tables c = c .before .before .before .before .before .before .before .before .before .before .before .before .before
-
-abbrev at-header : tie.After-part6 → tie.After-header
-at-header c = at-tables c .before .before
-
-abbrev image-of : tie.After-part6 → List ℕ
-image-of c = now (at-header c .before .before .before .args .image)
-
-abbrev plan-of : tie.After-part6 → List ℕ
-plan-of c = now (at-header c .before .before .before .args .plan)
-
-abbrev tables-of : tie.After-part6 → Tables
-tables-of c = at-tables c .tables .given .0 .0
-
-plan-room : (c : tie.After-part6) → CHECK_PLAN ≤ length (plan-of c)
-plan-room c = at-header c .before .before .before .pre
-
--- the header says yes
-yes : (c : tie.After-part6) → headerOf (image-of c) ≡ Yes (tables-of c)
-yes c = sym (at-header c .header .ensures) ∙ at-tables c .tables .given .1
+at-tables c =
+    c .before .before .before .before .before .before .before .before .before .before .before .before .before .before
 
 check-tables-requires : tie.Need-check-tables-requires
 check-tables-requires c κs = let d = c .before in (
@@ -81,15 +87,17 @@ check-tables-requires c κs = let d = c .before in (
     d .before .before .part4 .ensures,
     d .before .part5 .ensures,
     d .part6 .ensures,
-  ) (counts-fit _ (yes d)),
-  omega (arith, plan-room d),
+  ) (counts-fit _ (yes (at-tables d))),
+  omega (arith, plan-room (at-tables d)),
 )
 
 -- what the tables' check says and leaves
-told : (c : tie.After-check-tables) → let d = c .before .before in let i = image-of d in let ts = tables-of d in
+told : (c : tie.After-check-tables) → let d = at-tables (c .before .before) in let i = image-of d in
+    let ts = tables-of d in
     (c .check-tables .result ≡ checkOf i)
-    × Leaves (partOf i (ts .types)) (partOf i (ts .fields)) (partOf i (ts .variables)) (partOf i (ts .procedures))
-    (plan-of d) (c .check-tables .result) (c .check-tables .last .1 .1 .1 .1 .1 .1 .0)
+    × Leaves (versionOf i) (partOf i (ts .types)) (partOf i (ts .fields)) (partOf i (ts .variables))
+    (partOf i (ts .procedures)) (plan-of d) (c .check-tables .result) (c .check-tables .last .1 .1 .1 .1 .1 .1 .1 .0)
+unfolding versionOf
 told c = let d = c .before .before in
     let k = c .check-tables .ensures in
     let answer = rw (
@@ -106,7 +114,7 @@ told c = let d = c .before .before in
       d .before .before .before .part3 .ensures,
       d .before .before .part4 .ensures,
     ) at (k .1) in
-    (answer ∙ sym (header-yes _ (yes d)), left)
+    (answer ∙ sym (header-yes _ (yes (at-tables d))), left)
 
 enum-told : tie.Need-enum-told
 enum-told c = search needs
@@ -120,13 +128,13 @@ same-length c = search needs
 returns : tie.Need-returns
 returns c = let k = c .before .before .before .before in
     let t = told k in
-    (t .0, prepared-no _ (yes (k .before .before)) _ _ _ (c .enum-told2 .given .1) (t .1))
+    (t .0, prepared-no _ (yes (at-tables (k .before .before))) _ _ _ (c .enum-told2 .given .1) (t .1))
 
 fill-bounds-requires : tie.Need-fill-bounds-requires
 fill-bounds-requires c κs = let k = c .before .before .before .before .before in
     let d = k .before .before in (
-      bounds-fit _ _ (header-fits _ _ (yes d)),
-      omega (arith, plan-room d, k .check-tables .kept .1 .1 .1 .1 .1 .1 .0),
+      bounds-fit _ _ (header-fits _ _ (yes (at-tables d))),
+      omega (arith, plan-room (at-tables d), k .check-tables .kept .1 .1 .1 .1 .1 .1 .1 .0),
     )
 
 returns-2 : tie.Need-returns-2
@@ -141,7 +149,7 @@ returns-3 c = let k = c .before .before .before .before .before .before .before 
     let t = told k in
     let accepted = c .before .before .before .before .enum-told .given .1 in
     let filled = c .before .before .fill-bounds .ensures in
-    (sym accepted ∙ t .0, prepared-yes _ (yes (k .before .before)) _ _ _ _ accepted (t .1) filled)
+    (sym accepted ∙ t .0, prepared-yes _ (yes (at-tables (k .before .before))) _ _ _ _ accepted (t .1) filled)
 
 pub prepare-spec : {M : Type 1} → statement M
 prepare-spec =
@@ -150,6 +158,7 @@ prepare-spec =
     header-requires
     enum-known-question
     enum-known-tables
+    shared-slice-read-version
     part-requires
     part-requires-2
     part-requires-3

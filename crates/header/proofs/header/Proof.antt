@@ -9,7 +9,7 @@ use native.Mathlib.Omega.{arith}
 use borrow.Author.Tests.{lt-ltb, le-leb, lt-leb, eq-eqb, ne-eqb}
 use denote.Ref.{now}
 use Rattle.prelude.proofs.Choice.{choose-yes, choose-no, also-yes, also-left, also-right}
-use Rattle.header.specs.Header.{question1, question2, tablesOf, thirdAnswer, headerOf}
+use Rattle.header.specs.Header.{versionOf, question1, question2, tablesOf, thirdAnswer, headerOf}
 use Rattle.header.specs.declared.HeaderAnswer.the-variants.{No}
 use borrow.Author.Needs.{needs}
 use Rattle.header.proofs.header.Statement.{statement}
@@ -36,7 +36,7 @@ abbrev image-of : tie.Else2 → List ℕ
 image-of c = now (c .before .before .before .before .args .image)
 
 first-yes : (c : tie.Else2) → question1 (image-of c) ≡ true
-unfolding question1
+unfolding question1 versionOf
 first-yes c = also-yes (lt-ltb 0 (length (image-of c)) (omega arith)) (eq-eqb _ _ (c .if2 .left))
 
 second-yes : (c : tie.Else4) → question2 (image-of (c .before .before .before)) ≡ true
@@ -49,11 +49,11 @@ returns : tie.Need-returns
 unfolding question1
 returns c = sym (first-no _ (also-left _ (ap (λ (n : ℕ). ltb 0 n) (c .if1 .taken))))
 
-shared-slice-read-if2 : tie.Need-shared-slice-read-if2
-shared-slice-read-if2 c = search needs
+shared-slice-read-version : tie.Need-shared-slice-read-version
+shared-slice-read-version c = search needs
 
 returns-2 : tie.Need-returns-2
-unfolding question1
+unfolding question1 versionOf
 returns-2 c = sym (first-no _ (also-right _ (ne-eqb _ _ (c .if2 .taken))))
 
 returns-3 : tie.Need-returns-3
@@ -73,6 +73,7 @@ returns-4 c = let i = image-of (c .before .before .before) in
     sym (second-no _ (first-yes (c .before .before .before)) (also-right _ other))
 
 tables-of-requires : tie.Need-tables-of-requires
+unfolding versionOf
 tables-of-requires c κs = search needs
 
 enum-told : tie.Need-enum-told
@@ -94,7 +95,7 @@ header-spec =
     tie.close
     (tie.spec
     returns
-    shared-slice-read-if2
+    shared-slice-read-version
     returns-2
     returns-3
     word-at-requires

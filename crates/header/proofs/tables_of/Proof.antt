@@ -7,7 +7,8 @@ use lib.Dec.{eqb}
 use lib.ListN.{length}
 use Rattle.prelude.specs.Choice.{choose}
 use Rattle.prelude.proofs.Choice.{choose-yes, choose-no}
-use Rattle.header.specs.Header.{tableFrom, thenTable, tablesOf}
+use Rattle.image.specs.Versions.{scalarRows}
+use Rattle.header.specs.Header.{versionOf, tableFrom, thenTable, tablesOf}
 use Rattle.header.specs.declared.Table.{Table}
 use Rattle.header.specs.declared.TablesAnswer.{TablesAnswer}
 use Rattle.header.specs.declared.TablesAnswer.the-variants.{Amiss, Six}
@@ -18,6 +19,7 @@ use Rattle.header.proofs.tables_of.Tie as tie
 use Rattle.header.proofs.tables_of.Reads as reads
 use Rattle.header.proofs.tables_of.Lts as lts
 use Rattle.header.proofs.table_from.Reads as table-from-reads
+use Rattle.image.proofs.scalar_rows.Reads as scalar-rows-reads
 
 -- what is left of question 3 once some of the tables are found
 module _ (image : List ℕ) where
@@ -44,11 +46,16 @@ module _ (image : List ℕ) where
 
 -- the image, and the tables found so far, at each place of the code
 abbrev image-of : tie.After-types → List ℕ
-image-of c = now (c .before .before .before .before .args .image)
+image-of c = now (c .before .before .before .before .before .args .image)
+
+first-table : (c : tie.After-table-from) → let image = now (c .before .before .before .args .image) in
+    tableFrom image 5 (scalarRows (versionOf image)) 64 ≡ c .table-from .result
+first-table c =
+    rw (← c .before .before .before .pre .0, ← c .before .scalar-rows .ensures) (sym (c .table-from .ensures))
 
 at-types : (c : tie.After-types) → tablesOf (image-of c) ≡ from-fields (image-of c) (c .types .given .0 .0)
 unfolding tablesOf
-at-types c = found-then _ _ (sym (c .before .before .table-from .ensures) ∙ c .types .given .1)
+at-types c = found-then _ _ (first-table (c .before .before) ∙ c .types .given .1)
 
 at-fields : (c : tie.After-fields) → tablesOf (image-of (c .before .before .before .before)) ≡ from-variables (image-of (c .before .before .before .before)) (c .before .before .before .before .types .given .0 .0) (c .fields .given .0 .0)
 at-fields c = at-types (c .before .before .before .before) ∙ found-then _ _ (sym (c .before .before .table-from2 .ensures) ∙ c .fields .given .1)
@@ -65,6 +72,12 @@ at-nodes c = at-procedures (c .before .before .before .before) ∙ found-then _ 
 at-statements : (c : tie.After-statements) → tablesOf (image-of (c .before .before .before .before .before .before .before .before .before .before .before .before .before .before .before .before .before .before .before .before)) ≡ last (image-of (c .before .before .before .before .before .before .before .before .before .before .before .before .before .before .before .before .before .before .before .before)) (c .before .before .before .before .before .before .before .before .before .before .before .before .before .before .before .before .before .before .before .before .types .given .0 .0) (c .before .before .before .before .before .before .before .before .before .before .before .before .before .before .before .before .fields .given .0 .0) (c .before .before .before .before .before .before .before .before .before .before .before .before .variables .given .0 .0) (c .before .before .before .before .before .before .before .before .procedures .given .0 .0) (c .before .before .before .before .nodes .given .0 .0) (c .statements .given .0 .0)
 at-statements c = at-nodes (c .before .before .before .before) ∙ found-then _ _ (sym (c .before .before .table-from6 .ensures) ∙ c .statements .given .1)
 
+scalar-rows-requires : tie.Need-scalar-rows-requires
+scalar-rows-requires c κs = search needs
+
+cast-scalars : tie.Need-cast-scalars
+cast-scalars c = search needs
+
 table-from-requires : tie.Need-table-from-requires
 table-from-requires c κs = search needs
 
@@ -76,7 +89,7 @@ enum-told c = search needs
 
 returns : tie.Need-returns
 unfolding tablesOf
-returns c = sym (unfit-then _ _ (sym (c .before .before .table-from .ensures) ∙ c .enum-told .given .1))
+returns c = sym (unfit-then _ _ (first-table (c .before .before) ∙ c .enum-told .given .1))
 
 table-from-requires-2 : tie.Need-table-from-requires-2
 table-from-requires-2 c κs = found-within _ _ _ _ (sym (c .before .before .before .table-from .ensures) ∙ c .before .types .given .1)
@@ -148,6 +161,8 @@ pub tables-of-spec : {M : Type 1} → statement M
 tables-of-spec =
     tie.close
     (tie.spec
+    scalar-rows-requires
+    cast-scalars
     table-from-requires
     enum-known-types
     enum-told

@@ -16,10 +16,10 @@ use Rattle.image.proofs.rows_of.Reads as rows-of-reads
 use Rattle.nodes.proofs.node_form.Reads as node-form-reads
 
 abbrev Inv-loop : tie.InvT-loop
-Inv-loop t v n types variables nodes r₀ r = (r ≤ nodes) × KeptIn (nodeKept types variables n) 0 r
+Inv-loop version t v n types variables nodes r₀ r = (r ≤ nodes) × KeptIn (nodeKept version types variables n) 0 r
 
 abbrev μ-loop : tie.MeasureT-loop
-μ-loop t v n types variables nodes r₀ r = nodes - r
+μ-loop version t v n types variables nodes r₀ r = nodes - r
 
 rows-of-requires : tie.Need-rows-of-requires Inv-loop μ-loop
 rows-of-requires c κs = search needs
@@ -43,7 +43,8 @@ returns : tie.Need-returns Inv-loop μ-loop
 unfolding question7
 returns c = let l = c .before .before .before .loop in
     rw (← c .before .before .before .before .rows-of3 .ensures, ← c .before .before .before .before .before .rows-of2 .ensures, ← c .before .before .before .before .before .before .rows-of .ensures)
-    (scan-bad _ _ _ (l .inv .1) (c .before .before .loop-test .taken) (filled-bad _ _ _ _ _ (c .before .row-at .ensures) (c .if1 .taken)))
+    (scan-bad _ _ _ (l .inv .1) (c .before .before .loop-test .taken)
+    (filled-bad _ _ _ _ _ _ (c .before .row-at .ensures) (c .if1 .taken)))
 
 node-form-requires : tie.Need-node-form-requires Inv-loop μ-loop
 node-form-requires c κs = search needs
@@ -56,7 +57,8 @@ unfolding question7
 returns-2 c = let l = c .before .before .before .before .before .loop in
     rw (← c .before .before .before .before .before .before .rows-of3 .ensures, ← c .before .before .before .before .before .before .before .rows-of2 .ensures, ← c .before .before .before .before .before .before .before .before .rows-of .ensures)
     (scan-bad _ _ _ (l .inv .1) (c .before .before .before .before .loop-test .taken)
-    (form-bad _ _ _ _ _ (c .before .before .before .row-at .ensures) (sym (c .before .node-form .ensures) ∙ not-true _ (c .if2 .taken))))
+    (form-bad _ _ _ _ _ _ (c .before .before .before .row-at .ensures)
+    (sym (c .before .node-form .ensures) ∙ not-true _ (c .if2 .taken))))
 
 add-r : tie.Need-add-r Inv-loop μ-loop
 add-r c = omega arith
@@ -66,7 +68,8 @@ loop-less c = omega arith
 
 loop-again : tie.Need-loop-again Inv-loop μ-loop
 loop-again c = let l = c .before .before .before .before .before .loop in
-    let good = node-good _ _ _ _ _ (c .before .before .before .row-at .ensures) (c .before .before .if1 .left) (sym (c .before .node-form .ensures) ∙ not-false _ (c .if2 .left)) in
+    let form = sym (c .before .node-form .ensures) ∙ not-false _ (c .if2 .left) in
+    let good = node-good _ _ _ _ _ _ (c .before .before .before .row-at .ensures) (c .before .before .if1 .left) form in
     (omega arith, kept-next _ _ _ (l .inv .1) good)
 
 returns-3 : tie.Need-returns-3 Inv-loop μ-loop

@@ -47,47 +47,65 @@ argument-kept-requires c κs = search needs
 returns : tie.Need-returns
 unfolding formKept choose
 returns c = let s = c .before .before .before .args in
-    c .constant-kept .ensures ∙ sym (ap (λ j. formKept (s .types) (s .variables) (now (s .n)) (s .r) j (s .row)) (c .before .match .keys1))
+    c .constant-kept .ensures
+    ∙ sym
+    (ap (λ j. formKept (s .version) (s .types) (s .variables) (now (s .n)) (s .r) j (s .row)) (c .before .match .keys1))
 
 returns-2 : tie.Need-returns-2
 unfolding formKept choose
 returns-2 c = let s = c .before .before .before .args in
-    c .variable-kept .ensures ∙ sym (ap (λ j. formKept (s .types) (s .variables) (now (s .n)) (s .r) j (s .row)) (c .before .match .keys2))
+    c .variable-kept .ensures
+    ∙ sym
+    (ap (λ j. formKept (s .version) (s .types) (s .variables) (now (s .n)) (s .r) j (s .row)) (c .before .match .keys2))
 
 returns-3 : tie.Need-returns-3
 unfolding formKept choose
 returns-3 c = let s = c .before .before .before .args in
-    c .field-kept .ensures ∙ sym (ap (λ j. formKept (s .types) (s .variables) (now (s .n)) (s .r) j (s .row)) (c .before .match .keys3))
+    c .field-kept .ensures
+    ∙ sym
+    (ap (λ j. formKept (s .version) (s .types) (s .variables) (now (s .n)) (s .r) j (s .row)) (c .before .match .keys3))
 
 returns-4 : tie.Need-returns-4
 unfolding formKept choose
 returns-4 c = let s = c .before .before .before .args in
-    c .element-kept .ensures ∙ sym (ap (λ j. formKept (s .types) (s .variables) (now (s .n)) (s .r) j (s .row)) (c .before .match .keys4))
+    c .element-kept .ensures
+    ∙ sym
+    (ap (λ j. formKept (s .version) (s .types) (s .variables) (now (s .n)) (s .r) j (s .row)) (c .before .match .keys4))
 
 returns-5 : tie.Need-returns-5
 unfolding formKept choose
 returns-5 c = let s = c .before .before .before .args in
-    c .guard-kept .ensures ∙ sym (ap (λ j. formKept (s .types) (s .variables) (now (s .n)) (s .r) j (s .row)) (c .before .match .keys5))
+    c .guard-kept .ensures
+    ∙ sym
+    (ap (λ j. formKept (s .version) (s .types) (s .variables) (now (s .n)) (s .r) j (s .row)) (c .before .match .keys5))
 
 returns-6 : tie.Need-returns-6
 unfolding formKept choose
 returns-6 c = let s = c .before .before .before .args in
-    c .dyadic-kept .ensures ∙ sym (ap (λ j. formKept (s .types) (s .variables) (now (s .n)) (s .r) j (s .row)) (c .before .match .keys6))
+    c .dyadic-kept .ensures
+    ∙ sym
+    (ap (λ j. formKept (s .version) (s .types) (s .variables) (now (s .n)) (s .r) j (s .row)) (c .before .match .keys6))
 
 returns-7 : tie.Need-returns-7
 unfolding formKept choose
 returns-7 c = let s = c .before .before .before .args in
-    c .monadic-kept .ensures ∙ sym (ap (λ j. formKept (s .types) (s .variables) (now (s .n)) (s .r) j (s .row)) (c .before .match .keys7))
+    c .monadic-kept .ensures
+    ∙ sym
+    (ap (λ j. formKept (s .version) (s .types) (s .variables) (now (s .n)) (s .r) j (s .row)) (c .before .match .keys7))
 
 returns-8 : tie.Need-returns-8
 unfolding formKept choose
 returns-8 c = let s = c .before .before .before .args in
-    c .guard-kept2 .ensures ∙ sym (ap (λ j. formKept (s .types) (s .variables) (now (s .n)) (s .r) j (s .row)) (c .before .match .keys8))
+    c .guard-kept2 .ensures
+    ∙ sym
+    (ap (λ j. formKept (s .version) (s .types) (s .variables) (now (s .n)) (s .r) j (s .row)) (c .before .match .keys8))
 
 returns-9 : tie.Need-returns-9
 unfolding formKept choose
 returns-9 c = let s = c .before .before .before .args in
-    c .argument-kept .ensures ∙ sym (ap (λ j. formKept (s .types) (s .variables) (now (s .n)) (s .r) j (s .row)) (c .before .match .keys9))
+    c .argument-kept .ensures
+    ∙ sym
+    (ap (λ j. formKept (s .version) (s .types) (s .variables) (now (s .n)) (s .r) j (s .row)) (c .before .match .keys9))
 
 returns-10 : tie.Need-returns-10
 unfolding formKept choose

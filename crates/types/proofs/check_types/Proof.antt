@@ -17,10 +17,10 @@ use Rattle.shapes.proofs.shape_kept.Reads as shape-kept-reads
 use Rattle.sizes.proofs.type_size.Reads as type-size-reads
 
 abbrev Inv-loop : tie.InvT-loop
-Inv-loop t f plan₀ n fields r₀ used₀ plan r used = Sofar t f plan₀ plan r used
+Inv-loop version t f plan₀ n fields r₀ used₀ plan r used = Sofar version t f plan₀ plan r used
 
 abbrev μ-loop : tie.MeasureT-loop
-μ-loop t f plan₀ n fields r₀ used₀ plan r used = n - r
+μ-loop version t f plan₀ n fields r₀ used₀ plan r used = n - r
 
 rows-of-requires : tie.Need-rows-of-requires Inv-loop μ-loop
 rows-of-requires c κs = search needs
