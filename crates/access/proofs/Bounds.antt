@@ -8,14 +8,13 @@ use native.Mathlib.Decide.{decLt}
 use Rattle.prelude.specs.Choice.{choose}
 use Rattle.image.specs.Rows.{rowAt, rowsOf}
 use Rattle.image.proofs.Bytes.{row-there}
-use Rattle.shapes.specs.Forms.{form}
 use Rattle.shapes.specs.Sizes.{sizeOf}
-use Rattle.shapes.proofs.Rows.{form-array}
 use Rattle.shapes.proofs.Accepted.{size-small}
 use Rattle.shapes.proofs.Layouts.{layout-length, field-layout, element-layout}
 use Rattle.relations.specs.declared.FieldAnswer.the-variants.{Missing, Field}
 use Rattle.relations.specs.Fields.{fieldOf}
 use Rattle.relations.proofs.Climbing.{planned-other}
+use Rattle.relations.proofs.Fielding.{field-nth}
 use Rattle.frames.specs.Variables.{isGlobal}
 use Rattle.frames.specs.Procedures.{claimedBy, firstVariable}
 use Rattle.frames.proofs.Claiming.{globals-within}
@@ -30,7 +29,6 @@ use Rattle.checker.proofs.Accepted.{AcceptedTables}
 use Rattle.semantics.specs.Layout.{Program, ownerOf, placeOf}
 use Rattle.semantics.specs.Running.{programOf, globalRoom}
 use Rattle.semantics.proofs.Demand3.{program-accepted}
-use Rattle.semantics.proofs.FieldRows.{field-nth}
 use Rattle.semantics.proofs.Objects.{claimed-place}
 use Rattle.access.specs.Ready.{Planned}
 
@@ -86,12 +84,9 @@ module _ {image plan : List ℕ} (p : Planned image plan) where
 
   pub element-low : (r i : ℕ) → rowAt (g .types) r .kind ≡ 3 → i < rowAt (g .types) r .b
       → i * sizeOf (g .types) (g .fields) (rowAt (g .types) r .a) ≤ 4096
-  unfolding form
   element-low r i kind h =
       let low = row-there (g .types) r (omega arith) in
-      let row = rowAt (g .types) r in
-      let is = form-array row kind in
-      let inner = element-layout (g .types) (g .fields) (ok .types) r (row .a) (row .b) i low is h .within in
+      let inner = element-layout (g .types) (g .fields) (ok .types) r i low kind h .within in
       omega (arith, inner, layout-length (g .types) (g .fields) r, size-low r low)
 
   -- ---- variables and procedures

@@ -3,7 +3,7 @@ use mathlib.Core.Path.{_≡_, refl, sym, _∙_, ap, ap₂}
 use mathlib.Core.Bool.{false, _||_}
 use mathlib.Core.List.{List}
 use mathlib.Core.Logic.{_⊎_, inl, inr}
-use Prim.Native.Nat.{ℕ, zero, suc, _+_, _-_, _^_, _≤_, _<_}
+use Prim.Native.Nat.{ℕ, _+_, _-_, _^_, _≤_, _<_}
 use native.Mathlib.Omega.{arith}
 use native.Mathlib.Decide.{decLt}
 use borrow.Author.Tests.{lt-ltb, le-ltb, eq-eqb, ne-eqb}
@@ -16,6 +16,7 @@ use Rattle.prelude.proofs.Bits.{bit-none, bit-or, bit-single}
 use Rattle.prelude.proofs.Choice.{or-choose}
 use Rattle.prelude.proofs.Rec.{rec-eq, rec-rel, below-low, below-high}
 use Rattle.shapes.specs.Forms.{form, baseOf, ofBase}
+use Rattle.shapes.proofs.Rows.{by-bases}
 use Rattle.shapes.proofs.Layouts.{decide}
 use Rattle.relations.specs.Extends.{extendsTo, extends}
 use Rattle.ancestors.specs.Ancestors.{ownBit, wordOf}
@@ -67,13 +68,11 @@ own-bit i low r h =
 base-rel : {X Y : Type 0} {d : X} {e : Y} (R : X → Y → Type 0) (r : ℕ) (g : ℕ → X) (g′ : ℕ → Y) → R d e
     → ((k : ℕ) → k < r → R (g k) (g′ k)) → ((k : ℕ) → r ≤ k → (g k ≡ d) × (g′ k ≡ e))
     → (a : ℕ) → R (ofBase d g a) (ofBase e g′ a)
-unfolding ofBase
-base-rel R r g g′ none low high zero = none
-base-rel R r g g′ none low high (suc b) = go (decLt b r)
+base-rel R r g g′ none low high a = by-bases R a none (λ b is. go b (decLt b r))
   where
-    go : Dec (b < r) → R (g b) (g′ b)
-    go (yes l) = low b l
-    go (no l) = let (p, q) = high b (omega arith) in rw (p, q) none
+    go : (b : ℕ) → Dec (b < r) → R (g b) (g′ b)
+    go b (yes l) = low b l
+    go b (no l) = let (p, q) = high b (omega arith) in rw (p, q) none
 
 module _ (t : List ℕ) (low : ℕ) where
   abbrev step : (ℕ → ℕ) → ℕ → ℕ

@@ -14,7 +14,8 @@ use Rattle.prelude.proofs.Choice.{choose-yes, choose-no, choose-cases, also-tru
 use Rattle.prelude.proofs.Parts.{nth-nil, nth-replicate}
 use Rattle.image.specs.Rows.{rowAt, rowsOf}
 use Rattle.shapes.specs.Sizes.{sizeOf, fieldsOf, offsetOf}
-use Rattle.shapes.proofs.Layouts.{decide}
+use Rattle.shapes.proofs.ByKind.{no-fields}
+use Rattle.shapes.proofs.Layouts.{offset-is, decide}
 use Rattle.relations.specs.declared.FieldAnswer.the-variants.{Field}
 use Rattle.relations.specs.Fields.{fieldOf}
 use Rattle.frames.specs.Variables.{globalsOf}
@@ -29,8 +30,7 @@ use Rattle.semantics.specs.Sound.{Object.of-frame}
 use Rattle.semantics.specs.Sound.{Object.of-older, Object.of-field, Object.of-element, room}
 use Rattle.semantics.proofs.Objects.{room-first, global-kind, object-typed, object-part, room-next, room-globals}
 use Rattle.semantics.proofs.Holding.{part-end}
-use Rattle.semantics.proofs.FieldRows.{field-nth}
-use Rattle.relations.proofs.Fielding.{no-fields}
+use Rattle.relations.proofs.Fielding.{field-nth}
 use Rattle.objects.specs.Begins.{partsOf, Begins, Begins.itself, Begins.in-part, beginsAt}
 use Rattle.objects.proofs.Following.{either, many-before, nth-many}
 use Rattle.objects.proofs.Beginning.{array-parts, other-parts, begins-yes, yes-begins}
@@ -145,11 +145,6 @@ module _ (g : Program)
   abbrev before : ℕ → ℕ → ℕ
   before r n = sum (map size (take n (parts r)))
 
-  offset-is : (r j : ℕ) → offsetOf (g .types) (g .fields) r j
-      ≡ sum (map size (take j (fieldsOf (g .types) (g .fields) r)))
-  unfolding offsetOf
-  offset-is r j = refl
-
   field-there : (r : ℕ) {n u : ℕ} → Nth (fieldsOf (g .types) (g .fields) r) n u
       → fieldOf (g .types) (g .fields) r n ≡ Field (offsetOf (g .types) (g .fields) r n) u
   unfolding fieldOf
@@ -177,7 +172,7 @@ module _ (g : Program)
       go (inr other) =
           let fields = other-parts (g .types) (g .fields) r other in
           let there = field-there r (rw fields at h) in
-          rw (fields, ← offset-is r n) (of-field n o there)
+          rw (fields, ← offset-is (g .types) (g .fields) r n) (of-field n o there)
 
   -- what begins in an object is one
   begins-object : {fs : List Frame} {at r o : ℕ} → Object g fs at r → Within w r o → Object g fs (at + o) w
@@ -236,7 +231,7 @@ module _ (g : Program)
       go (inr other) place nth =
           let fields = other-parts (g .types) (g .fields) r other in
           part-begins r j (rw (← fields) at nth)
-          (ap (λ l. sum (map size (take j l))) fields ∙ sym (place ∙ offset-is r j))
+          (ap (λ l. sum (map size (take j l))) fields ∙ sym (place ∙ offset-is (g .types) (g .fields) r j))
 
   element-begins : (r i : ℕ) → rowAt (g .types) r .kind ≡ 3 → i < rowAt (g .types) r .b
       → Within (rowAt (g .types) r .a) r (i * size (rowAt (g .types) r .a))

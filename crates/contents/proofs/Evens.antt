@@ -1,5 +1,6 @@
 -- What the cells of an accepted type are, by its element, or by its base and own fields.
 use mathlib.Core.Path.{_≡_, refl, sym, _∙_, ap}
+use mathlib.Core.Bool.{true}
 use mathlib.Core.List.{List, [], _++_, map, append-nil, append-assoc}
 use mathlib.Core.Logic.{_⊎_, inl, inr}
 use Prim.Native.Nat.{ℕ, zero, suc, _+_, _-_, _≤_, _<_}
@@ -13,14 +14,17 @@ use Rattle.prelude.specs.Choice.{choose}
 use Rattle.prelude.specs.Cells.{Filled}
 use Rattle.prelude.specs.Parts.{joined}
 use Rattle.prelude.proofs.Cells.{filled-next, filled-at}
+use Rattle.prelude.proofs.Each.{Each, Each.none, Each.more}
 use Rattle.prelude.proofs.Rec.{rec-eq, below-low}
 use Rattle.image.specs.declared.Row.{Row as TableRow}
 use Rattle.image.specs.Rows.{rowAt, rowsOf}
-use Rattle.shapes.specs.Forms.{Form, Form.scalar, formOf, form, ofBase, ownTypes}
-use Rattle.shapes.specs.Sizes.{sizeOf, layoutBy, layoutOf}
-use Rattle.shapes.proofs.Rows.{form-scalar, form-array, form-none, scalar-low, own-step, own-end}
-use Rattle.shapes.proofs.Accepted.{Based, Based.no-base, Based.on-base, Shape, Shape.is-scalar, Shape.is-array}
-use Rattle.shapes.proofs.Accepted.{Shape.is-record, TypesKept, base-agree, fields-agree, layout-is, field-low}
+use Rattle.shapes.specs.Forms.{Form, formOf, form, kindIn, isSingle, ofBase, ownTypes}
+use Rattle.shapes.specs.Sizes.{sizeOf, layoutOf}
+use Rattle.shapes.proofs.Rows.{row-form, array-form, record-form, by-bases, own-step, own-end, own-each}
+use Rattle.shapes.proofs.Accepted.{Based, Shape, TypesKept, based-on, by-shape, base-agree, fields-agree, field-low}
+use Rattle.shapes.proofs.Singles.{single-form, single-small, single-layout}
+use Rattle.shapes.proofs.ByKind.{Sort, Sort.a-single, Sort.an-array, Sort.a-record, sort-of, array-row, array-layout}
+use Rattle.shapes.proofs.ByKind.{record-row, record-kinds}
 use Rattle.shapes.proofs.Layouts.{layout-length, decide}
 use Rattle.types.specs.Question.{TypesAccepted}
 use Rattle.types.proofs.Accepted.{types-kept}
@@ -43,10 +47,11 @@ module _ (g : ℕ → ℕ) (f : List ℕ) (j e k : ℕ) where
 pub even-agree : {t f : List ℕ} {used r : ℕ} {x : Form} (s : ℕ) (g h : ℕ → ℕ) → Shape t f used r x
     → ((b : ℕ) → b < r → g b ≡ h b) → evenBy f g s x ≡ evenBy f h s x
 unfolding evenBy
-even-agree s g h is-scalar same = refl
-even-agree s g h (is-array {element = e} low a b) same = rw (same e low)
-even-agree {f = f} {used} {r} s g h (is-record {count = c} base rows kept) same =
-    rw (base-agree EMPTY g h base same, fields-agree f g h r used c kept same)
+even-agree {f = f} {used} {r} s g h shape same =
+    by-shape (λ x. evenBy f g s x ≡ evenBy f h s x) shape
+    (λ k. refl)
+    (λ e n low. rw (same e low))
+    (λ a c on rows own. rw (base-agree EMPTY g h on same, fields-agree f g h r used c own same))
 
 even-is : (t f : List ℕ) (r : ℕ) {used : ℕ} → Shape t f used r (form t r)
     → evenOf t f r ≡ evenBy f (evenOf t f) r (form t r)
@@ -54,6 +59,26 @@ unfolding evenOf
 even-is t f r shape =
     rec-eq EMPTY (λ even r. evenBy f even r (form t r)) r
     ∙ even-agree r _ _ shape (λ b low. below-low EMPTY r _ b low)
+
+-- ---- by the row's kind
+
+module _ (t f : List ℕ) (kept : TypesKept t f) (r : ℕ) (low : r < rowsOf t) where
+  even-by : {x : Form} → form t r ≡ x → evenOf t f r ≡ evenBy f (evenOf t f) r x
+  even-by e = even-is t f r (kept .row r low .shape) ∙ ap (λ x. evenBy f (evenOf t f) r x) e
+
+  even-single : isSingle t r ≡ true → evenOf t f r ≡ kindIn t r
+  unfolding evenBy
+  even-single one = even-by (single-form t r one)
+
+  even-array : rowAt t r .kind ≡ 3 → evenOf t f r ≡ repeated r (rowAt t r .b) (evenOf t f (rowAt t r .a))
+  unfolding evenBy
+  even-array kind = even-by (array-form t r kind)
+
+  even-record : rowAt t r .kind ≡ 4 → evenOf t f r
+      ≡ owned r (jointFrom (ofBase EMPTY (evenOf t f) (rowAt t r .a))
+      (map (evenOf t f) (ownTypes f (rowAt t r .b) (rowAt t r .c))))
+  unfolding evenBy
+  even-record kind = even-by (record-form t r kind)
 
 -- ---- lists of one kind
 
@@ -146,22 +171,19 @@ module _ (t f : List ℕ) where
           rw (ne-eqb k EMPTY e, ne-eqb j EMPTY b, eq-eqb k j c, le-ltb k EMPTY (omega arith)) told-mixed
       go (inr e) (inr b) (inr c) d = rw (ne-eqb k EMPTY e, ne-eqb j EMPTY b, ne-eqb k j c) told-mixed
 
-  -- and then n fields from row j on
-  told-fields : {m k : ℕ} (n j : ℕ) (l : List ℕ)
-      → ((i : ℕ) → j ≤ i → i < j + n → Told m (evenOf t f (rowAt f i .a)) (layoutOf t f (rowAt f i .a))) → Told m k l
-      → Told m (jointFrom k (map (evenOf t f) (ownTypes f j n))) (l ++ joined (map (layoutOf t f) (ownTypes f j n)))
-  unfolding jointFrom ownTypes joined
-  told-fields zero j l each p = rw (append-nil l) p
-  told-fields (suc n) j l each p =
-      rw (← append-assoc l (layoutOf t f (rowAt f j .a)) (joined (map (layoutOf t f) (ownTypes f (j + 1) n))))
-      (told-fields n (j + 1) (l ++ layoutOf t f (rowAt f j .a)) (λ i a b. each i (omega arith) (omega arith))
-      (told-joint l (layoutOf t f (rowAt f j .a)) p (each j (omega arith) (omega arith))))
+  -- and then those of these types
+  told-fields : {m k : ℕ} (l : List ℕ) {types : List ℕ} → Each (λ u. Told m (evenOf t f u) (layoutOf t f u)) types
+      → Told m k l
+      → Told m (jointFrom k (map (evenOf t f) types)) (l ++ joined (map (layoutOf t f) types))
+  unfolding jointFrom joined
+  told-fields l none p = rw (append-nil l) p
+  told-fields l (more {x = u} {l = types} here each) p =
+      rw (← append-assoc l (layoutOf t f u) (joined (map (layoutOf t f) types)))
+      (told-fields (l ++ layoutOf t f u) each (told-joint l (layoutOf t f u) p here))
 
   told-base : {r a : ℕ} → Based t r a → ((b : ℕ) → b < r → Told r (evenOf t f b) (layoutOf t f b))
       → Told r (ofBase EMPTY (evenOf t f) a) (ofBase [] (layoutOf t f) a)
-  unfolding ofBase
-  told-base no-base each = told-empty
-  told-base (on-base {b = b} low kind) each = each b low
+  told-base {r} {a} on each = by-bases (λ k l. Told r k l) a told-empty (λ b e. each b (based-on on e .0))
 
   -- ---- a row
 
@@ -187,7 +209,8 @@ module _ (t f : List ℕ) where
 
   -- ---- a row of an accepted table
 
-  module _ (few : rowsOf t ≤ 64) (r : ℕ) (low : r < rowsOf t) (ih : (b : ℕ) → b < r → Row b) where
+  module _ (few : rowsOf t ≤ 64) (kept : TypesKept t f) (r : ℕ) (low : r < rowsOf t)
+      (ih : (b : ℕ) → b < r → Row b) where
     below : (b : ℕ) → b < r → Told r (evenOf t f b) (layoutOf t f b)
     below b h = told-more (omega arith) (ih b h .told)
 
@@ -203,15 +226,15 @@ module _ (t f : List ℕ) where
         go (inl one) b c =
             row-as (is ∙ rw (eq-eqb n 1 one)) (layout ∙ rw one (once (layoutOf t f e))) (told-more (omega arith) p)
             (ih e h .settled)
-        go (inr more) (yes b) (yes c) =
-            row-as (is ∙ rw (ne-eqb n 1 more, lt-ltb _ PARTS b)) layout
+        go (inr several) (yes b) (yes c) =
+            row-as (is ∙ rw (ne-eqb n 1 several, lt-ltb _ PARTS b)) layout
             (told-low c (even-many _ n (layoutOf t f e) (p .even c))) (ih e h .settled)
-        go (inr more) (yes b) (no c) =
+        go (inr several) (yes b) (no c) =
             let empty : evenOf t f e ≡ EMPTY = omega arith in
-            row-as (is ∙ rw (ne-eqb n 1 more, lt-ltb _ PARTS b) empty) (layout ∙ none-many n (p .none empty)) told-empty
-            (λ e. absurd (omega arith))
-        go (inr more) (no b) c =
-            row-own r (omega arith) (is ∙ rw (ne-eqb n 1 more, le-ltb (evenOf t f e) PARTS (omega arith)))
+            row-as (is ∙ rw (ne-eqb n 1 several, lt-ltb _ PARTS b) empty) (layout ∙ none-many n (p .none empty))
+            told-empty (λ e. absurd (omega arith))
+        go (inr several) (no b) c =
+            row-own r (omega arith) (is ∙ rw (ne-eqb n 1 several, le-ltb (evenOf t f e) PARTS (omega arith)))
 
     row-record : (a first count : ℕ) → Based t r a
         → ((i : ℕ) → first ≤ i → i < first + count → rowAt f i .a < r)
@@ -229,26 +252,27 @@ module _ (t f : List ℕ) where
         go (inr other) =
             row-as (is ∙ rw (ne-eqb k MIXED other)) layout
             (told-more (omega arith)
-            (told-fields count first _ (λ i x y. below (rowAt f i .a) (lows i x y)) (told-base on below)))
+            (told-fields _ (own-each f first count (λ i x y. below (rowAt f i .a) (lows i x y))) (told-base on below)))
             other
 
-    row-shape : {used : ℕ} {x : Form} → ((k : ℕ) → x ≡ scalar k → k < EMPTY) → Shape t f used r x
-        → evenOf t f r ≡ evenBy f (evenOf t f) r x → layoutOf t f r ≡ layoutBy f (layoutOf t f) x → Row r
-    unfolding evenBy layoutBy
-    row-shape small is-scalar is layout =
-        let kind = small r refl in
-        row-as is layout (told-low kind refl) (λ e. absurd (omega arith))
-    row-shape small (is-array {element = e} {n = n} h least most) is layout = row-array e n h is layout
-    row-shape {used} small (is-record {base = a} {count = c} on rows own) is layout =
-        row-record a used c on (λ i x y. field-low f r i (own .each i x y)) is layout
+    row-sort : Sort t r → Row r
+    row-sort (a-single one) =
+        row-as (even-single t f kept r low one) (single-layout t f kept r one) (told-low (single-small t r one) refl)
+        (λ e. let small = single-small t r one in absurd (omega arith))
+    row-sort (an-array kind) =
+        row-array (rowAt t r .a) (rowAt t r .b) (array-row t f kept r low kind .low) (even-array t f kept r low kind)
+        (array-layout t f kept r low kind)
+    row-sort (a-record kind) =
+        let is = record-row t f kept r low kind in
+        row-record (rowAt t r .a) (rowAt t r .b) (rowAt t r .c) (is .on)
+        (λ i x y. field-low f r i (is .own .each i x y)) (even-record t f kept r low kind)
+        (record-kinds t f kept r low kind)
 
   module _ (few : rowsOf t ≤ 64) (kept : TypesKept t f) where
     rows-by : (n r : ℕ) → r < n → r < rowsOf t → Row r
     rows-by zero r h low = absurd (omega arith)
     rows-by (suc n) r h low =
-        let shape = kept .row r low .shape in
-        row-shape few r low (λ b l. rows-by n b (omega arith) (omega arith)) (λ k e. scalar-low t r e) shape
-        (even-is t f r shape) (layout-is t f r shape)
+        row-sort few kept r low (λ b l. rows-by n b (omega arith) (omega arith)) (sort-of t f kept r low)
 
     row : (r : ℕ) → r < rowsOf t → Row r
     row r low = rows-by (suc r) r (omega arith) low
@@ -273,36 +297,30 @@ module _ (t f : List ℕ) where
 
       -- which is a record or an array, whose element is such a type, too
       module _ (own : evenOf t f r ≡ PARTS + r) where
-        is-even : evenOf t f r ≡ evenBy f (evenOf t f) r (form t r)
-        is-even = even-is t f r (kept .row r low .shape)
-
         pub own-array : (rowAt t r .kind ≡ 4 → ⊥) → rowAt t r .kind ≡ 3
-        unfolding form evenBy
-        own-array other = go (decLt (rowAt t r .kind) 3) (decLt 4 (rowAt t r .kind))
+        own-array other = go (sort-of t f kept r low)
           where
-            go : Dec (rowAt t r .kind < 3) → Dec (4 < rowAt t r .kind) → rowAt t r .kind ≡ 3
-            go (yes h) d =
-                let is : evenOf t f r ≡ rowAt t r .kind = is-even ∙ rw (form-scalar (rowAt t r) h) in
-                absurd (omega (arith, own, is))
-            go (no h) (yes d) =
-                let is : evenOf t f r ≡ EMPTY = is-even ∙ rw (form-none (rowAt t r) d) in
-                absurd (omega (arith, own, is))
-            go (no h) (no d) = omega arith
+            go : Sort t r → rowAt t r .kind ≡ 3
+            go (a-single one) =
+                let small = single-small t r one in
+                absurd (omega (arith, own, even-single t f kept r low one))
+            go (an-array kind) = kind
+            go (a-record kind) = absurd (other kind)
 
         pub own-element : rowAt t r .kind ≡ 3 → PARTS ≤ evenOf t f (rowAt t r .a)
-        unfolding form evenBy repeated choose
+        unfolding repeated choose
         own-element kind = go (decLt (evenOf t f (rowAt t r .a)) PARTS) (decide (rowAt t r .b) 1)
           where
             is : evenOf t f r ≡ repeated r (rowAt t r .b) (evenOf t f (rowAt t r .a))
-            is = is-even ∙ rw (form-array (rowAt t r) kind)
+            is = even-array t f kept r low kind
 
             go : Dec (evenOf t f (rowAt t r .a) < PARTS) → (rowAt t r .b ≡ 1) ⊎ (rowAt t r .b ≡ 1 → ⊥)
                 → PARTS ≤ evenOf t f (rowAt t r .a)
             go (yes h) (inl one) =
                 let same : evenOf t f r ≡ evenOf t f (rowAt t r .a) = is ∙ rw (eq-eqb _ 1 one) in
                 absurd (omega (arith, own, same))
-            go (yes h) (inr more) =
-                let same : evenOf t f r ≡ evenOf t f (rowAt t r .a) = is ∙ rw (ne-eqb _ 1 more, lt-ltb _ PARTS h) in
+            go (yes h) (inr several) =
+                let same : evenOf t f r ≡ evenOf t f (rowAt t r .a) = is ∙ rw (ne-eqb _ 1 several, lt-ltb _ PARTS h) in
                 absurd (omega (arith, own, same))
             go (no h) d = omega arith
 
@@ -311,10 +329,9 @@ module _ (t f : List ℕ) where
 pub fill-next : (t f old even : List ℕ) (r kind : ℕ) (row : TableRow) → TypesAccepted t f → r < rowsOf t
     → r < length even → Filled 0 r (evenOf t f) old even → row ≡ rowAt t r
     → kind ≡ evenBy f (λ u. getD even u 0) r (formOf row) → Filled 0 (r + 1) (evenOf t f) old (set even r kind)
-unfolding form
 fill-next t f old even r kind row accepted low room filled this is =
     let shape = types-kept t f accepted .row r low .shape in
     rw (add-one r)
     (filled-next 0 r (evenOf t f) old even r kind filled (omega arith) room
-    (is ∙ ap (λ (x : TableRow). evenBy f (λ u. getD even u 0) r (formOf x)) this
+    (is ∙ ap (λ x. evenBy f (λ u. getD even u 0) r x) (row-form t r this)
     ∙ even-agree r _ _ shape (λ b h. filled-at filled b h) ∙ sym (even-is t f r shape)))

@@ -1,7 +1,7 @@
 -- The cells of an object, part by part.
-use mathlib.Core.Path.{_≡_, refl, sym, _∙_, ap}
+use mathlib.Core.Path.{_≡_, sym, _∙_, ap}
 use mathlib.Core.Bool.{Bool, true, false}
-use mathlib.Core.List.{List, [], _++_, map}
+use mathlib.Core.List.{List, [], map}
 use Prim.Native.Nat.{ℕ, zero, suc, _+_, _-_, _*_, _≤_, _<_}
 use native.Mathlib.Nat.{add-sub-cancel-left, suc-mul}
 use native.Mathlib.Omega.{arith}
@@ -12,12 +12,12 @@ use Rattle.prelude.specs.Parts.{joined, sum}
 use Rattle.prelude.proofs.Choice.{also-left, also-pass}
 use Rattle.image.specs.declared.Row.{Row}
 use Rattle.image.specs.Rows.{rowAt, rowsOf}
-use Rattle.shapes.specs.Forms.{form, ofBase, ownTypes}
-use Rattle.shapes.specs.Sizes.{sizeBy, sizeOf, layoutBy, layoutOf}
-use Rattle.shapes.proofs.Rows.{form-array, form-record, of-base, own-step, own-end}
-use Rattle.shapes.proofs.Accepted.{Based, Based.no-base, Based.on-base, TypesKept, IsArray, array-is, record-is}
-use Rattle.shapes.proofs.Accepted.{base-agree, size-is, layout-is, field-low}
-use Rattle.shapes.proofs.Layouts.{layout-length}
+use Rattle.shapes.specs.Forms.{ofBase, ownTypes}
+use Rattle.shapes.specs.Sizes.{sizeOf, layoutOf}
+use Rattle.shapes.proofs.Rows.{of-no-base, of-base, own-step, own-end}
+use Rattle.shapes.proofs.Accepted.{Based, TypesKept, IsArray, base-most, base-agree, field-low}
+use Rattle.shapes.proofs.ByKind.{array-row, array-size, array-layout, record-row, record-size, record-kinds}
+use Rattle.shapes.proofs.Layouts.{length-based, layout-length}
 use Rattle.objects.specs.Looking.{LowTypes}
 use Rattle.objects.proofs.Records.{kept, held-size}
 use Rattle.asking.specs.State.{valuesKept}
@@ -25,15 +25,6 @@ use Rattle.contents.specs.Kinds.{EMPTY, PARTS, evenOf}
 use Rattle.contents.specs.Reading.{Readable, Inside}
 use Rattle.contents.proofs.Keeping.{kept-then}
 use Rattle.contents.proofs.Evens.{even-run, even-none, even-core, own-array, own-element}
-
-base-length : (t f : List ℕ) (a : ℕ) → length (ofBase [] (layoutOf t f) a) ≡ ofBase 0 (sizeOf t f) a
-unfolding ofBase
-base-length t f zero = refl
-base-length t f (suc b) = layout-length t f b
-
-base-most : {t : List ℕ} {r a : ℕ} → Based t r a → a ≤ r
-base-most no-base = omega arith
-base-most (on-base low kind) = omega arith
 
 module _ (t f : List ℕ) (store : List ℤ) where
   -- the cells of type row r are those of type row s, which is in several parts
@@ -144,19 +135,16 @@ module _ {t f plan even : List ℕ} {store : List ℤ} (ok : Readable t f plan e
       array-kind = own-array t f (ok .typed .few) types r (inside .row) own (rw this at other)
 
       is-array : IsArray r (row .a) (row .b)
-      unfolding form
-      is-array = rw this (array-is (types .row r (inside .row) .shape) (form-array (rowAt t r) array-kind))
+      is-array = rw this (array-row t f types r (inside .row) array-kind)
 
       pub element-there : row .a < rowsOf t
       element-there = let low = is-array .low in let h = inside .row in omega arith
 
       whole : layoutOf t f r ≡ joined (replicate (row .b) (layoutOf t f (row .a)))
-      unfolding form layoutBy
-      whole = layout-is t f r (types .row r (inside .row) .shape) ∙ rw (form-array (rowAt t r) array-kind, this)
+      whole = rw this (array-layout t f types r (inside .row) array-kind)
 
       all : sizeOf t f r ≡ row .b * sizeOf t f (row .a)
-      unfolding form sizeBy
-      all = size-is t f r (types .row r (inside .row) .shape) ∙ rw (form-array (rowAt t r) array-kind, this)
+      all = rw this (array-size t f types r (inside .row) array-kind)
 
       pub element-parts : {kind : ℕ} → kind ≡ getD even (row .a) 0 → PARTS ≤ kind
       element-parts k =
@@ -226,17 +214,10 @@ module _ {t f plan even : List ℕ} {store : List ℤ} (ok : Readable t f plan e
     -- ---- a record
 
     pub record-parts : {row : Row} → row ≡ rowAt t r → row .kind ≡ 4 → Parts t f store r a row
-    unfolding form sizeBy layoutBy
     record-parts {row} this kind =
         let here : rowAt t r .kind ≡ 4 = rw this at kind in
-        let shape = types .row r (inside .row) .shape in
-        let is = record-is shape (form-record (rowAt t r) here) in
-        let size : sizeOf t f r ≡ ofBase 0 (sizeOf t f) (rowAt t r .a)
-        + sum (map (sizeOf t f) (ownTypes f (rowAt t r .b) (rowAt t r .c))) =
-        size-is t f r shape ∙ rw (form-record (rowAt t r) here) in
-        let layout : layoutOf t f r ≡ ofBase [] (layoutOf t f) (rowAt t r .a)
-        ++ joined (map (layoutOf t f) (ownTypes f (rowAt t r .b) (rowAt t r .c))) =
-        layout-is t f r shape ∙ rw (form-record (rowAt t r) here) in
+        let is = record-row t f types r (inside .row) here in
+        let size = record-size t f types r (inside .row) here in
         let room = inside .room in
         rw this (record {
           base = base-most (is .on);
@@ -244,17 +225,16 @@ module _ {t f plan even : List ℕ} {store : List ℤ} (ok : Readable t f plan e
           there = is .within;
           lows = record { within = is .within; each = λ j x y. field-low f r j (is .own .each j x y) };
           own-room = omega (arith, size);
-          both = ap (λ (l : List ℕ). Held l a) layout
+          both = ap (λ (l : List ℕ). Held l a) (record-kinds t f types r (inside .row) here)
               ∙ kept-then (ofBase [] (layoutOf t f) (rowAt t r .a))
               (joined (map (layoutOf t f) (ownTypes f (rowAt t r .b) (rowAt t r .c)))) store a _
-              (base-length t f (rowAt t r .a));
+              (length-based (sizeOf t f) (layoutOf t f) (layout-length t f) (rowAt t r .a));
         })
 
     pub before-is : {row : Row} {before : ℕ} → row ≡ rowAt t r → row .kind ≡ 4
         → before ≡ ofBase 0 (λ u. getD plan u 0) (row .a) → before ≡ ofBase 0 (sizeOf t f) (row .a)
-    unfolding form
     before-is {row} this kind e =
-        let is = record-is (types .row r (inside .row) .shape) (form-record (rowAt t r) (rw this at kind)) in
+        let is = record-row t f types r (inside .row) (rw this at kind) in
         let h = inside .row in
         let on : Based t r (row .a) = rw this (is .on) in
         e ∙ base-agree {r = r} 0 (λ u. getD plan u 0) (sizeOf t f) on (λ b low. held-size (ok .typed) b (omega arith))
@@ -281,8 +261,8 @@ module _ {t f plan even : List ℕ} {store : List ℤ} (ok : Readable t f plan e
   }
 
   pub base-none : {b : ℕ} (a : ℕ) → b ≡ 0 → true ≡ Held (ofBase [] (layoutOf t f) b) a
-  unfolding ofBase valuesKept
-  base-none a none = rw none
+  unfolding valuesKept
+  base-none {b} a none = rw (of-no-base [] (layoutOf t f) b none)
 
   pub base-some : {b : ℕ} (a : ℕ) {x : Bool} → 0 < b → x ≡ Held (layoutOf t f (b - 1)) a
       → x ≡ Held (ofBase [] (layoutOf t f) b) a

@@ -15,8 +15,8 @@ use Rattle.image.specs.declared.Row.{Row}
 use Rattle.image.specs.Rows.{rowAt, rowsOf}
 use Rattle.shapes.specs.Forms.{ofBase}
 use Rattle.shapes.specs.Sizes.{fieldsOf}
-use Rattle.shapes.proofs.Rows.{of-base}
-use Rattle.shapes.proofs.Accepted.{Based, Based.no-base, Based.on-base}
+use Rattle.shapes.proofs.Rows.{of-no-base, of-base, of-row, by-bases}
+use Rattle.shapes.proofs.Accepted.{Based, based-on}
 use Rattle.objects.specs.Begins.{among, beginsAt}
 use Rattle.objects.specs.Looking.{held, Typed, Edges, saidOfBase}
 use Rattle.objects.proofs.Beginning.{itself-none}
@@ -27,8 +27,8 @@ use Rattle.objects.proofs.Deciding.{part-record, by-parts, by-inner}
 
 module _ (s : List ℕ) (w a : ℕ) where
   pub said-none : a ≡ 0 → false ≡ saidOfBase s w a
-  unfolding saidOfBase ofBase
-  said-none e = rw e
+  unfolding saidOfBase
+  said-none e = sym (of-no-base false (λ u. choose (eqb u w) false (bitOf (getD s u 0) w)) a e)
 
   pub said-some : 0 < a → saidOfBase s w a ≡ choose (eqb (a - 1) w) false (bitOf (getD s (a - 1) 0) w)
   unfolding saidOfBase
@@ -47,18 +47,21 @@ module _ {t f plan : List ℕ} (typed : Typed t f plan) (w : ℕ) where
   said-is : {r a : ℕ} → r < rowsOf t → Based t r a → (s : List ℕ) (o : ℕ)
       → ((u : ℕ) → u < r → a ≡ suc u → bitOf (getD s u 0) w ≡ beginsAt t f w u o)
       → saidOfBase s w a ≡ among (beginsAt t f w) (held plan) (ofBase [] (fieldsOf t f) a) o
-  unfolding saidOfBase ofBase among
-  said-is low no-base s o table = refl
-  said-is low (on-base {b = b} l kind) s o table = go (eqb b w) refl
+  unfolding saidOfBase among
+  said-is {r} {a} low on s o table =
+      by-bases (λ x l. x ≡ among (beginsAt t f w) (held plan) l o) a refl (λ b is. go b is (eqb b w) refl)
     where
-      go : (e : Bool) → eqb b w ≡ e → choose (eqb b w) false (bitOf (getD s b 0) w)
+      go : (b : ℕ) → a ≡ suc b → (e : Bool) → eqb b w ≡ e → choose (eqb b w) false (bitOf (getD s b 0) w)
           ≡ among (beginsAt t f w) (held plan) (fieldsOf t f b) o
-      go true e =
+      go b is true e =
+          let (l, kind) = based-on on is in
           let same : b ≡ w = eqb-true b w e in
           choose-yes _ _ _ e
           ∙ sym (part-record typed b (omega arith) refl (beginsAt t f w) o kind
           ∙ rw same (itself-none t f (kept typed) w (held plan) o (rw (← same) (omega arith))))
-      go false e = choose-no _ _ _ e ∙ table b l refl ∙ fields-by b (omega arith) kind o (inl e)
+      go b is false e =
+          let (l, kind) = based-on on is in
+          choose-no _ _ _ e ∙ table b l is ∙ fields-by b (omega arith) kind o (inl e)
 
   -- ---- in the record in row r
 
@@ -86,8 +89,8 @@ module _ {t f plan : List ℕ} (typed : Typed t f plan) (w : ℕ) where
       said-start first = said-is low based starts o (λ u l e. edges .start u l ∙ rw first)
 
       pub said-end : o ≡ ofBase 0 (held plan) (row .a) → saidOfBase ends w (row .a) ≡ inner
-      unfolding ofBase
-      said-end last = said-is low based ends o (λ u l e. edges .end u l ∙ rw (last, e))
+      said-end last =
+          said-is low based ends o (λ u l e. edges .end u l ∙ rw (last, of-row 0 (held plan) e))
 
       -- by the base's own word: where it has cells, none of its type begins at its end
       pub base-end : 0 < row .a → 0 < o → o ≡ ofBase 0 (held plan) (row .a)

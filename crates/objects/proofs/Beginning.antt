@@ -3,36 +3,24 @@ use mathlib.Core.Path.{_≡_, refl, sym, _∙_, ap}
 use mathlib.Core.Bool.{Bool, true, false}
 use mathlib.Core.List.{List, [], map}
 use mathlib.Core.Logic.{_⊎_, inl, inr, ⊎-elim}
-use Prim.Native.Nat.{ℕ, zero, suc, _+_, _*_, _≤_, _<_}
+use Prim.Native.Nat.{ℕ, zero, suc, _≤_, _<_}
 use native.Mathlib.Omega.{arith}
-use native.Mathlib.Decide.{decLt}
 use borrow.Author.Tests.{eqb-true, eq-eqb, ne-eqb}
 use lib.Dec.{eqb}
 use lib.ListN.{replicate}
 use Rattle.prelude.specs.Choice.{choose, _also_}
-use Rattle.prelude.specs.Parts.{sum, Nth, Nth.here, Nth.there}
+use Rattle.prelude.specs.Parts.{sum, Nth}
 use Rattle.prelude.proofs.Choice.{choose-yes, choose-no, choose-cases, also-true, also-yes, also-left, also-right}
+use Rattle.prelude.proofs.Each.{each-nth}
 use Rattle.prelude.proofs.Rec.{rec-eq, below-low}
-use Rattle.prelude.proofs.Parts.{nth-nil, nth-split}
 use Rattle.image.specs.Rows.{rowAt, rowsOf}
-use Rattle.shapes.specs.Forms.{form, ofBase, ownTypes}
-use Rattle.shapes.specs.Sizes.{sizeBy, sizeOf, fieldsOf}
-use Rattle.shapes.proofs.Rows.{form-scalar, form-array, form-record, form-none}
-use Rattle.shapes.proofs.Accepted.{Based, Based.no-base, Based.on-base, TypesKept, IsArray, IsRecord}
-use Rattle.shapes.proofs.Accepted.{record-is, array-is, size-is, field-low}
-use Rattle.shapes.proofs.Layouts.{decide}
-use Rattle.relations.proofs.Fielding.{fields-of, no-fields, size-fields}
+use Rattle.shapes.specs.Sizes.{sizeOf, fieldsOf}
+use Rattle.shapes.proofs.Accepted.{TypesKept}
+use Rattle.shapes.proofs.ByKind.{array-row, array-size, no-fields, fields-low}
+use Rattle.shapes.proofs.Layouts.{size-fields, decide}
 use Rattle.objects.specs.Begins.{partsOf, Begins, Begins.itself, Begins.in-part, among, beginsAt}
 use Rattle.objects.proofs.Following.{either, many-size, nth-many, among-none, among-past, among-agree}
 use Rattle.objects.proofs.Following.{among-some, some-among}
-
--- a field's type stands in its row
-nth-own : (f : List ℕ) (n k : ℕ) {i u : ℕ} → Nth (ownTypes f k n) i u
-    → (j : ℕ) × (k ≤ j) × (j < k + n) × (u ≡ rowAt f j .a)
-unfolding ownTypes
-nth-own f zero k h = absurd (nth-nil h)
-nth-own f (suc n) k here = (k, omega arith, omega arith, refl)
-nth-own f (suc n) k (there x) = let (j, low, high, e) = nth-own f n (k + 1) x in (j, omega arith, omega arith, e)
 
 -- ---- parts by the kind
 
@@ -46,69 +34,18 @@ module _ (t f : List ℕ) (r : ℕ) where
   other-parts other = choose-no _ _ _ (ne-eqb _ 3 other)
 
 module _ (t f : List ℕ) (kept : TypesKept t f) where
-  -- ---- rows of an accepted table
-
-  pub array-row : (r : ℕ) → r < rowsOf t → rowAt t r .kind ≡ 3 → IsArray r (rowAt t r .a) (rowAt t r .b)
-  unfolding form
-  array-row r low kind = array-is (kept .row r low .shape) (form-array (rowAt t r) kind)
-
-  pub record-row : (r : ℕ) → r < rowsOf t → rowAt t r .kind ≡ 4
-      → (used : ℕ) × IsRecord t f used r (rowAt t r .a) (rowAt t r .b) (rowAt t r .c)
-  unfolding form
-  record-row r low kind = (_, record-is (kept .row r low .shape) (form-record (rowAt t r) kind))
-
   -- ---- a part's type stands in a lower row
-
-  pub based-low : {r a n u : ℕ} → Based t r a → ((b m v : ℕ) → b < r → Nth (fieldsOf t f b) m v → v < b)
-      → Nth (ofBase [] (fieldsOf t f) a) n u → u < r
-  unfolding ofBase
-  based-low no-base ih h = absurd (nth-nil h)
-  based-low (on-base {b = b} low kind) ih h = let l = ih b _ _ low h in omega arith
-
-  fields-by : (m r : ℕ) → r < m → r < rowsOf t → {n u : ℕ} → Nth (fieldsOf t f r) n u → u < r
-  fields-by zero r h low x = absurd (omega arith)
-  fields-by (suc m) r h low {n} {u} x =
-      go (decide (rowAt t r .kind) 4) (λ b k v l y. fields-by m b (omega arith) (omega arith) y)
-    where
-      go : (rowAt t r .kind ≡ 4) ⊎ (rowAt t r .kind ≡ 4 → ⊥)
-          → ((b k v : ℕ) → b < r → Nth (fieldsOf t f b) k v → v < b) → u < r
-      go (inl kind) ih =
-          let (used, is) = record-row r low kind in
-          ⊎-elim (λ y. based-low (is .on) ih y)
-          (λ y.
-          let (j, least, most, e) = nth-own f _ _ (y .1) in
-          let k = field-low f r j (is .own .each j least most) in
-          omega (arith, e))
-          (nth-split _ _ (rw (fields-of t f kept r low kind) at x))
-      go (inr other) ih = absurd (nth-nil (rw (no-fields t f kept r low other) at x))
-
-  pub fields-low : (r : ℕ) → r < rowsOf t → {n u : ℕ} → Nth (fieldsOf t f r) n u → u < r
-  fields-low r low x = fields-by (suc r) r (omega arith) low x
 
   pub parts-low : (r : ℕ) → r < rowsOf t → {n u : ℕ} → Nth (partsOf t f r) n u → u < r
   parts-low r low {n} {u} x = go (decide (rowAt t r .kind) 3)
     where
       go : (rowAt t r .kind ≡ 3) ⊎ (rowAt t r .kind ≡ 3 → ⊥) → u < r
       go (inl kind) =
-          let is = array-row r low kind .low in
+          let is = array-row t f kept r low kind .low in
           omega (arith, nth-many (rowAt t r .b) (rowAt t r .a) (rw (array-parts t f r kind) at x))
-      go (inr other) = fields-by (suc r) r (omega arith) low (rw (other-parts t f r other) at x)
+      go (inr other) = each-nth (fields-low t f kept r low) (rw (other-parts t f r other) at x)
 
   -- ---- the parts have no more cells than the whole
-
-  pub array-size : (r : ℕ) → r < rowsOf t → rowAt t r .kind ≡ 3
-      → sizeOf t f r ≡ rowAt t r .b * sizeOf t f (rowAt t r .a)
-  unfolding form sizeBy
-  array-size r low kind = size-is t f r (kept .row r low .shape) ∙ rw (form-array (rowAt t r) kind)
-
-  -- what is neither array nor record has one cell at most
-  pub scalar-size : (r : ℕ) → r < rowsOf t → (rowAt t r .kind ≡ 3 → ⊥) → (rowAt t r .kind ≡ 4 → ⊥) → sizeOf t f r ≤ 1
-  unfolding form sizeBy
-  scalar-size r low no-array no-record = rw (size-is t f r (kept .row r low .shape)) (go (decLt (rowAt t r .kind) 3))
-    where
-      go : Dec (rowAt t r .kind < 3) → sizeBy f (sizeOf t f) (form t r) ≤ 1
-      go (yes k) = rw (form-scalar (rowAt t r) k) (omega arith)
-      go (no k) = rw (form-none (rowAt t r) (omega arith)) (omega arith)
 
   parts-size : (r : ℕ) → r < rowsOf t → sum (map (sizeOf t f) (partsOf t f r)) ≤ sizeOf t f r
   parts-size r low = go (decide (rowAt t r .kind) 3) (decide (rowAt t r .kind) 4)
@@ -120,7 +57,7 @@ module _ (t f : List ℕ) (kept : TypesKept t f) where
           → sum (map (sizeOf t f) (partsOf t f r)) ≤ sizeOf t f r
       go (inl kind) d =
           rw (array-parts t f r kind)
-          (omega (arith, many-size (sizeOf t f) (rowAt t r .a) (rowAt t r .b), array-size r low kind))
+          (omega (arith, many-size (sizeOf t f) (rowAt t r .a) (rowAt t r .b), array-size t f kept r low kind))
       go (inr other) (inl kind) = rw (other-parts t f r other) (omega (arith, size-fields t f kept r low kind))
       go (inr other) (inr no-record) =
           rw (other-parts t f r other, no-fields t f kept r low no-record) (omega (arith, none))

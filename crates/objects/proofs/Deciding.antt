@@ -2,7 +2,6 @@
 use mathlib.Core.Path.{_≡_, refl, sym, _∙_, ap}
 use mathlib.Core.Bool.{Bool, true, false}
 use mathlib.Core.List.{List}
-use mathlib.Core.Logic.{_⊎_, inl, inr}
 use Prim.Native.Nat.{ℕ, _+_, _*_, _≤_, _<_}
 use native.Mathlib.Nat.{mul-zero, lt-of-mul-lt-mul-left}
 use native.Mathlib.Omega.{arith}
@@ -15,12 +14,13 @@ use Rattle.prelude.proofs.Choice.{choose-no, also-right}
 use Rattle.image.specs.declared.Row.{Row}
 use Rattle.image.specs.Rows.{rowAt, rowsOf}
 use Rattle.shapes.specs.Sizes.{fieldsOf}
-use Rattle.shapes.proofs.Layouts.{decide}
-use Rattle.relations.proofs.Fielding.{no-fields}
+use Rattle.shapes.proofs.Singles.{single-size}
+use Rattle.shapes.proofs.ByKind.{Sort, Sort.a-single, Sort.an-array, Sort.a-record, sort-of, array-row, array-size}
+use Rattle.shapes.proofs.ByKind.{no-fields}
 use Rattle.objects.specs.Begins.{partsOf, among, beginsAt}
 use Rattle.objects.specs.Looking.{held, Typed, Beyond}
 use Rattle.objects.specs.Tables.{ROWS}
-use Rattle.objects.proofs.Beginning.{array-row, array-parts, other-parts, array-size, scalar-size, begins-eq}
+use Rattle.objects.proofs.Beginning.{array-parts, other-parts, begins-eq}
 use Rattle.objects.proofs.Records.{kept, held-size, by-plan}
 
 module _ {t f plan : List ℕ} (typed : Typed t f plan) where
@@ -48,16 +48,13 @@ module _ {t f plan : List ℕ} (typed : Typed t f plan) where
           lt-of-mul-lt-mul-left (row .b) (omega (arith, mul-zero (row .b), array-held kind))
 
       pub is-record : (row .kind ≡ 3 → ⊥) → rowAt t r .kind ≡ 4
-      is-record other = go (decide (rowAt t r .kind) 4)
+      is-record other = go (sort-of t f (kept typed) r low)
         where
-          go : (rowAt t r .kind ≡ 4) ⊎ (rowAt t r .kind ≡ 4 → ⊥) → rowAt t r .kind ≡ 4
-          go (inl kind) = kind
-          go (inr none) =
-              absurd (omega (
-                arith,
-                held-size typed r low,
-                scalar-size t f (kept typed) r low (rw (← this) other) none,
-              ))
+          go : Sort t r → rowAt t r .kind ≡ 4
+          go (a-single one) =
+              absurd (omega (arith, held-size typed r low, single-size t f (kept typed) r one))
+          go (an-array kind) = absurd (other (rw this kind))
+          go (a-record kind) = kind
 
   module _ (r : ℕ) (low : r < rowsOf t) {row : Row} (this : row ≡ rowAt t r) (deeper : ℕ → ℕ → Bool) (o : ℕ) where
     pub part-array : row .kind ≡ 3 → (1 ≤ row .b)

@@ -1,7 +1,7 @@
 -- The fields of a record: its base's, and its own.
 use mathlib.Core.Path.{_≡_, refl, sym, _∙_, ap}
 use mathlib.Core.Bool.{Bool, true, false}
-use mathlib.Core.List.{List, [], _∷_, _++_, map}
+use mathlib.Core.List.{List, [], _++_, map}
 use Prim.Native.Nat.{ℕ, zero, suc, _+_, _-_, _≤_, _<_}
 use native.Mathlib.Nat.{add-sub-cancel-left}
 use native.Mathlib.Omega.{arith}
@@ -9,31 +9,29 @@ use borrow.Author.Tests.{le-leb, lt-leb}
 use lib.Dec.{leb}
 use lib.ListN.{length}
 use Rattle.prelude.specs.Choice.{choose}
-use Rattle.prelude.specs.Parts.{sum, Nth, Nth.here, Nth.there}
+use Rattle.prelude.specs.Parts.{sum, Nth}
 use Rattle.prelude.proofs.Choice.{choose-yes, choose-no}
+use Rattle.prelude.proofs.Each.{Each, each-so, each-nth, each-map}
+use Rattle.prelude.proofs.Parts.{nth-more}
 use Rattle.image.specs.declared.Row.{Row}
 use Rattle.image.specs.Rows.{rowAt, rowsOf}
 use Rattle.shapes.specs.Forms.{ofBase, ownTypes}
 use Rattle.shapes.specs.Sizes.{sizeOf, fieldsOf}
-use Rattle.shapes.proofs.Rows.{less-one}
-use Rattle.shapes.proofs.Accepted.{Based, Based.no-base, Based.on-base, TypesKept, field-low}
+use Rattle.shapes.proofs.Rows.{of-no-base, by-bases}
+use Rattle.shapes.proofs.Accepted.{Based, TypesKept, based-on, base-most, field-low}
+use Rattle.shapes.proofs.ByKind.{record-row, record-fields, fields-low}
+use Rattle.shapes.proofs.Layouts.{size-fields}
 use Rattle.types.proofs.Accepted.{types-kept}
-use Rattle.relations.proofs.Fielding.{fields-of, size-fields}
 use Rattle.objects.specs.Begins.{partsOf, among}
 use Rattle.objects.specs.Looking.{held, Typed, Edges, LowTypes, Fields, Ahead}
 use Rattle.objects.specs.Tables.{ROWS}
 use Rattle.objects.proofs.Following.{first-alone, sum-append, among-append, among-past, among-agree}
 use Rattle.objects.proofs.Looks.{lows-more}
-use Rattle.objects.proofs.Beginning.{record-row, fields-low, based-low, parts-low}
-
-map-agree : (g h : ℕ → ℕ) (l : List ℕ) → ((n u : ℕ) → Nth l n u → g u ≡ h u) → map g l ≡ map h l
-map-agree g h [] same = refl
-map-agree g h (u ∷ l) same = rw (same 0 u here, map-agree g h l (λ n v k. same (suc n) v (there k)))
+use Rattle.objects.proofs.Beginning.{parts-low}
 
 -- a base with cells is there
 pub base-some : (g : ℕ → ℕ) {before : ℕ} (a : ℕ) → before ≡ ofBase 0 g a → 0 < before → 0 < a
-unfolding ofBase
-base-some g zero is h = absurd (omega (arith, is))
+base-some g zero is h = absurd (omega (arith, is, of-no-base 0 g 0 refl))
 base-some g (suc a) is h = omega arith
 
 -- a base's row is a row of the table
@@ -55,26 +53,30 @@ module _ {t f plan : List ℕ} (typed : Typed t f plan) where
       among-agree deeper deeper (held plan) (sizeOf t f) (partsOf t f r) o
       (λ n u h. (λ x. refl, held-size u (let l = parts-low t f kept r low h in omega arith)))
 
+  held-each : (r : ℕ) → r < rowsOf t → Each (λ u. held plan u ≡ sizeOf t f u) (fieldsOf t f r)
+  held-each r low = each-so (fields-low t f kept r low) (λ u l. held-size u (omega arith))
+
   pub fields-held : (r : ℕ) → r < rowsOf t → rowAt t r .kind ≡ 4 → sum (map (held plan) (fieldsOf t f r)) ≡ held plan r
   fields-held r low kind =
-      ap sum (map-agree (held plan) (sizeOf t f) (fieldsOf t f r)
-      (λ n u h. held-size u (let k = fields-low t f kept r low h in omega arith)))
+      ap sum (each-map (held-each r low))
       ∙ size-fields t f kept r low kind ∙ sym (held-size r low)
 
   base-held : {r a : ℕ} → r < rowsOf t → Based t r a
       → sum (map (held plan) (ofBase [] (fieldsOf t f) a)) ≡ ofBase 0 (held plan) a
-  base-held low no-base = unfold ofBase sum in refl
-  base-held low (on-base {b = b} l kind) = unfold ofBase in (fields-held b (omega arith) kind)
+  base-held {a = a} low on =
+      let nothing : sum (map (held plan) []) ≡ 0 = unfold sum in refl in
+      by-bases (λ l n. sum (map (held plan) l) ≡ n) a nothing
+      (λ b e. let (l, kind) = based-on on e in fields-held b (omega arith) kind)
 
   -- ---- the record in row `at`
 
   module _ (at : ℕ) (low : at < rowsOf t) (kind : rowAt t at .kind ≡ 4) {row : Row} (this : row ≡ rowAt t at) where
     pub on : Based t at (row .a)
-    on = rw this (record-row t f kept at low kind .1 .on)
+    on = rw this (record-row t f kept at low kind .on)
 
     pub own-low : LowTypes f (row .b) (row .b + row .c) at
     own-low =
-        let is = record-row t f kept at low kind .1 in
+        let is = record-row t f kept at low kind in
         rw this (record {
           within = is .within;
           each = λ j least most. field-low f at j (is .own .each j least most);
@@ -83,28 +85,17 @@ module _ {t f plan : List ℕ} (typed : Typed t f plan) where
     pub own-few : LowTypes f (row .b) (row .b + row .c) ROWS
     own-few = lows-more (let few = typed .few in omega arith) own-low
 
-    base-low : row .a ≤ at
-    base-low = go (row .a) on
-      where
-        go : (a : ℕ) → Based t at a → a ≤ at
-        go zero b = omega arith
-        go (suc k) (on-base l kind) = omega arith
-
     pub base-room : row .a ≤ length plan
-    base-room = let few = typed .room in omega (arith, base-low)
+    base-room = let few = typed .room in omega (arith, base-most on)
 
     pub base-few : row .a ≤ ROWS
-    base-few = let few = typed .few in omega (arith, base-low)
+    base-few = let few = typed .few in omega (arith, base-most on)
 
     pub base-lower : 0 < row .a → (row .a - 1 < at) × (rowAt t (row .a - 1) .kind ≡ 4)
-    base-lower h = go (row .a) on h
-      where
-        go : (a : ℕ) → Based t at a → 0 < a → (a - 1 < at) × (rowAt t (a - 1) .kind ≡ 4)
-        go zero b h = absurd (omega arith)
-        go (suc k) (on-base l kind) h = (omega arith, rw (less-one k) kind)
+    base-lower h = based-on on (omega arith)
 
     pub whole : fieldsOf t f at ≡ ofBase [] (fieldsOf t f) (row .a) ++ ownTypes f (row .b) (row .c)
-    whole = rw this (fields-of t f kept at low kind)
+    whole = rw this (record-fields t f kept at low kind)
 
     base-cells : sum (map (held plan) (ofBase [] (fieldsOf t f) (row .a))) ≡ ofBase 0 (held plan) (row .a)
     base-cells = base-held low on
@@ -142,7 +133,7 @@ module _ {t f plan : List ℕ} (typed : Typed t f plan) where
       }
 
     inner-low : {n u : ℕ} → Nth (ofBase [] (fieldsOf t f) (row .a)) n u → u < at
-    inner-low h = based-low t f kept on (λ b m v l x. fields-low t f kept b (omega arith) x) h
+    inner-low h = each-nth (rw whole at (fields-low t f kept at low)) (nth-more (ownTypes f (row .b) (row .c)) h)
 
     module _ (deeper : ℕ → ℕ → Bool) {before : ℕ} (is : before ≡ ofBase 0 (held plan) (row .a)) (o : ℕ) where
       abbrev pub inner : Bool

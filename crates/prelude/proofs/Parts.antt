@@ -2,7 +2,6 @@
 use mathlib.Core.Path.{_≡_, refl, sym, _∙_, ap}
 use mathlib.Core.List.{List, [], _∷_, _++_, map, append-assoc, append-nil}
 use mathlib.Core.Option.{some}
-use mathlib.Core.Logic.{_⊎_, inl, inr}
 use Prim.Native.Nat.{ℕ, zero, suc, _+_, _-_, _*_, _≤_, _<_}
 use native.Mathlib.Nat.{zero-mul, suc-mul}
 use native.Mathlib.Omega.{arith}
@@ -35,11 +34,6 @@ module _ {X : Type 0} where
   pub nth-more : {l : List X} {n : ℕ} {x : X} (m : List X) → Nth l n x → Nth (l ++ m) n x
   nth-more m here = here
   nth-more m (there h) = there (nth-more m h)
-
-  pub nth-split : (l : List X) (m : List X) {n : ℕ} {x : X} → Nth (l ++ m) n x → Nth l n x ⊎ ((i : ℕ) × Nth m i x)
-  nth-split [] m {n = n} h = inr (n, h)
-  nth-split (y ∷ l) m here = inl here
-  nth-split (y ∷ l) m (there k) = elim (nth-split l m k) [ inl h ↦ inl (there h) | inr p ↦ inr p ]
 
   pub nth-replicate : (n i : ℕ) (x : X) → i < n → Nth (replicate n x) i x
   nth-replicate zero i x h = absurd (omega arith)

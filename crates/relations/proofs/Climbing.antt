@@ -16,7 +16,7 @@ use Rattle.relations.specs.declared.FieldAnswer.the-variants.{Missing}
 use Rattle.shapes.specs.Forms.{formOf, form, baseOf, ofBase}
 use Rattle.relations.specs.Extends.{extendsTo}
 use Rattle.relations.specs.Fields.{plannedOwn, plannedBy, plannedField}
-use Rattle.shapes.proofs.Rows.{of-no-base, of-base, form-record, by-form}
+use Rattle.shapes.proofs.Rows.{of-no-base, of-base, form-record, by-form, row-form}
 use Rattle.sizes.specs.Cells.{INHERITED}
 
 -- what a base gives: nothing where there is none, or none below
@@ -42,8 +42,7 @@ module _ (t : List ℕ) (u r : ℕ) where
 
   module _ (other : r ≡ u → ⊥) {row : Row} {a : ℕ} (this-row : row ≡ rowAt t r) (base : a ≡ baseOf (formOf row)) where
     base-here : a ≡ baseOf (form t r)
-    unfolding form
-    base-here = base ∙ ap (λ (x : Row). baseOf (formOf x)) this-row
+    base-here = base ∙ ap baseOf (row-form t r this-row)
 
     extends-on : extendsTo t u r ≡ ofBase false (below false r (extendsTo t u)) a
     extends-on = extends-eq ∙ choose-no _ _ _ (ne-eqb r u other) ∙ ap (λ b. ofBase false (below false r (extendsTo t u)) b) (sym base-here)
@@ -61,10 +60,10 @@ module _ (t : List ℕ) (u r : ℕ) where
 
 module _ (t f plan : List ℕ) (n r : ℕ) {row : Row} (this-row : row ≡ rowAt t r) where
   planned-eq : plannedField t f plan n r ≡ plannedBy f plan n (below Missing r (plannedField t f plan n)) r (formOf row)
-  unfolding plannedField form
+  unfolding plannedField
   planned-eq =
       rec-eq Missing (λ above r. plannedBy f plan n above r (form t r)) r
-      ∙ ap (λ (x : Row). plannedBy f plan n (below Missing r (plannedField t f plan n)) r (formOf x)) (sym this-row)
+      ∙ ap (λ x. plannedBy f plan n (below Missing r (plannedField t f plan n)) r x) (sym (row-form t r this-row))
 
   pub planned-other : (row .kind ≡ 4 → ⊥) → plannedField t f plan n r ≡ Missing
   unfolding plannedBy

@@ -19,7 +19,7 @@ use Rattle.image.proofs.Bytes.{row-missing}
 use Rattle.shapes.specs.Forms.{form, baseOf, ofBase}
 use Rattle.shapes.specs.Sizes.{layoutOf, fieldsOf}
 use Rattle.relations.specs.Extends.{extendsTo, extends}
-use Rattle.shapes.proofs.Rows.{no-record}
+use Rattle.shapes.proofs.Rows.{no-record, of-row, by-base}
 use Rattle.shapes.proofs.Accepted.{TypesKept, Begins, base-first}
 use Rattle.relations.proofs.Climbing.{extends-eq, extends-same, extends-none}
 
@@ -32,13 +32,12 @@ pub data Extends (t : List ℕ) : ℕ → ℕ → Type 0 where
 
 base-yes : (t : List ℕ) (u r a : ℕ) → baseOf (form t r) ≡ a → ofBase false (below false r (extendsTo t u)) a ≡ true
     → ((b : ℕ) → b < r → extendsTo t u b ≡ true → Extends t b u) → Extends t r u
-unfolding ofBase
-base-yes t u r zero base e ih = clash (sym e)
-base-yes t u r (suc b) base e ih = go (decLt b r)
+base-yes t u r a base e ih =
+    by-base (λ x. x ≡ true → Extends t r u) a (λ e. clash (sym e)) (λ b is. go b is (decLt b r)) e
   where
-    go : Dec (b < r) → Extends t r u
-    go (yes low) = up base low (ih b low (sym (below-low false r (extendsTo t u) b low) ∙ e))
-    go (no high) = clash (sym e ∙ below-high false r (extendsTo t u) b (omega arith))
+    go : (b : ℕ) → a ≡ suc b → Dec (b < r) → below false r (extendsTo t u) b ≡ true → Extends t r u
+    go b is (yes low) e = up (base ∙ is) low (ih b low (sym (below-low false r (extendsTo t u) b low) ∙ e))
+    go b is (no high) e = clash (sym e ∙ below-high false r (extendsTo t u) b (omega arith))
 
 yes-by : (t : List ℕ) (u n r : ℕ) → r < n → extendsTo t u r ≡ true → Extends t r u
 yes-by t u zero r h e = absurd (omega arith)
@@ -52,9 +51,12 @@ pub extends-yes : (t : List ℕ) (r u : ℕ) → extends t r u ≡ true → Exte
 extends-yes t r u e = yes-by t u (suc r) r (omega arith) e
 
 pub yes-extends : {t : List ℕ} {r u : ℕ} → Extends t r u → extends t r u ≡ true
-unfolding choose ofBase
+unfolding choose
 yes-extends {t} {r} same = extends-same t r r refl
-yes-extends {t} {r} {u} (up {b = b} base low e) = extends-eq t u r ∙ rw base (either (eqb r u) (below-low false r (extendsTo t u) b low ∙ yes-extends e))
+yes-extends {t} {r} {u} (up {b = b} base low e) =
+    extends-eq t u r
+    ∙ rw (of-row false (below false r (extendsTo t u)) base)
+    (either (eqb r u) (below-low false r (extendsTo t u) b low ∙ yes-extends e))
   where
     either : (x : Bool) → below false r (extendsTo t u) b ≡ true → choose x true (below false r (extendsTo t u) b) ≡ true
     either true h = refl

@@ -1,18 +1,17 @@
 -- A plan that question 4 filled has every field at its offset.
 use mathlib.Core.Path.{_≡_, refl, sym, _∙_, ap}
 use mathlib.Core.List.{List, [], _∷_, _++_, map}
-use mathlib.Core.Logic.{_⊎_, inl, inr}
+use mathlib.Core.Logic.{_⊎_, inl, inr, ⊎-elim}
 use Prim.Native.Nat.{ℕ, zero, suc, _+_, _-_, _≤_, _<_}
 use native.Mathlib.Omega.{arith}
 use native.Mathlib.Decide.{decLt}
-use borrow.Author.Tests.{lt-ltb, le-ltb}
+use borrow.Author.Tests.{ltb-true, lt-ltb, le-ltb}
 use lib.Dec.{ltb}
 use lib.ListN.{length, getD, take, length-append, List·getD-append}
 use lib.Seq.{take-append-le, take-append-add, getD-append-add}
 use Rattle.prelude.specs.Choice.{choose}
-use Rattle.prelude.specs.Parts.{sum}
-use Rattle.prelude.proofs.Choice.{choose-yes, choose-no}
-use Rattle.prelude.proofs.Rec.{rec-eq}
+use Rattle.prelude.specs.Parts.{sum, Nth, Nth.here, Nth.there, Part}
+use Rattle.prelude.proofs.Choice.{choose-yes, choose-no, choose-cases}
 use Rattle.prelude.proofs.Parts.{map-append}
 use Rattle.image.specs.Rows.{rowAt, rowsOf}
 use Rattle.image.proofs.Bytes.{row-missing}
@@ -20,14 +19,15 @@ use Rattle.types.specs.Question.{TypesAccepted}
 use Rattle.types.proofs.Accepted.{types-kept}
 use Rattle.relations.specs.declared.FieldAnswer.{FieldAnswer}
 use Rattle.relations.specs.declared.FieldAnswer.the-variants.{Missing, Field}
-use Rattle.shapes.specs.Forms.{Form.recordOf, form, baseOf, ofBase, ownTypes}
-use Rattle.shapes.specs.Sizes.{sizeOf, layoutOf, fieldsBy, fieldsOf, offsetOf}
+use Rattle.shapes.specs.Forms.{Form.recordOf, form, ofBase, ownTypes}
+use Rattle.shapes.specs.Sizes.{sizeOf, fieldsOf, offsetOf}
 use Rattle.relations.specs.Fields.{fieldOf, plannedOwn, plannedField}
 use Rattle.types.specs.Plan.{inheritedOf, ownOffset, Plan}
-use Rattle.shapes.proofs.Rows.{form-record, own-length, less-one}
-use Rattle.shapes.proofs.Accepted.{Based, Based.no-base, Based.on-base, TypesKept, record-is, fields-are}
+use Rattle.shapes.proofs.Rows.{of-record, record-form, less-one, of-no-base, of-row, own-length, own-take, own-at}
+use Rattle.shapes.proofs.Accepted.{Based, Based.on-base, TypesKept}
+use Rattle.shapes.proofs.ByKind.{missing-fields, record-row, record-fields, no-fields}
+use Rattle.shapes.proofs.Layouts.{length-based, offset-is, base-size, decide}
 use Rattle.relations.proofs.Climbing.{planned-other, planned-own, planned-low}
-use Rattle.shapes.proofs.Layouts.{length-joined, layout-length, record-layout, other-fields, decide}
 use Rattle.sizes.specs.Cells.{INHERITED, OFFSETS}
 
 -- ---- a field in a list of types
@@ -61,54 +61,51 @@ module _ (size : ℕ → ℕ) (l m : List ℕ) where
       let past : length (l ++ m) ≤ length l + j = omega (arith, length-append l m) in
       choose-no _ _ _ (le-ltb (length l + j) (length (l ++ m)) past)
 
--- ---- own fields
+-- ---- a type's fields
 
-own-take : (f : List ℕ) (j n k : ℕ) → j ≤ n → take j (ownTypes f k n) ≡ ownTypes f k j
-unfolding ownTypes
-own-take f zero n k h = refl
-own-take f (suc j) zero k h = absurd (omega arith)
-own-take f (suc j) (suc n) k h = ap (λ l. rowAt f k .a ∷ l) (own-take f j n (k + 1) (omega arith))
+field-in : (t f : List ℕ) (r n : ℕ) → fieldOf t f r n ≡ fieldIn (sizeOf t f) (fieldsOf t f r) n
+unfolding fieldOf
+field-in t f r n = rw (offset-is t f r n)
 
-own-at : (f : List ℕ) (j n k : ℕ) → j < n → getD (ownTypes f k n) j 0 ≡ rowAt f (k + j) .a
-unfolding ownTypes
-own-at f j zero k h = absurd (omega arith)
-own-at f zero (suc n) k h = let q : k + 0 ≡ k = omega arith in rw q
-own-at f (suc j) (suc n) k h = let q : k + 1 + j ≡ k + suc j = omega arith in rw q at (own-at f j n (k + 1) (omega arith))
+field-found : (t f : List ℕ) (r n at x : ℕ) → fieldOf t f r n ≡ Field at x
+    → (n < length (fieldsOf t f r)) × (Field (offsetOf t f r n) (getD (fieldsOf t f r) n 0) ≡ Field at x)
+unfolding fieldOf
+field-found t f r n at x e =
+    ⊎-elim
+    (λ found. (ltb-true _ _ (found .0), found .1))
+    (λ none. let same = none .1 in let z : _≡_ {A = ℕ} 0 1 = cc in absurd (omega arith))
+    (choose-cases _ e)
 
--- ---- an accepted table
+nth-cell : {X : Type 0} (l : List X) (n : ℕ) (d : X) → n < length l → Nth l n (getD l n d)
+nth-cell [] n d h = absurd (omega arith)
+nth-cell (x ∷ l) zero d h = here
+nth-cell (x ∷ l) (suc n) d h = there (nth-cell l n d (omega arith))
 
-module _ (t f : List ℕ) (kept : TypesKept t f) where
-  -- a record's fields: its base's, then its own
-  pub fields-of : (r : ℕ) → r < rowsOf t → rowAt t r .kind ≡ 4
-      → fieldsOf t f r ≡ ofBase [] (fieldsOf t f) (rowAt t r .a) ++ ownTypes f (rowAt t r .b) (rowAt t r .c)
-  unfolding form fieldsBy
-  fields-of r low kind = fields-are t f r (kept .row r low .shape) ∙ rw (form-record (rowAt t r) kind)
+-- a field that exists stands in the list of its record's fields: where it begins, and its type
+pub field-nth : (t f : List ℕ) (r n at x : ℕ) → fieldOf t f r n ≡ Field at x
+    → (at ≡ offsetOf t f r n) × Nth (fieldsOf t f r) n x
+field-nth t f r n at x e =
+    let found = field-found t f r n at x e in
+    let same = found .1 in
+    let place : at ≡ offsetOf t f r n = cc in
+    let type : getD (fieldsOf t f r) n 0 ≡ x = cc in
+    (place, rw type at (nth-cell (fieldsOf t f r) n 0 (found .0)))
 
-  pub no-fields : (r : ℕ) → r < rowsOf t → (rowAt t r .kind ≡ 4 → ⊥) → fieldsOf t f r ≡ []
-  unfolding form
-  no-fields r low other = fields-are t f r (kept .row r low .shape) ∙ other-fields f (fieldsOf t f) (rowAt t r) other
-
-  -- a record's size is its fields'
-  pub size-fields : (r : ℕ) → r < rowsOf t → rowAt t r .kind ≡ 4
-      → sum (map (sizeOf t f) (fieldsOf t f r)) ≡ sizeOf t f r
-  size-fields r low kind =
-      sym (length-joined (sizeOf t f) (layoutOf t f) (layout-length t f) (fieldsOf t f r))
-      ∙ ap length (sym (record-layout t f kept (suc r) r (omega arith) low kind))
-      ∙ layout-length t f r
-
-  pub base-size : {r a : ℕ} → r < rowsOf t → Based t r a
-      → sum (map (sizeOf t f) (ofBase [] (fieldsOf t f) a)) ≡ ofBase 0 (sizeOf t f) a
-  unfolding ofBase sum
-  base-size low no-base = refl
-  base-size low (on-base {b = b} l kind) = size-fields b (omega arith) kind
+-- what begins with a type's fields has them too, at the same places
+pub field-more : (t f : List ℕ) (r u n : ℕ) {at x : ℕ} → Part (fieldsOf t f r) 0 (fieldsOf t f u)
+    → fieldOf t f u n ≡ Field at x → fieldOf t f r n ≡ Field at x
+field-more t f r u n {at} {x} p e =
+    field-in t f r n
+    ∙ ap (λ l. fieldIn (sizeOf t f) l n) (p .seen)
+    ∙ field-front (sizeOf t f) (fieldsOf t f u) (p .rest) n (field-found t f u n at x e .0)
+    ∙ sym (field-in t f u n)
+    ∙ e
 
 -- ---- an accepted table and its plan
 
 module _ (t f plan : List ℕ) (kept : TypesKept t f) (p : Plan t f (rowsOf t) plan) where
   base-count : (a : ℕ) → ofBase 0 (λ b. length (fieldsOf t f b)) a ≡ length (ofBase [] (fieldsOf t f) a)
-  unfolding ofBase
-  base-count zero = refl
-  base-count (suc b) = refl
+  base-count a = sym (length-based (λ b. length (fieldsOf t f b)) (fieldsOf t f) (λ b. refl) a)
 
   -- an own field
   module _ (r a b c : ℕ) (low : r < rowsOf t) (is : form t r ≡ recordOf a b c) (on : Based t r a) where
@@ -137,20 +134,22 @@ module _ (t f plan : List ℕ) (kept : TypesKept t f) (p : Plan t f (rowsOf t) p
 
   inherited-of : (r : ℕ) → r < rowsOf t → rowAt t r .kind ≡ 4
       → getD plan (INHERITED + r) 0 ≡ length (ofBase [] (fieldsOf t f) (rowAt t r .a))
-  unfolding inheritedOf form baseOf
-  inherited-of r low kind = p .inherited r low ∙ rw (form-record (rowAt t r) kind) (base-count (rowAt t r .a))
+  unfolding inheritedOf
+  inherited-of r low kind = p .inherited r low ∙ rw (of-record (record-form t r kind) .0) (base-count (rowAt t r .a))
 
   -- an inherited field is the base's
   up-field : (n r a : ℕ) → r < rowsOf t → Based t r a → n < length (ofBase [] (fieldsOf t f) a) → (own : List ℕ)
       → ((b : ℕ) → b < r → plannedField t f plan n b ≡ fieldIn (sizeOf t f) (fieldsOf t f b) n)
       → (0 < a) × (a - 1 < r) × (plannedField t f plan n (a - 1) ≡ fieldIn (sizeOf t f) (ofBase [] (fieldsOf t f) a ++ own) n)
-  unfolding ofBase
-  up-field n r zero low on less own ih = absurd (omega arith)
+  up-field n r zero low on less own ih = absurd (omega (arith, ap length (of-no-base [] (fieldsOf t f) 0 refl)))
   up-field n r (suc b) low (on-base l kind) less own ih =
-      (omega arith, omega arith, rw (less-one b) (ih b l ∙ sym (field-front (sizeOf t f) (fieldsOf t f b) own n less)))
+      let base : ofBase [] (fieldsOf t f) (suc b) ≡ fieldsOf t f b = of-row [] (fieldsOf t f) refl in (
+        omega arith,
+        omega arith,
+        rw (less-one b, base) (ih b l ∙ sym (field-front (sizeOf t f) (fieldsOf t f b) own n (rw base at less))),
+      )
 
   field-by : (m n r : ℕ) → r < m → r < rowsOf t → plannedField t f plan n r ≡ fieldIn (sizeOf t f) (fieldsOf t f r) n
-  unfolding form
   field-by zero n r h low = absurd (omega arith)
   field-by (suc m) n r h low = go (decide (rowAt t r .kind) 4) (λ b l. field-by m n b (omega arith) (omega arith))
     where
@@ -158,23 +157,24 @@ module _ (t f plan : List ℕ) (kept : TypesKept t f) (p : Plan t f (rowsOf t) p
           → ((b : ℕ) → b < r → plannedField t f plan n b ≡ fieldIn (sizeOf t f) (fieldsOf t f b) n)
           → plannedField t f plan n r ≡ fieldIn (sizeOf t f) (ofBase [] (fieldsOf t f) (rowAt t r .a) ++ ownTypes f (rowAt t r .b) (rowAt t r .c)) n
       found kind (yes less) ih =
-          let on = record-is (kept .row r low .shape) (form-record (rowAt t r) kind) .on in
+          let on = record-row t f kept r low kind .on in
           let (some, lower, same) = up-field n r (rowAt t r .a) low on less (ownTypes f (rowAt t r .b) (rowAt t r .c)) ih in
           planned-low t f plan n r refl kind (rw (inherited-of r low kind) less) some lower ∙ same
       found kind (no more) ih =
-          let on = record-is (kept .row r low .shape) (form-record (rowAt t r) kind) .on in
+          let on = record-row t f kept r low kind .on in
           let inh = inherited-of r low kind in
           let q : length (ofBase [] (fieldsOf t f) (rowAt t r .a)) + (n - length (ofBase [] (fieldsOf t f) (rowAt t r .a))) ≡ n = omega arith in
           planned-own t f plan n r refl kind (omega arith)
           ∙ ap (λ k. plannedOwn f plan (rowAt t r .b) (rowAt t r .c) (n - k)) inh
-          ∙ own-field r (rowAt t r .a) (rowAt t r .b) (rowAt t r .c) low (form-record (rowAt t r) kind) on (n - length (ofBase [] (fieldsOf t f) (rowAt t r .a)))
+          ∙ own-field r (rowAt t r .a) (rowAt t r .b) (rowAt t r .c) low (record-form t r kind) on
+          (n - length (ofBase [] (fieldsOf t f) (rowAt t r .a)))
           ∙ ap (λ k. fieldIn (sizeOf t f) (ofBase [] (fieldsOf t f) (rowAt t r .a) ++ ownTypes f (rowAt t r .b) (rowAt t r .c)) k) q
 
       go : (rowAt t r .kind ≡ 4) ⊎ (rowAt t r .kind ≡ 4 → ⊥) → ((b : ℕ) → b < r → plannedField t f plan n b ≡ fieldIn (sizeOf t f) (fieldsOf t f b) n)
           → plannedField t f plan n r ≡ fieldIn (sizeOf t f) (fieldsOf t f r) n
       go (inl kind) ih =
           found kind (decLt n (length (ofBase [] (fieldsOf t f) (rowAt t r .a)))) ih
-          ∙ ap (λ l. fieldIn (sizeOf t f) l n) (sym (fields-of t f kept r low kind))
+          ∙ ap (λ l. fieldIn (sizeOf t f) l n) (sym (record-fields t f kept r low kind))
       go (inr other) ih =
           planned-other t f plan n r refl other
           ∙ sym (ap (λ l. fieldIn (sizeOf t f) l n) (no-fields t f kept r low other)
@@ -182,18 +182,14 @@ module _ (t f plan : List ℕ) (kept : TypesKept t f) (p : Plan t f (rowsOf t) p
 
   -- the function `field` finds just the field that there is, where it begins and its type
   pub field-is : (r n : ℕ) → r < rowsOf t → plannedField t f plan n r ≡ fieldOf t f r n
-  unfolding fieldOf offsetOf
-  field-is r n low = field-by (suc r) n r (omega arith) low
+  field-is r n low = field-by (suc r) n r (omega arith) low ∙ sym (field-in t f r n)
 
 -- ---- every type
 
 -- a type that is no row has no field
 no-field : (t f : List ℕ) (r n : ℕ) → rowsOf t ≤ r → fieldOf t f r n ≡ Missing
-unfolding fieldOf fieldsOf form
 no-field t f r n h =
-    let other : rowAt t r .kind ≡ 4 → ⊥ = rw (row-missing t r h) (λ e. absurd (omega arith)) in
-    let none : fieldsOf t f r ≡ [] = rec-eq [] (λ fields k. fieldsBy f fields (form t k)) r ∙ other-fields f _ (rowAt t r) other in
-    rw none (choose-no _ _ _ (le-ltb n 0 (omega arith)))
+    field-in t f r n ∙ rw (missing-fields t f r h) (choose-no _ _ _ (le-ltb n 0 (omega arith)))
 
 -- in a plan that question 4 filled, `field` finds just the fields that there are
 pub field-known : (t f plan : List ℕ) → TypesAccepted t f → Plan t f (rowsOf t) plan → (r n : ℕ)

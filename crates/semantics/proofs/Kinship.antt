@@ -1,31 +1,24 @@
 -- Laws of extension, of guards, and of the globals that come first.
-use mathlib.Core.Path.{_≡_, refl, _∙_}
+use mathlib.Core.Path.{_≡_, refl}
 use mathlib.Core.Bool.{Bool, true, false}
-use mathlib.Core.List.{List, [], _∷_, _++_, map}
-use mathlib.Core.Logic.{_⊎_, inl, inr}
+use mathlib.Core.List.{List}
 use Prim.Native.Nat.{ℕ, zero, suc, _+_, _≤_, _<_}
 use native.Mathlib.Omega.{arith}
 use native.Mathlib.Decide.{decLt}
-use borrow.Author.Tests.{lt-ltb, ltb-true}
-use lib.Dec.{ltb}
-use lib.ListN.{length, getD, take, drop, length-append, List·getD-append}
-use lib.Seq.{take-append-le}
 use Rattle.prelude.specs.Choice.{choose}
-use Rattle.prelude.specs.Parts.{sum}
-use Rattle.prelude.proofs.Choice.{choose-yes, choose-no, choose-cases}
+use Rattle.prelude.proofs.Choice.{choose-yes, choose-no}
 use Rattle.image.specs.Rows.{rowAt, rowsOf}
 use Rattle.image.specs.Faults.{KeptIn}
 use Rattle.image.proofs.Faults.{kept-next}
-use Rattle.shapes.specs.Forms.{Form, form, baseOf, isSingle}
-use Rattle.shapes.specs.Sizes.{fieldsOf, offsetOf, sizeOf}
+use Rattle.shapes.specs.Forms.{isSingle}
 use Rattle.shapes.proofs.Singles.{single-base, single-low}
-use Rattle.shapes.proofs.Accepted.{TypesKept, Shape, Shape.is-scalar, Shape.is-array, Shape.is-record}
-use Rattle.shapes.proofs.Accepted.{Based, Based.no-base, Based.on-base}
-use Rattle.relations.specs.declared.FieldAnswer.{FieldAnswer}
-use Rattle.relations.specs.declared.FieldAnswer.the-variants.{Missing, Field}
+use Rattle.shapes.proofs.Accepted.{TypesKept}
+use Rattle.shapes.proofs.ByKind.{base-record}
+use Rattle.relations.specs.declared.FieldAnswer.the-variants.{Field}
 use Rattle.relations.specs.Extends.{extends}
 use Rattle.relations.specs.Fields.{fieldOf}
 use Rattle.relations.proofs.Extension.{Extends, Extends.same, Extends.up, extends-yes, extended-low, extension-begins}
+use Rattle.relations.proofs.Fielding.{field-more}
 use Rattle.frames.specs.Variables.{isGlobal, globalsFrom, globalsOf}
 use Rattle.frames.proofs.Accepted.{VariableRow}
 use Rattle.values.specs.declared.Trap.the-variants as Ts
@@ -36,18 +29,6 @@ use Rattle.semantics.specs.Layout.{Program}
 use Rattle.semantics.specs.Finding.{guardPlace}
 
 -- ---- extension
-
-base-record : {t : List ℕ} {r a b : ℕ} → Based t r a → a ≡ suc b → rowAt t b .kind ≡ 4
-base-record no-base e = absurd (omega arith)
-base-record {b = b} (on-base {b = c} low kind) e = let q : c ≡ b = omega arith in rw q at kind
-
-module _ {t f : List ℕ} {used r : ℕ} where
-  -- a type that has a base extends a record
-  shape-base : {x : Form} {b : ℕ} → Shape t f used r x → baseOf x ≡ suc b → rowAt t b .kind ≡ 4
-  unfolding baseOf
-  shape-base is-scalar e = absurd (omega arith)
-  shape-base (is-array a b c) e = absurd (omega arith)
-  shape-base (is-record on rows own) e = base-record on e
 
 -- a single cell's type extends itself alone
 pub single-extends : (t : List ℕ) (r u : ℕ) → isSingle t r ≡ true → extends t r u ≡ true → r ≡ u
@@ -66,7 +47,7 @@ module _ (t f : List ℕ) (kept : TypesKept t f) where
   extended-other same h other = refl
   extended-other {r} {u} (up {b = b} base low e) h other =
       let there : b ≡ u = extended-other e (omega arith) other in
-      absurd (other (rw there at (shape-base (kept .row r h .shape) base)))
+      absurd (other (rw there at (base-record t f kept r h base .1)))
 
   -- an extension of a type that is no record is the type itself
   pub extends-other : (r u : ℕ) → extends t r u ≡ true → r < rowsOf t → (rowAt t u .kind ≡ 4 → ⊥) → r ≡ u
@@ -81,31 +62,8 @@ module _ (t f : List ℕ) (kept : TypesKept t f) where
   pub extension-field : (r u n : ℕ) {offset x : ℕ} → extends t r u ≡ true → r < rowsOf t
       → fieldOf t f u n ≡ Field offset x
       → fieldOf t f r n ≡ Field offset x
-  unfolding fieldOf offsetOf
-  extension-field r u n {offset} {x} e h found =
-      let p = extension-begins t f kept (extends-yes t r u e) h .fields in
-      front (fieldsOf t f u) (p .rest) (fieldsOf t f r) (p .seen) found
-    where
-      front : (l m whole : List ℕ) → drop 0 whole ≡ l ++ m
-          → choose (ltb n (length l)) (Field (sum (map (sizeOf t f) (take n l))) (getD l n 0)) Missing ≡ Field offset x
-          → choose (ltb n (length whole)) (Field (sum (map (sizeOf t f) (take n whole))) (getD whole n 0)) Missing
-          ≡ Field offset x
-      front l m whole joins found = go (choose-cases (ltb n (length l)) found)
-        where
-          here : FieldAnswer
-          here = Field (sum (map (sizeOf t f) (take n l))) (getD l n 0)
-
-          go : ((ltb n (length l) ≡ true) × (here ≡ Field offset x)) ⊎
-              ((ltb n (length l) ≡ false) × (Missing ≡ Field offset x))
-              → choose (ltb n (length whole))
-              (Field (sum (map (sizeOf t f) (take n whole))) (getD whole n 0)) Missing ≡ Field offset x
-          go (inl (k, e)) =
-              let less = ltb-true n (length l) k in
-              let all : n < length (l ++ m) = omega (arith, length-append l m) in
-              rw joins
-              (choose-yes _ _ _ (lt-ltb n (length (l ++ m)) all)
-              ∙ (rw (take-append-le n l m (omega arith), List·getD-append l m 0 n less) e))
-          go (inr (k, e)) = let z : _≡_ {A = ℕ} 0 1 = cc in absurd (omega arith)
+  extension-field r u n e h found =
+      field-more t f r u n (extension-begins t f kept (extends-yes t r u e) h .fields) found
 
 -- ---- guards
 

@@ -15,12 +15,11 @@ use Rattle.prelude.proofs.Choice.{choose-yes, choose-no, also-true}
 use Rattle.prelude.proofs.Parts.{part-part, part-more, part-back, part-map}
 use Rattle.image.specs.Rows.{rowAt, rowsOf}
 use Rattle.image.proofs.Bytes.{row-missing}
-use Rattle.shapes.specs.Forms.{form}
 use Rattle.shapes.specs.Sizes.{sizeOf, layoutOf}
-use Rattle.shapes.proofs.Rows.{form-array}
 use Rattle.shapes.proofs.Layouts.{layout-length, field-layout, element-layout, decide}
 use Rattle.relations.specs.Extends.{extends}
 use Rattle.relations.proofs.Extension.{extends-yes, extension-begins}
+use Rattle.relations.proofs.Fielding.{field-nth}
 use Rattle.frames.specs.Variables.{isGlobal, kindWithin, globalsFrom, globalsOf}
 use Rattle.frames.specs.Procedures.{claimedBy, firstVariable}
 use Rattle.frames.proofs.Claiming.{globals-within}
@@ -38,7 +37,6 @@ use Rattle.names.specs.Names.{rowsFrom}
 use Rattle.semantics.specs.Sound.{Object.of-frame, Object.of-older, Object.of-field, Object.of-element, Slot}
 use Rattle.semantics.specs.Sound.{Slot.by-value, Slot.by-reference, Stack, Stack.a-frame}
 use Rattle.semantics.proofs.Holding.{part-start}
-use Rattle.semantics.proofs.FieldRows.{field-nth}
 
 -- ---- the variables of one run of rows
 
@@ -266,7 +264,7 @@ module _ (g : Program)
 
   -- an object's cells are to hold its type's layout
   pub object-part : {fs : List Frame} {at r : ℕ} → Stack g fs → Object g fs at r → Part (wants g fs) at (valuesOf g r)
-  unfolding wants valuesOf form
+  unfolding wants valuesOf
   object-part {fs} st (of-global k h) = global-part g fs k h
   object-part st (of-frame {k = k} own kind) =
       let (ws, slot, part) = slot-at st k own in
@@ -277,9 +275,7 @@ module _ (g : Program)
       let inner = part-map any-value (field-layout (g .types) (g .fields) (ok .types) r j u (object-typed o) nth) in
       rw place (part-part (object-part st o) inner)
   object-part st (of-element {r = r} {i = i} o kind less) =
-      let row = rowAt (g .types) r in
-      let is = form-array row kind in
-      let inner = element-layout (g .types) (g .fields) (ok .types) r (row .a) (row .b) i (object-typed o) is less in
+      let inner = element-layout (g .types) (g .fields) (ok .types) r i (object-typed o) kind less in
       part-part (object-part st o) (part-map any-value inner)
 
   -- and they begin with the layout of every type that it extends

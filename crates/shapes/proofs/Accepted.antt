@@ -1,15 +1,16 @@
 -- What the rule says of an accepted row, and of an accepted table.
 use mathlib.Core.Path.{_≡_, refl, sym, _∙_, ap}
 use mathlib.Core.Bool.{true}
-use mathlib.Core.List.{List, [], map}
+use mathlib.Core.List.{List, [], _++_, map}
 use mathlib.Core.Logic.{⊎-elim}
 use Prim.Native.Nat.{ℕ, zero, suc, _+_, _≤_, _<_}
 use native.Mathlib.Omega.{arith}
 use native.Mathlib.Decide.{decLt}
 use borrow.Author.Tests.{ltb-true, leb-true, eqb-true, lt-ltb, le-ltb}
 use lib.Dec.{eqb}
-use Rattle.prelude.specs.Parts.{joined, Part}
+use Rattle.prelude.specs.Parts.{sum, Part}
 use Rattle.prelude.proofs.Choice.{choose-yes, choose-no, choose-cases, also-true, clash}
+use Rattle.prelude.proofs.Each.{each-map}
 use Rattle.prelude.proofs.Rec.{rec-eq, below-low}
 use Rattle.image.specs.declared.Row.{Row}
 use Rattle.image.specs.Rows.{rowAt, rowsOf}
@@ -17,12 +18,12 @@ use Rattle.image.specs.Faults.{KeptIn}
 use Rattle.image.specs.Versions.{scalarRows}
 use Rattle.image.proofs.Faults.{all-each}
 use Rattle.image.proofs.Versions.{few-rows}
-use Rattle.shapes.specs.Forms.{Form, Form.scalar, Form.array, Form.recordOf, Form.noForm, formOf, form}
-use Rattle.shapes.specs.Forms.{baseOf, kindBy, ofBase, ownTypes}
+use Rattle.shapes.specs.Forms.{Form, Form.scalar, Form.array, Form.recordOf, formOf, form}
+use Rattle.shapes.specs.Forms.{baseOf, countOf, kindBy, ofBase, ownTypes}
 use Rattle.shapes.specs.Sizes.{sizeBy, sizeOf, layoutBy, layoutOf, fieldsBy, fieldsOf}
 use Rattle.shapes.specs.Shapes.{usedBelow, scalarKept, arrayKept, fieldKept, baseKept, recordKept, laterKept}
 use Rattle.shapes.specs.Shapes.{shapeKept, typeKept}
-use Rattle.shapes.proofs.Rows.{form-scalar, form-array, form-record}
+use Rattle.shapes.proofs.Rows.{form-scalar, form-array, form-record, of-row, by-bases, own-each}
 
 -- ---- a row
 
@@ -30,6 +31,14 @@ use Rattle.shapes.proofs.Rows.{form-scalar, form-array, form-record}
 pub data Based (t : List ℕ) (r : ℕ) : ℕ → Type 0 where
   no-base : Based t r zero
   on-base : {b : ℕ} → b < r → rowAt t b .kind ≡ 4 → Based t r (suc b)
+
+pub based-on : {t : List ℕ} {r a b : ℕ} → Based t r a → a ≡ suc b → (b < r) × (rowAt t b .kind ≡ 4)
+based-on no-base e = absurd (omega arith)
+based-on {b = b} (on-base {b = c} low kind) e = let q : c ≡ b = omega arith in (omega arith, rw q at kind)
+
+pub base-most : {t : List ℕ} {r a : ℕ} → Based t r a → a ≤ r
+base-most no-base = omega arith
+base-most (on-base low kind) = omega arith
 
 -- a type row r, where `used` field rows are claimed by the rows below it
 pub data Shape (t f : List ℕ) (used r : ℕ) : Form → Type 0 where
@@ -139,6 +148,17 @@ array-is {element = element} {n} (is-array {element = b} {n = m} a x y) e =
     record { low = rw (← elements) a; least = rw (← counts) x; most = rw (← counts) y }
 array-is (is-record on rows own) e = let z : _≡_ {A = ℕ} 0 1 = cc in absurd (omega arith)
 
+-- what holds of every form that a row may have holds of its own
+pub by-shape : {t f : List ℕ} {used r : ℕ} {x : Form} (P : Form → Type 0) → Shape t f used r x
+    → ((k : ℕ) → P (scalar k))
+    → ((element n : ℕ) → element < r → P (array element n))
+    → ((base count : ℕ) → Based t r base → used + count ≤ rowsOf f → KeptIn (fieldKept f r) used (used + count)
+    → P (recordOf base used count))
+    → P x
+by-shape {r = r} P is-scalar s a c = s r
+by-shape P (is-array {element = e} {n = n} low x y) s a c = a e n low
+by-shape P (is-record {base = b} {count = n} on rows own) s a c = c b n on rows own
+
 -- an accepted row: its shape, and "No size exceeds 4,096."
 pub record RowKept (t f : List ℕ) (r : ℕ) : Type 0 where
   pub shape : Shape t f (usedBelow t r) r (form t r)
@@ -159,45 +179,79 @@ field-low f r k e =
     let (low, e₃) = also-true _ _ e₂ in
     ltb-true _ _ low
 
+-- ---- base and own fields, whatever the form
+
+-- a shape x has these; its layout begins with the base's, its fields and its size are made of theirs
+pub record Made (t f : List ℕ) (used r : ℕ) (x : Form) : Type 0 where
+  pub on : Based t r (baseOf x)
+  pub within : used ≤ rowsOf f → used + countOf x ≤ rowsOf f
+  pub own : KeptIn (fieldKept f r) used (used + countOf x)
+  pub layout : (g : ℕ → List ℕ) → (rest : List ℕ) × (layoutBy f g x ≡ ofBase [] g (baseOf x) ++ rest)
+  pub fields : (g : ℕ → List ℕ) → fieldsBy f g x ≡ ofBase [] g (baseOf x) ++ ownTypes f used (countOf x)
+  pub size : (g : ℕ → ℕ) → ofBase 0 g (baseOf x) + sum (map g (ownTypes f used (countOf x))) ≤ sizeBy f g x
+
+pub made-of : {t f : List ℕ} {used r : ℕ} {x : Form} → Shape t f used r x → Made t f used r x
+unfolding baseOf countOf layoutBy fieldsBy sizeBy ofBase ownTypes sum
+made-of {t} {f} {used} {r} shape =
+    by-shape (λ x. Made t f used r x) shape
+    (λ k. record {
+      on = no-base;
+      within = λ h. omega arith;
+      own = record { each = λ j low high. absurd (omega arith) };
+      layout = λ g. (_, refl);
+      fields = λ g. refl;
+      size = λ g. omega arith;
+    })
+    (λ e n low. record {
+      on = no-base;
+      within = λ h. omega arith;
+      own = record { each = λ j low high. absurd (omega arith) };
+      layout = λ g. (_, refl);
+      fields = λ g. refl;
+      size = λ g. omega arith;
+    })
+    (λ a c on rows own. record {
+      on = on;
+      within = λ h. rows;
+      own = own;
+      layout = λ g. (_, refl);
+      fields = λ g. refl;
+      size = λ g. omega arith;
+    })
+
 -- ---- a row's size, layout and fields hang on lower rows alone
 
 pub base-agree : {X : Type 0} {t : List ℕ} {r a : ℕ} (none : X) (g h : ℕ → X) → Based t r a → ((b : ℕ) → b < r → g b ≡ h b) → ofBase none g a ≡ ofBase none h a
-unfolding ofBase
-base-agree none g h no-base same = refl
-base-agree none g h (on-base {b = b} low kind) same = same b low
-
-own-agree : {X : Type 0} (f : List ℕ) (g h : ℕ → X) (n k : ℕ) → ((j : ℕ) → k ≤ j → j < k + n → g (rowAt f j .a) ≡ h (rowAt f j .a))
-    → map g (ownTypes f k n) ≡ map h (ownTypes f k n)
-unfolding ownTypes
-own-agree f g h zero k same = refl
-own-agree f g h (suc n) k same =
-    rw (same k (omega arith) (omega arith), own-agree f g h n (k + 1) (λ j low high. same j (omega arith) (omega arith)))
+base-agree {a = a} none g h on same = by-bases _≡_ a refl (λ b e. same b (based-on on e .0))
 
 pub fields-agree : {X : Type 0} (f : List ℕ) (g h : ℕ → X) (r k n : ℕ) → KeptIn (fieldKept f r) k (k + n) → ((b : ℕ) → b < r → g b ≡ h b)
     → map g (ownTypes f k n) ≡ map h (ownTypes f k n)
 fields-agree f g h r k n kept same =
-    own-agree f g h n k (λ j low high. same (rowAt f j .a) (field-low f r j (kept .each j low high)))
+    each-map (own-each f k n (λ j low high. same (rowAt f j .a) (field-low f r j (kept .each j low high))))
 
 module _ {t f : List ℕ} {used r : ℕ} where
   pub size-agree : {x : Form} (g h : ℕ → ℕ) → Shape t f used r x → ((b : ℕ) → b < r → g b ≡ h b) → sizeBy f g x ≡ sizeBy f h x
   unfolding sizeBy
-  size-agree g h is-scalar same = refl
-  size-agree g h (is-array {element = e} {n = n} low a b) same = rw (same e low)
-  size-agree g h (is-record {base = a} {count = c} base rows kept) same =
-      rw (base-agree 0 g h base same, fields-agree f g h r used c kept same)
+  size-agree g h shape same =
+      by-shape (λ x. sizeBy f g x ≡ sizeBy f h x) shape
+      (λ k. refl)
+      (λ e n low. rw (same e low))
+      (λ a c on rows own. rw (base-agree 0 g h on same, fields-agree f g h r used c own same))
 
   pub layout-agree : {x : Form} (g h : ℕ → List ℕ) → Shape t f used r x → ((b : ℕ) → b < r → g b ≡ h b) → layoutBy f g x ≡ layoutBy f h x
   unfolding layoutBy
-  layout-agree g h is-scalar same = refl
-  layout-agree g h (is-array {element = e} {n = n} low a b) same = rw (same e low)
-  layout-agree g h (is-record {base = a} {count = c} base rows kept) same =
-      rw (base-agree [] g h base same, fields-agree f g h r used c kept same)
+  layout-agree g h shape same =
+      by-shape (λ x. layoutBy f g x ≡ layoutBy f h x) shape
+      (λ k. refl)
+      (λ e n low. rw (same e low))
+      (λ a c on rows own. rw (base-agree [] g h on same, fields-agree f g h r used c own same))
 
   pub fields-by-agree : {x : Form} (g h : ℕ → List ℕ) → Shape t f used r x → ((b : ℕ) → b < r → g b ≡ h b) → fieldsBy f g x ≡ fieldsBy f h x
-  unfolding fieldsBy
-  fields-by-agree g h is-scalar same = refl
-  fields-by-agree g h (is-array low a b) same = refl
-  fields-by-agree g h (is-record {base = a} {count = c} base rows kept) same = rw (base-agree [] g h base same)
+  fields-by-agree {x} g h shape same =
+      let made = made-of shape in
+      made .fields g
+      ∙ ap (λ l. l ++ ownTypes f used (countOf x)) (base-agree [] g h (made .on) same)
+      ∙ sym (made .fields h)
 
 -- so the definitions hold as they read
 module _ (t f : List ℕ) (r : ℕ) {used : ℕ} (shape : Shape t f used r (form t r)) where
@@ -226,31 +280,50 @@ pub record Begins (t f : List ℕ) (r u : ℕ) : Type 0 where
   pub layout : Part (layoutOf t f r) 0 (layoutOf t f u)
   pub fields : Part (fieldsOf t f r) 0 (fieldsOf t f u)
 
--- what has a base is a record
-based-form : (x : Form) {b : ℕ} → baseOf x ≡ suc b → (first : ℕ) × (count : ℕ) × (x ≡ recordOf (suc b) first count)
-unfolding baseOf
-based-form (scalar k) e = absurd (omega arith)
-based-form (array m n) e = absurd (omega arith)
-based-form (recordOf base first count) e = (first, count, rw e)
-based-form noForm e = absurd (omega arith)
-
 -- a record begins with its base
 pub base-first : (t f : List ℕ) (r : ℕ) {used b : ℕ} → Shape t f used r (form t r) → baseOf (form t r) ≡ suc b
     → Begins t f r b
-unfolding layoutBy fieldsBy ofBase
-base-first t f r {b = b} shape base = let (first, count, is) = based-form (form t r) base in go first count is
+base-first t f r {used} {b} shape base =
+    let made = made-of shape in
+    let layout = made .layout (layoutOf t f) in
+    record {
+      layout = record {
+        rest = layout .0;
+        seen = layout-is t f r shape ∙ layout .1 ∙ ap (λ l. l ++ layout .0) (of-row [] (layoutOf t f) base);
+        within = omega arith;
+      };
+      fields = record {
+        rest = ownTypes f used (countOf (form t r));
+        seen = fields-are t f r shape ∙ made .fields (fieldsOf t f)
+            ∙ ap (λ l. l ++ ownTypes f used (countOf (form t r))) (of-row [] (fieldsOf t f) base);
+        within = omega arith;
+      };
+    }
+
+-- ---- field rows used up
+
+pub used-none : (t : List ℕ) → usedBelow t 0 ≡ 0
+unfolding usedBelow
+used-none t = refl
+
+pub used-next : (t : List ℕ) (r : ℕ) → usedBelow t (suc r) ≡ usedBelow t r + countOf (form t r)
+unfolding usedBelow
+used-next t r = refl
+
+pub used-up : (t : List ℕ) (m n : ℕ) → m ≤ n → usedBelow t m ≤ usedBelow t n
+used-up t m zero h = let q : m ≡ 0 = omega arith in rw q (omega arith)
+used-up t m (suc n) h = go (decLt n m) (λ l. used-up t m n l)
   where
-    go : (first count : ℕ) → form t r ≡ recordOf (suc b) first count → Begins t f r b
-    go first count is =
-        let own : List ℕ = ownTypes f first count in
-        record {
-          layout = record {
-            rest = joined (map (layoutOf t f) own);
-            seen = layout-is t f r shape ∙ rw is;
-            within = omega arith;
-          };
-          fields = record { rest = own; seen = fields-are t f r shape ∙ rw is; within = omega arith };
-        }
+    go : Dec (n < m) → (m ≤ n → usedBelow t m ≤ usedBelow t n) → usedBelow t m ≤ usedBelow t (suc n)
+    go (yes l) rest = let q : m ≡ suc n = omega arith in rw q (omega arith)
+    go (no l) rest = let up = rest (omega arith) in omega (arith, used-next t n)
+
+pub used-fits : (version : ℕ) (t f : List ℕ) (n : ℕ) → KeptIn (typeKept version t f) 0 n → usedBelow t n ≤ rowsOf f
+used-fits version t f zero kept = omega (arith, used-none t)
+used-fits version t f (suc n) kept =
+    rw (used-next t n)
+    (made-of (row-kept version t f n (kept .each n (omega arith) (omega arith)) .shape) .within
+    (used-fits version t f n (record { each = λ j low high. kept .each j low (omega arith) })))
 
 -- ---- the whole table
 

@@ -2,7 +2,7 @@
 use mathlib.Core.Path.{_≡_, refl, sym, _∙_, ap}
 use mathlib.Core.Bool.{Bool, true, false}
 use mathlib.Core.Logic.{_⊎_, inl, inr}
-use mathlib.Core.List.{List, [], _∷_, map}
+use mathlib.Core.List.{List, [], _∷_, _++_, map}
 use Prim.Native.Nat.{ℕ, zero, suc, _*_, _≤_, _<_}
 use native.Mathlib.Nat.{zero-mul, suc-mul}
 use native.Mathlib.Omega.{arith}
@@ -18,10 +18,10 @@ use Rattle.image.specs.declared.Row.{Row}
 use Rattle.image.specs.Rows.{rowAt, rowsOf}
 use Rattle.shapes.specs.Forms.{Form, Form.scalar, Form.array, Form.recordOf, Form.noForm, formOf, form, ofBase}
 use Rattle.shapes.specs.Forms.{ownTypes}
-use Rattle.shapes.specs.Sizes.{sizeBy, sizeOf, layoutBy, layoutOf, fieldsBy, fieldsOf, offsetOf}
-use Rattle.shapes.proofs.Rows.{form-record, by-form, by-any-form}
-use Rattle.shapes.proofs.Accepted.{Based, Based.no-base, Based.on-base, TypesKept, record-is, layout-is}
-use Rattle.shapes.proofs.Accepted.{fields-are}
+use Rattle.shapes.specs.Sizes.{sizeBy, sizeOf, layoutBy, layoutOf, fieldsOf, offsetOf}
+use Rattle.shapes.proofs.Rows.{by-any-form, by-base, by-bases}
+use Rattle.shapes.proofs.Accepted.{Based, TypesKept, based-on}
+use Rattle.shapes.proofs.ByKind.{array-layout, record-row, record-kinds, record-fields, no-fields}
 
 -- ---- a layout is as long as the size
 
@@ -31,18 +31,16 @@ length-replicated zero x = sym (zero-mul (length x))
 length-replicated (suc n) x =
     omega (arith, length-append x (joined (replicate n x)), length-replicated n x, suc-mul n (length x))
 
-pub length-joined : {X : Type 0} (size : ℕ → ℕ) (layout : ℕ → List X) → ((k : ℕ) → length (layout k) ≡ size k) → (l : List ℕ)
-    → length (joined (map layout l)) ≡ sum (map size l)
+length-joined : {X : Type 0} (size : ℕ → ℕ) (layout : ℕ → List X) → ((k : ℕ) → length (layout k) ≡ size k)
+    → (l : List ℕ) → length (joined (map layout l)) ≡ sum (map size l)
 unfolding joined sum
 length-joined size layout h [] = refl
 length-joined size layout h (k ∷ l) =
     omega (arith, length-append (layout k) (joined (map layout l)), h k, length-joined size layout h l)
 
-length-based : {X : Type 0} (size : ℕ → ℕ) (layout : ℕ → List X) → ((k : ℕ) → length (layout k) ≡ size k) → (a : ℕ)
+pub length-based : {X : Type 0} (size : ℕ → ℕ) (layout : ℕ → List X) → ((k : ℕ) → length (layout k) ≡ size k) → (a : ℕ)
     → length (ofBase [] layout a) ≡ ofBase 0 size a
-unfolding ofBase
-length-based size layout h zero = refl
-length-based size layout h (suc b) = h b
+length-based size layout h a = by-bases (λ l n. length l ≡ n) a refl (λ b e. h b)
 
 length-by : (f : List ℕ) (size : ℕ → ℕ) (layout : ℕ → List ℕ) → ((k : ℕ) → length (layout k) ≡ size k) → (x : Form)
     → length (layoutBy f layout x) ≡ sizeBy f size x
@@ -68,9 +66,7 @@ layout-length t f r =
 
 module _ {P : ℕ → Type 0} (scalars : (k : ℕ) → k < 3 → P k) where
   base-kinds : (layout : ℕ → List ℕ) → ((r : ℕ) → Each P (layout r)) → (a : ℕ) → Each P (ofBase [] layout a)
-  unfolding ofBase
-  base-kinds layout h zero = none
-  base-kinds layout h (suc b) = h b
+  base-kinds layout h a = by-base (λ l. Each P l) a none (λ b e. h b)
 
   kinds-by : (f : List ℕ) (layout : ℕ → List ℕ) → ((r : ℕ) → Each P (layout r)) → (row : Row)
       → Each P (layoutBy f layout (formOf row))
@@ -95,21 +91,10 @@ module _ {P : ℕ → Type 0} (scalars : (k : ℕ) → k < 3 → P k) where
 
 -- ---- parts of an accepted table's layouts
 
-record-whole : (f : List ℕ) (layout fields : ℕ → List ℕ) (b c : ℕ) {t : List ℕ} {r a : ℕ} → Based t r a
-    → ((k : ℕ) → k < r → rowAt t k .kind ≡ 4 → layout k ≡ joined (map layout (fields k)))
-    → layoutBy f layout (recordOf a b c) ≡ joined (map layout (fieldsBy f fields (recordOf a b c)))
-unfolding layoutBy fieldsBy ofBase
-record-whole f layout fields b c no-base ih = refl
-record-whole f layout fields b c (on-base {b = k} low kind) ih =
-    rw (ih k low kind) (sym (joined-map-append layout (fields k) (ownTypes f b c)))
-
-array-whole : (f : List ℕ) (layout : ℕ → List ℕ) {x : Form} {element n : ℕ} → x ≡ array element n → layoutBy f layout x ≡ joined (replicate n (layout element))
-unfolding layoutBy
-array-whole f layout e = rw e
-
-pub other-fields : (f : List ℕ) (fields : ℕ → List ℕ) (row : Row) → (row .kind ≡ 4 → ⊥) → fieldsBy f fields (formOf row) ≡ []
-unfolding fieldsBy
-other-fields f fields row other = by-form row (λ x. fieldsBy f fields x ≡ []) (λ k. refl) (λ e n. refl) refl other
+-- a field begins behind the fields before it
+pub offset-is : (t f : List ℕ) (r n : ℕ) → offsetOf t f r n ≡ sum (map (sizeOf t f) (take n (fieldsOf t f r)))
+unfolding offsetOf
+offset-is t f r n = refl
 
 pub decide : (a b : ℕ) → (a ≡ b) ⊎ (a ≡ b → ⊥)
 decide a b = go (eqb a b) refl
@@ -120,48 +105,56 @@ decide a b = go (eqb a b) refl
 
 module _ (t f : List ℕ) (kept : TypesKept t f) where
   -- a record's layout is its fields' layouts, one after the other
-  pub record-layout : (n r : ℕ) → r < n → r < rowsOf t → rowAt t r .kind ≡ 4 → layoutOf t f r ≡ joined (map (layoutOf t f) (fieldsOf t f r))
-  unfolding form
+  record-layout : (n r : ℕ) → r < n → r < rowsOf t → rowAt t r .kind ≡ 4
+      → layoutOf t f r ≡ joined (map (layoutOf t f) (fieldsOf t f r))
   record-layout zero r h low kind = absurd (omega arith)
   record-layout (suc n) r h low kind =
-      let shape = kept .row r low .shape in
-      let is = record-is shape (form-record (rowAt t r) kind) in
-      layout-is t f r shape
-      ∙ whole (rowAt t r .a) (rowAt t r .b) (rowAt t r .c) (is .on) (form-record (rowAt t r) kind)
-      (λ b l k. record-layout n b (omega arith) (omega arith) k)
-      ∙ ap (λ l. joined (map (layoutOf t f) l)) (sym (fields-are t f r shape))
-    where
-      whole : (a b c : ℕ) → Based t r a → formOf (rowAt t r) ≡ recordOf a b c
-          → ((k : ℕ) → k < r → rowAt t k .kind ≡ 4 → layoutOf t f k ≡ joined (map (layoutOf t f) (fieldsOf t f k)))
-          → layoutBy f (layoutOf t f) (form t r) ≡ joined (map (layoutOf t f) (fieldsBy f (fieldsOf t f) (form t r)))
-      whole a b c on e ih = rw e (record-whole f (layoutOf t f) (fieldsOf t f) b c on ih)
+      let own = ownTypes f (rowAt t r .b) (rowAt t r .c) in
+      let on = record-row t f kept r low kind .on in
+      let nothing : [] ≡ joined (map (layoutOf t f) []) = unfold joined in refl in
+      record-kinds t f kept r low kind
+      ∙ ap (λ l. l ++ joined (map (layoutOf t f) own))
+      (by-bases (λ x y. x ≡ joined (map (layoutOf t f) y)) (rowAt t r .a) nothing
+      (λ b e. let (less, is) = based-on on e in record-layout n b (omega arith) (omega arith) is))
+      ∙ sym (joined-map-append (layoutOf t f) (ofBase [] (fieldsOf t f) (rowAt t r .a)) own)
+      ∙ ap (λ l. joined (map (layoutOf t f) l)) (sym (record-fields t f kept r low kind))
 
-  not-field : (r n u : ℕ) → r < rowsOf t → (rowAt t r .kind ≡ 4 → ⊥) → Nth (fieldsOf t f r) n u → ⊥
-  unfolding form
-  not-field r n u low other h =
-      let none : fieldsOf t f r ≡ [] = fields-are t f r (kept .row r low .shape) ∙ other-fields f (fieldsOf t f) (rowAt t r) other in
-      nth-nil (rw none at h)
+  -- a record's size is its fields'
+  pub size-fields : (r : ℕ) → r < rowsOf t → rowAt t r .kind ≡ 4
+      → sum (map (sizeOf t f) (fieldsOf t f r)) ≡ sizeOf t f r
+  size-fields r low kind =
+      sym (length-joined (sizeOf t f) (layoutOf t f) (layout-length t f) (fieldsOf t f r))
+      ∙ ap length (sym (record-layout (suc r) r (omega arith) low kind))
+      ∙ layout-length t f r
+
+  pub base-size : {r a : ℕ} → r < rowsOf t → Based t r a
+      → sum (map (sizeOf t f) (ofBase [] (fieldsOf t f) a)) ≡ ofBase 0 (sizeOf t f) a
+  base-size {a = a} low on =
+      let nothing : sum (map (sizeOf t f) []) ≡ 0 = unfold sum in refl in
+      by-bases (λ l n. sum (map (sizeOf t f) l) ≡ n) a nothing
+      (λ b e. let (less, kind) = based-on on e in size-fields b (omega arith) kind)
 
   -- a field's layout is the part of its record's layout at the field's offset
   pub field-layout : (r n u : ℕ) → r < rowsOf t → Nth (fieldsOf t f r) n u → Part (layoutOf t f r) (offsetOf t f r n) (layoutOf t f u)
-  unfolding offsetOf
   field-layout r n u low h = go (decide (rowAt t r .kind) 4)
     where
-      go : (rowAt t r .kind ≡ 4) ⊎ (rowAt t r .kind ≡ 4 → ⊥) → Part (layoutOf t f r) (sum (map (sizeOf t f) (take n (fieldsOf t f r)))) (layoutOf t f u)
+      go : (rowAt t r .kind ≡ 4) ⊎ (rowAt t r .kind ≡ 4 → ⊥) → Part (layoutOf t f r) (offsetOf t f r n) (layoutOf t f u)
       go (inl kind) =
           rw (
+            offset-is t f r n,
             record-layout (suc r) r (omega arith) low kind,
             ← length-joined (sizeOf t f) (layoutOf t f) (layout-length t f) (take n (fieldsOf t f r)),
             ← take-map (layoutOf t f) n (fieldsOf t f r),
           )
           (part-joined (nth-map (layoutOf t f) h))
-      go (inr other) = absurd (not-field r n u low other h)
+      go (inr other) = absurd (nth-nil (rw (no-fields t f kept r low other) at h))
 
   -- an element's layout is the part of its array's layout at the element's place
-  pub element-layout : (r element n i : ℕ) → r < rowsOf t → form t r ≡ array element n → i < n
-      → Part (layoutOf t f r) (i * sizeOf t f element) (layoutOf t f element)
-  element-layout r element n i low e h =
-      let whole : layoutOf t f r ≡ joined (replicate n (layoutOf t f element)) = layout-is t f r (kept .row r low .shape) ∙ array-whole f (layoutOf t f) e in
-      let place : length (joined (take i (replicate n (layoutOf t f element)))) ≡ i * sizeOf t f element =
-      joined-replicate i n (layoutOf t f element) (omega arith) ∙ ap (λ k. i * k) (layout-length t f element) in
-      rw (whole, ← place) (part-joined (nth-replicate n i (layoutOf t f element) h))
+  pub element-layout : (r i : ℕ) → r < rowsOf t → rowAt t r .kind ≡ 3 → i < rowAt t r .b
+      → Part (layoutOf t f r) (i * sizeOf t f (rowAt t r .a)) (layoutOf t f (rowAt t r .a))
+  element-layout r i low kind h =
+      let n = rowAt t r .b in
+      let one = layoutOf t f (rowAt t r .a) in
+      let place : length (joined (take i (replicate n one))) ≡ i * sizeOf t f (rowAt t r .a) =
+      joined-replicate i n one (omega arith) ∙ ap (λ k. i * k) (layout-length t f (rowAt t r .a)) in
+      rw (array-layout t f kept r low kind, ← place) (part-joined (nth-replicate n i one h))

@@ -1,4 +1,5 @@
 pub mod Rows
 pub mod Accepted
 pub mod Singles
+pub mod ByKind
 pub mod Layouts

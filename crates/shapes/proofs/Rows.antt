@@ -6,15 +6,16 @@ use native.Mathlib.Omega.{arith}
 use native.Mathlib.Decide.{decLt}
 use borrow.Author.Tests.{le-leb, lt-leb, eq-eqb, ne-eqb}
 use lib.Dec.{ltb, eqb}
-use lib.ListN.{length}
+use lib.ListN.{length, getD, take}
 use lib.Pow.{pow-pos, pow-add}
 use native.Mathlib.Nat.{le-of-lt, lt-of-le-of-lt, mul-le-mul-left, mul-lt-mul-of-pos-right}
 use Rattle.prelude.specs.Choice.{choose, _also_}
 use Rattle.prelude.specs.Parts.{sum}
+use Rattle.prelude.proofs.Each.{Each, Each.none, Each.more}
 use Rattle.image.specs.declared.Row.{Row}
 use Rattle.image.specs.Rows.{rowAt}
-use Rattle.shapes.specs.Forms.{Form, Form.scalar, Form.array, Form.recordOf, Form.noForm, formOf, form, baseOf}
-use Rattle.shapes.specs.Forms.{countOf, ofBase, ownTypes}
+use Rattle.shapes.specs.Forms.{Form, Form.scalar, Form.array, Form.recordOf, Form.noForm, formOf, form}
+use Rattle.shapes.specs.Forms.{baseOf, countOf, ofBase, ownTypes}
 use Rattle.shapes.specs.Shapes.{baseKept}
 
 -- the product of a number of j bits and one of k bits has at most j + k
@@ -66,34 +67,65 @@ module _ (r : Row) where
   unfolding baseOf countOf
   no-record h = by-form (λ x. (baseOf x ≡ 0) × (countOf x ≡ 0)) (λ k. (refl, refl)) (λ e n. (refl, refl)) (refl, refl) h
 
--- the kind of a type row that is a scalar
-pub scalar-low : (t : List ℕ) (r : ℕ) {k : ℕ} → form t r ≡ scalar k → k < 3
-unfolding form
-scalar-low t r {k} =
-    by-any-form (rowAt t r) (λ x. x ≡ scalar k → k < 3)
-    (λ j low e. let same : j ≡ k = cc in omega arith)
-    (λ element n e. let z : _≡_ {A = ℕ} 0 1 = cc in absurd (omega arith))
-    (λ base first count e. let z : _≡_ {A = ℕ} 0 1 = cc in absurd (omega arith))
-    (λ e. let z : _≡_ {A = ℕ} 0 1 = cc in absurd (omega arith))
+-- ---- the form of a type row
 
--- ---- bases and own fields
+pub row-form : (t : List ℕ) (r : ℕ) {row : Row} → row ≡ rowAt t r → formOf row ≡ form t r
+unfolding form
+row-form t r this = ap formOf this
+
+-- a record's base, and how many field rows it claims
+pub of-record : {x : Form} {base first count : ℕ} → x ≡ recordOf base first count
+    → (baseOf x ≡ base) × (countOf x ≡ count)
+unfolding baseOf countOf
+of-record e = (rw e, rw e)
+
+module _ (t : List ℕ) (r : ℕ) where
+  pub array-form : rowAt t r .kind ≡ 3 → form t r ≡ array (rowAt t r .a) (rowAt t r .b)
+  unfolding form
+  array-form kind = form-array (rowAt t r) kind
+
+  pub record-form : rowAt t r .kind ≡ 4 → form t r ≡ recordOf (rowAt t r .a) (rowAt t r .b) (rowAt t r .c)
+  unfolding form
+  record-form kind = form-record (rowAt t r) kind
+
+-- ---- bases
 
 pub less-one : (b : ℕ) → suc b - 1 ≡ b
 less-one b = omega arith
 
-pub of-no-base : {X : Type 0} (none : X) (g : ℕ → X) (a : ℕ) → a ≡ 0 → ofBase none g a ≡ none
+pub of-no-base : {X : Type 0} (d : X) (g : ℕ → X) (a : ℕ) → a ≡ 0 → ofBase d g a ≡ d
 unfolding ofBase
-of-no-base none g a e = rw e
+of-no-base d g a e = rw e
 
-pub of-base : {X : Type 0} (none : X) (g : ℕ → X) (a : ℕ) → 0 < a → ofBase none g a ≡ g (a - 1)
+pub of-base : {X : Type 0} (d : X) (g : ℕ → X) (a : ℕ) → 0 < a → ofBase d g a ≡ g (a - 1)
 unfolding ofBase
-of-base none g zero h = absurd (omega arith)
-of-base none g (suc b) h = rw (less-one b)
+of-base d g zero h = absurd (omega arith)
+of-base d g (suc b) h = rw (less-one b)
+
+pub of-row : {X : Type 0} (d : X) (g : ℕ → X) {a b : ℕ} → a ≡ suc b → ofBase d g a ≡ g b
+unfolding ofBase
+of-row d g e = rw e
+
+-- what holds of none, and of the base's, holds of what a base gives
+pub by-base : {X : Type 0} {d : X} {g : ℕ → X} (P : X → Type 0) (a : ℕ) → P d → ((b : ℕ) → a ≡ suc b → P (g b))
+    → P (ofBase d g a)
+unfolding ofBase
+by-base P zero n s = n
+by-base P (suc b) n s = s b refl
+
+-- the same of what two functions give
+pub by-bases : {X Y : Type 0} {d : X} {e : Y} {g : ℕ → X} {h : ℕ → Y} (R : X → Y → Type 0) (a : ℕ) → R d e
+    → ((b : ℕ) → a ≡ suc b → R (g b) (h b)) → R (ofBase d g a) (ofBase e h a)
+unfolding ofBase
+by-bases R zero n s = n
+by-bases R (suc b) n s = s b refl
 
 pub kept-base : (t : List ℕ) (r a : ℕ) → 0 < a → baseKept t r a ≡ (ltb (a - 1) r also eqb (rowAt t (a - 1) .kind) 4)
 unfolding baseKept
 kept-base t r zero h = absurd (omega arith)
 kept-base t r (suc b) h = rw (less-one b)
+
+-- ---- own fields
 
 -- a loop over the field rows below e, at row k
 module _ (f : List ℕ) (k e : ℕ) where
@@ -113,7 +145,49 @@ module _ (f : List ℕ) (k e : ℕ) where
   unfolding sum
   sum-end g h = rw (own-end h)
 
+pub own-none : (f : List ℕ) (k : ℕ) → ownTypes f k 0 ≡ []
+unfolding ownTypes
+own-none f k = refl
+
 pub own-length : (f : List ℕ) (k n : ℕ) → length (ownTypes f k n) ≡ n
 unfolding ownTypes
 own-length f k zero = refl
 own-length f k (suc n) = ap suc (own-length f (k + 1) n)
+
+-- what holds of the type in each field row
+pub own-each : {P : ℕ → Type 0} (f : List ℕ) (k n : ℕ) → ((j : ℕ) → k ≤ j → j < k + n → P (rowAt f j .a))
+    → Each P (ownTypes f k n)
+unfolding ownTypes
+own-each f k zero h = none
+own-each f k (suc n) h =
+    more (h k (omega arith) (omega arith)) (own-each f (k + 1) n (λ j low high. h j (omega arith) (omega arith)))
+
+pub own-take : (f : List ℕ) (j n k : ℕ) → j ≤ n → take j (ownTypes f k n) ≡ ownTypes f k j
+unfolding ownTypes
+own-take f zero n k h = refl
+own-take f (suc j) zero k h = absurd (omega arith)
+own-take f (suc j) (suc n) k h = ap (λ l. rowAt f k .a ∷ l) (own-take f j n (k + 1) (omega arith))
+
+pub own-at : (f : List ℕ) (j n k : ℕ) → j < n → getD (ownTypes f k n) j 0 ≡ rowAt f (k + j) .a
+unfolding ownTypes
+own-at f j zero k h = absurd (omega arith)
+own-at f zero (suc n) k h = let q : k + 0 ≡ k = omega arith in rw q
+own-at f (suc j) (suc n) k h =
+    let q : k + 1 + j ≡ k + suc j = omega arith in
+    rw q at (own-at f j n (k + 1) (omega arith))
+
+-- the sizes of one own field more, at the end
+pub sum-more : (f : List ℕ) (g : ℕ → ℕ) (m k : ℕ) → sum (map g (ownTypes f k (suc m)))
+    ≡ sum (map g (ownTypes f k m)) + g (rowAt f (k + m) .a)
+unfolding ownTypes sum
+sum-more f g zero k = let q : k + 0 ≡ k = omega arith in rw q (omega arith)
+sum-more f g (suc m) k =
+    let q : k + 1 + m ≡ k + suc m = omega arith in
+    let rest = rw q at (sum-more f g m (k + 1)) in
+    omega (arith, rest)
+
+pub sum-up : (f : List ℕ) (g : ℕ → ℕ) (m n k : ℕ) → m ≤ n → sum (map g (ownTypes f k m)) ≤ sum (map g (ownTypes f k n))
+unfolding ownTypes sum
+sum-up f g zero n k h = omega arith
+sum-up f g (suc m) zero k h = absurd (omega arith)
+sum-up f g (suc m) (suc n) k h = let rest = sum-up f g m n (k + 1) (omega arith) in omega (arith, rest)

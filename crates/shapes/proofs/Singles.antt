@@ -54,7 +54,7 @@ module _ (t : List ℕ) (r : ℕ) where
   unfolding isSingle
   no-single e = rw (eq-eqb (kindIn t r) NO_KIND e)
 
-  single-form : isSingle t r ≡ true → form t r ≡ scalar (kindIn t r)
+  pub single-form : isSingle t r ≡ true → form t r ≡ scalar (kindIn t r)
   unfolding kindIn
   single-form e = kind-form (form t r) (single-kind e)
 
@@ -70,6 +70,16 @@ module _ (t : List ℕ) (r : ℕ) where
       go : Dec (rowAt t r .kind < 3) → rowAt t r .kind < 3
       go (yes l) = l
       go (no l) = absurd (single-kind e (unfold kindIn form in no-scalar (rowAt t r) (omega arith)))
+
+  low-kind : rowAt t r .kind < 3 → kindIn t r ≡ rowAt t r .kind
+  unfolding kindIn form
+  low-kind h = scalar-kind (rowAt t r) h
+
+  pub low-single : rowAt t r .kind < 3 → isSingle t r ≡ true
+  low-single h = kind-single (λ e. absurd (omega (arith, low-kind h)))
+
+  pub single-small : isSingle t r ≡ true → kindIn t r < 3
+  single-small e = let low = single-low e in omega (arith, low-kind low)
 
   pub single-there : isSingle t r ≡ true → r < rowsOf t
   single-there e = let low = single-low e in row-there t r (omega arith)

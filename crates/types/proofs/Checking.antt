@@ -1,5 +1,5 @@
 -- Laws of the loop that asks question 4, row by row.
-use mathlib.Core.Path.{_≡_, refl, sym, _∙_, ap}
+use mathlib.Core.Path.{_≡_, sym, _∙_, ap}
 use mathlib.Core.Bool.{true, false}
 use mathlib.Core.List.{List}
 use Prim.Native.Nat.{ℕ, suc, _+_, _≤_, _<_}
@@ -20,9 +20,10 @@ use Rattle.shapes.specs.Shapes.{usedBelow, shapeKept, typeKept}
 use Rattle.types.specs.Question.{question4}
 use Rattle.types.specs.Plan.{Plan, Rest, passed}
 use Rattle.types.specs.Filling.{Ready}
-use Rattle.shapes.proofs.Accepted.{Shape, shape-of, size-agree, size-is}
+use Rattle.shapes.proofs.Rows.{row-form}
+use Rattle.shapes.proofs.Accepted.{Shape, shape-of, size-agree, size-is, used-none, used-next, used-fits}
 use Rattle.sizes.specs.Cells.{PLACES}
-use Rattle.types.proofs.Planning.{used-next, used-fits, plan-none, rest-none, rest-more}
+use Rattle.types.proofs.Planning.{plan-none, rest-none, rest-more}
 
 -- the rows below r are passed
 pub record Sofar (version : ℕ) (t f old plan : List ℕ) (r used : ℕ) : Type 0 where
@@ -37,13 +38,12 @@ pub record Sofar (version : ℕ) (t f old plan : List ℕ) (r used : ℕ) : Type
 
 pub sofar-none : {version : ℕ} (t f plan : List ℕ) → rowsOf t ≤ 64 → rowsOf f ≤ 256 → PLACES ≤ length plan
     → Sofar version t f plan plan 0 0
-unfolding usedBelow
 sofar-none {version} t f plan a b c = record {
   few-rows = a;
   few-fields = b;
   room = c;
   within = omega arith;
-  claimed = refl;
+  claimed = sym (used-none t);
   below = kept-none (typeKept version t f) 0;
   planned = plan-none t f plan;
   rest = rest-none t plan;
@@ -76,14 +76,12 @@ module _ {version : ℕ} (t f old plan : List ℕ) (r used : ℕ) (s : Sofar ver
     module _ (shape : shapeKept version t f used r row ≡ true) (size : ℕ)
         (adds : size ≡ sizeBy f (λ b. getD plan b 0) (formOf row)) where
       here-shape : Shape t f used r (form t r)
-      unfolding form
-      here-shape = rw this-row at (shape-of version t f used r row shape)
+      here-shape = rw (row-form t r this-row) at (shape-of version t f used r row shape)
 
       sized : size ≡ sizeOf t f r
-      unfolding form
       sized =
           adds
-          ∙ ap (λ (x : Row). sizeBy f (λ b. getD plan b 0) (formOf x)) this-row
+          ∙ ap (λ x. sizeBy f (λ b. getD plan b 0) x) (row-form t r this-row)
           ∙ size-agree (λ b. getD plan b 0) (sizeOf t f) here-shape (λ b low. planned .size b low)
           ∙ sym (size-is t f r here-shape)
 
@@ -112,13 +110,14 @@ module _ {version : ℕ} (t f old plan : List ℕ) (r used : ℕ) (s : Sofar ver
 
         pub sofar-next : (next : List ℕ) (own : ℕ) → own ≡ countOf (formOf row) → Plan t f (r + 1) next → Rest t (r + 1) plan next
             → Sofar version t f old next (r + 1) (used + own)
-        unfolding form
         sofar-next next own counted p q = record {
           few-rows = few-rows;
           few-fields = few-fields;
           room = room;
           within = omega arith;
-          claimed = let one : r + 1 ≡ suc r = omega arith in rw one (rw (claimed, counted, this-row) (sym (used-next t r)));
+          claimed =
+              let one : r + 1 ≡ suc r = omega arith in
+              rw one (rw (claimed, counted, row-form t r this-row) (sym (used-next t r)));
           below = kept-next (typeKept version t f) 0 r below kept-here;
           planned = p;
           rest = rest-more t r old plan next rest q;

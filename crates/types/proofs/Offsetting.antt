@@ -1,31 +1,16 @@
 -- Laws of the loop that writes the places of own fields.
-use mathlib.Core.Path.{_≡_, refl, _∙_}
+use mathlib.Core.Path.{_≡_, _∙_}
 use mathlib.Core.List.{List, map}
-use Prim.Native.Nat.{ℕ, zero, suc, _+_, _-_, _≤_, _<_}
+use Prim.Native.Nat.{ℕ, suc, _+_, _-_, _≤_, _<_}
 use native.Mathlib.Omega.{arith}
-use native.Mathlib.Decide.{decLt}
-use lib.ListN.{length, getD, set, length-set}
+use lib.ListN.{length, getD, set}
 use Rattle.prelude.specs.Parts.{sum}
 use Rattle.prelude.proofs.Cells.{filled-none, filled-next}
 use Rattle.image.specs.Rows.{rowAt}
 use Rattle.shapes.specs.Forms.{ownTypes}
+use Rattle.shapes.proofs.Rows.{sum-more, sum-up}
 use Rattle.sizes.specs.Cells.{OFFSETS}
 use Rattle.types.specs.Filling.{OffsetsFit, Offsets}
-
--- the sizes of one own field more, at the end
-pub sum-more : (f : List ℕ) (g : ℕ → ℕ) (m k : ℕ) → sum (map g (ownTypes f k (suc m))) ≡ sum (map g (ownTypes f k m)) + g (rowAt f (k + m) .a)
-unfolding ownTypes sum
-sum-more f g zero k = let q : k + 0 ≡ k = omega arith in rw q (omega arith)
-sum-more f g (suc m) k =
-    let q : k + 1 + m ≡ k + suc m = omega arith in
-    let rest = rw q at (sum-more f g m (k + 1)) in
-    omega (arith, rest)
-
-pub sum-up : (f : List ℕ) (g : ℕ → ℕ) (m n k : ℕ) → m ≤ n → sum (map g (ownTypes f k m)) ≤ sum (map g (ownTypes f k n))
-unfolding ownTypes sum
-sum-up f g zero n k h = omega arith
-sum-up f g (suc m) zero k h = absurd (omega arith)
-sum-up f g (suc m) (suc n) k h = let rest = sum-up f g m n (k + 1) (omega arith) in omega (arith, rest)
 
 module _ (f : List ℕ) (k at : ℕ) (old : List ℕ) where
   abbrev held : ℕ → ℕ

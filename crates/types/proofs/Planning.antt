@@ -1,7 +1,7 @@
 -- Laws of the plan, a type row at a time.
 use mathlib.Core.Path.{_≡_, refl, sym, _∙_, ap}
 use mathlib.Core.Bool.{true}
-use mathlib.Core.List.{List, map}
+use mathlib.Core.List.{List, [], map}
 use Prim.Native.Nat.{ℕ, zero, suc, _+_, _≤_, _<_}
 use native.Mathlib.Omega.{arith}
 use native.Mathlib.Decide.{decLt}
@@ -11,59 +11,18 @@ use Rattle.prelude.specs.Parts.{sum}
 use Rattle.image.specs.declared.Row.{Row}
 use Rattle.image.specs.Rows.{rowAt, rowsOf}
 use Rattle.image.specs.Faults.{KeptIn}
-use Rattle.shapes.specs.Forms.{Form, Form.recordOf, formOf, form, baseOf, countOf, ofBase, ownTypes}
-use Rattle.shapes.specs.Sizes.{sizeBy, sizeOf, fieldsBy, fieldsOf}
+use Rattle.shapes.specs.Forms.{Form.recordOf, formOf, form, baseOf, countOf, ofBase, ownTypes}
+use Rattle.shapes.specs.Sizes.{sizeOf, fieldsOf}
 use Rattle.shapes.specs.Shapes.{usedBelow, typeKept}
 use Rattle.types.specs.Plan.{inheritedOf, ownOffset, Plan, Rest}
 use Rattle.types.specs.Filling.{OffsetsFit, Offsets, Ready}
-use Rattle.shapes.proofs.Rows.{own-length, form-record}
-use Rattle.shapes.proofs.Accepted.{Based, Based.no-base, Based.on-base, Shape, Shape.is-scalar, Shape.is-array}
-use Rattle.shapes.proofs.Accepted.{Shape.is-record, row-kept, record-is, field-low, size-agree, size-is, fields-are}
-use Rattle.shapes.proofs.Accepted.{base-agree, fields-agree}
+use Rattle.shapes.proofs.Rows.{row-form, of-record, record-form, by-base, by-bases, own-length}
+use Rattle.shapes.proofs.Accepted.{Based, Shape, Made, row-kept, record-is, based-on, made-of, field-low, size-agree}
+use Rattle.shapes.proofs.Accepted.{size-is, fields-are, base-agree, fields-agree, used-next, used-up, used-fits}
+use Rattle.shapes.proofs.Layouts.{length-based}
 use Rattle.sizes.specs.Cells.{INHERITED, OFFSETS}
 
--- ---- field rows used up
-
-pub used-next : (t : List ℕ) (r : ℕ) → usedBelow t (suc r) ≡ usedBelow t r + countOf (form t r)
-unfolding usedBelow
-used-next t r = refl
-
-pub used-up : (t : List ℕ) (m n : ℕ) → m ≤ n → usedBelow t m ≤ usedBelow t n
-unfolding usedBelow
-used-up t zero n h = omega arith
-used-up t (suc m) zero h = absurd (omega arith)
-used-up t (suc m) (suc n) h = go (decLt m n) (λ l. used-up t (suc m) n l)
-  where
-    go : Dec (m < n) → (m < n → usedBelow t (suc m) ≤ usedBelow t n) → usedBelow t m + countOf (form t m) ≤ usedBelow t n + countOf (form t n)
-    go (yes l) rest = let r = rest l in omega arith
-    go (no l) rest = let q : m ≡ n = omega arith in rw q (omega arith)
-
-count-fits : {t f : List ℕ} {used r : ℕ} {x : Form} → Shape t f used r x → used ≤ rowsOf f → used + countOf x ≤ rowsOf f
-unfolding countOf
-count-fits is-scalar h = omega arith
-count-fits (is-array a b c) h = omega arith
-count-fits (is-record on rows own) h = rows
-
-pub used-fits : (version : ℕ) (t f : List ℕ) (n : ℕ) → KeptIn (typeKept version t f) 0 n → usedBelow t n ≤ rowsOf f
-unfolding usedBelow
-used-fits version t f zero kept = omega arith
-used-fits version t f (suc n) kept =
-    count-fits (row-kept version t f n (kept .each n (omega arith) (omega arith)) .shape)
-    (used-fits version t f n (record { each = λ j low high. kept .each j low (omega arith) }))
-
 -- ---- counts of fields
-
-length-by : {t f : List ℕ} {used r : ℕ} {x : Form} (g : ℕ → List ℕ) → Shape t f used r x
-    → length (fieldsBy f g x) ≡ ofBase 0 (λ b. length (g b)) (baseOf x) + countOf x
-unfolding fieldsBy baseOf countOf ofBase
-length-by g is-scalar = refl
-length-by g (is-array a b c) = refl
-length-by {f = f} {used} g (is-record {base = zero} {count = c} on rows own) = own-length f used c ∙ sym (plus c)
-  where
-    plus : (n : ℕ) → 0 + n ≡ n
-    plus n = omega arith
-length-by {f = f} {used} g (is-record {base = suc b} {count = c} on rows own) =
-    length-append (g b) (ownTypes f used c) ∙ rw (own-length f used c)
 
 -- a record's fields are its base's and its own
 pub fields-count : (version : ℕ) (t f : List ℕ) (r : ℕ) → typeKept version t f r ≡ true
@@ -71,18 +30,17 @@ pub fields-count : (version : ℕ) (t f : List ℕ) (r : ℕ) → typeKept versi
 unfolding inheritedOf
 fields-count version t f r kept =
     let shape = row-kept version t f r kept .shape in
-    ap length (fields-are t f r shape) ∙ length-by (fieldsOf t f) shape
+    let base = baseOf (form t r) in
+    let count = countOf (form t r) in
+    ap length (fields-are t f r shape ∙ made-of shape .fields (fieldsOf t f))
+    ∙ length-append (ofBase [] (fieldsOf t f) base) (ownTypes f (usedBelow t r) count)
+    ∙ rw (
+      length-based (λ b. length (fieldsOf t f b)) (fieldsOf t f) (λ b. refl) base,
+      own-length f (usedBelow t r) count,
+    )
 
 base-few : {t : List ℕ} {r a : ℕ} (g : ℕ → ℕ) (n : ℕ) → Based t r a → ((b : ℕ) → b < r → g b ≤ n) → ofBase 0 g a ≤ n
-unfolding ofBase
-base-few g n no-base h = omega arith
-base-few g n (on-base {b = b} low kind) h = h b low
-
-based-in : {t f : List ℕ} {used r : ℕ} {x : Form} → Shape t f used r x → Based t r (baseOf x)
-unfolding baseOf
-based-in is-scalar = no-base
-based-in (is-array a b c) = no-base
-based-in (is-record on rows own) = on
+base-few {a = a} g n on h = by-base (λ k. k ≤ n) a (omega arith) (λ b e. h b (based-on on e .0))
 
 -- a record has no more fields than field rows are used up
 few-fields : (version : ℕ) (t f : List ℕ) (n r : ℕ) → r < n → KeptIn (typeKept version t f) 0 (r + 1)
@@ -90,7 +48,7 @@ few-fields : (version : ℕ) (t f : List ℕ) (n r : ℕ) → r < n → KeptIn (
 unfolding inheritedOf
 few-fields version t f zero r h kept = absurd (omega arith)
 few-fields version t f (suc n) r h kept =
-    base-few _ _ (based-in (row-kept version t f r (kept .each r (omega arith) (omega arith)) .shape))
+    base-few _ _ (made-of (row-kept version t f r (kept .each r (omega arith) (omega arith)) .shape) .on)
     (λ b low. step b low
     (few-fields version t f n b (omega arith) (record { each = λ j a z. kept .each j a (omega arith) })))
   where
@@ -107,16 +65,6 @@ inherited-fits version t f r kept =
     let fits = used-fits version t f r (record { each = λ j low high. kept .each j low (omega arith) }) in
     omega arith
 
-count-record : (t : List ℕ) (b : ℕ) → rowAt t b .kind ≡ 4 → countOf (form t b) ≡ rowAt t b .c
-unfolding form countOf
-count-record t b kind = rw (form-record (rowAt t b) kind)
-
-own-low : {t f : List ℕ} {used r : ℕ} {x : Form} → Shape t f used r x → (j : ℕ) → used ≤ j → j < used + countOf x → rowAt f j .a < r
-unfolding countOf
-own-low is-scalar j low high = absurd (omega arith)
-own-low (is-array a b c) j low high = absurd (omega arith)
-own-low {f = f} {r = r} (is-record on rows own) j low high = field-low f r j (own .each j low high)
-
 -- ---- a row that is to be planned
 
 module _ (t f plan : List ℕ) (used r : ℕ) (row : Row) (size : ℕ) (ready : Ready t f plan used r row size) where
@@ -126,22 +74,24 @@ module _ (t f plan : List ℕ) (used r : ℕ) (row : Row) (size : ℕ) (ready : 
   abbrev held : ℕ → ℕ
   held b = getD plan b 0
 
-  row-form : formOf row ≡ form t r
-  unfolding form
-  row-form = ap formOf this-row
+  this-form : formOf row ≡ form t r
+  this-form = row-form t r this-row
 
   row-shape : Shape t f used r (form t r)
   row-shape = rw claimed (row-kept version t f r here .shape)
+
+  row-made : Made t f used r (form t r)
+  row-made = made-of row-shape
 
   held-is : (b : ℕ) → b < r → held b ≡ sizeOf t f b
   held-is b low = planned .size b low
 
   row-base : Based t r (baseOf (formOf row))
-  row-base = rw row-form (based-in row-shape)
+  row-base = rw this-form (row-made .on)
 
   -- the base's size, as the plan has it
   base-is : ofBase 0 held (baseOf (formOf row)) ≡ ofBase 0 (sizeOf t f) (baseOf (form t r))
-  base-is = base-agree 0 held (sizeOf t f) row-base held-is ∙ ap (λ x. ofBase 0 (sizeOf t f) (baseOf x)) row-form
+  base-is = base-agree 0 held (sizeOf t f) row-base held-is ∙ ap (λ x. ofBase 0 (sizeOf t f) (baseOf x)) this-form
 
   kept-to : KeptIn (typeKept version t f) 0 (r + 1)
   kept-to = record { each = λ j low high. go j (decLt j r) high }
@@ -163,39 +113,34 @@ module _ (t f plan : List ℕ) (used r : ℕ) (row : Row) (size : ℕ) (ready : 
 
   base-counts : {a : ℕ} → Based t r a
       → ofBase 0 (λ b. getD plan (INHERITED + b) 0 + rowAt t b .c) a ≡ ofBase 0 (λ b. length (fieldsOf t f b)) a
-  unfolding ofBase
-  base-counts no-base = refl
-  base-counts (on-base {b = b} low kind) =
-      rw (planned .inherited b low, ← count-record t b kind)
-      (sym (fields-count version t f b (below .each b (omega arith) low)))
+  base-counts {a} on =
+      by-bases _≡_ a refl
+      (λ b e.
+      let (low, kind) = based-on on e in
+      rw (planned .inherited b low, ← of-record (record-form t b kind) .1)
+      (sym (fields-count version t f b (below .each b (omega arith) low))))
 
   pub inherited-is : ofBase 0 (λ b. getD plan (INHERITED + b) 0 + rowAt t b .c) (baseOf (formOf row))
       ≡ inheritedOf t f r
   unfolding inheritedOf
-  inherited-is = base-counts row-base ∙ ap (λ x. ofBase 0 (λ b. length (fieldsOf t f b)) (baseOf x)) row-form
+  inherited-is = base-counts row-base ∙ ap (λ x. ofBase 0 (λ b. length (fieldsOf t f b)) (baseOf x)) this-form
 
   -- what the places of its own fields ask
-  total-is : {x : Form} → Shape t f used r x → ofBase 0 held (baseOf x) + sum (map held (ownTypes f used (countOf x))) ≤ sizeBy f held x
-  unfolding sizeBy baseOf countOf ofBase ownTypes sum
-  total-is is-scalar = omega arith
-  total-is (is-array a b c) = omega arith
-  total-is (is-record on rows own) = omega arith
-
   pub offsets-fit : OffsetsFit f plan used (countOf (formOf row)) (ofBase 0 held (baseOf (formOf row)))
-  offsets-fit = rw row-form (record { cells = room; low = types; total = whole })
+  offsets-fit = rw this-form (record { cells = room; low = types; total = whole })
     where
       fits : used + countOf (form t r) ≤ rowsOf f
-      fits = count-fits row-shape (rw claimed (used-fits version t f r below))
+      fits = row-made .within (rw claimed (used-fits version t f r below))
 
       room : OFFSETS + (used + countOf (form t r)) ≤ length plan
       room = let rows = ready .few-fields in omega (arith, fits)
 
       types : (j : ℕ) → used ≤ j → j < used + countOf (form t r) → rowAt f j .a < 64
-      types j low high = let l = own-low row-shape j low high in omega arith
+      types j low high = let l = field-low f r j (row-made .own .each j low high) in omega arith
 
       whole : ofBase 0 held (baseOf (form t r)) + sum (map held (ownTypes f used (countOf (form t r)))) ≤ 4096
       whole =
-          let total = total-is row-shape in
+          let total = row-made .size held in
           let size = size-agree held (sizeOf t f) row-shape held-is ∙ sym (size-is t f r row-shape) in
           let small = row-kept version t f r here .small in
           omega (arith, total, size, small)
@@ -244,26 +189,26 @@ module _ (t f plan : List ℕ) (used r : ℕ) (row : Row) (size : ℕ) (ready : 
 
     own-place : (base first n j : ℕ) → form t r ≡ recordOf base first n → j < n
         → getD next (OFFSETS + (first + j)) 0 ≡ ownOffset t f base first j
-    unfolding ownOffset baseOf countOf
+    unfolding ownOffset
     own-place base first n j e h =
         let is = record-is row-shape e in
-        let shape = row-form ∙ e in
-        let few : j < countOf (formOf row) = rw (ap countOf shape) h in
+        let shape = this-form ∙ e in
+        let few : j < countOf (formOf row) = rw (of-record shape .1) h in
         let own = fields-agree f held (sizeOf t f) r first j (record { each = λ k low high. is .own .each k low (omega arith) }) held-is in
-        let base-size : ofBase 0 held (baseOf (formOf row)) ≡ ofBase 0 (sizeOf t f) base = base-is ∙ ap (λ x. ofBase 0 (sizeOf t f) (baseOf x)) e in
+        let base-size : ofBase 0 held (baseOf (formOf row)) ≡ ofBase 0 (sizeOf t f) base =
+        base-is ∙ ap (λ b. ofBase 0 (sizeOf t f) b) (of-record e .0) in
         other (OFFSETS + (first + j)) (omega arith) (omega arith)
         ∙ rw (is .claims) (field-place j few ∙ rw (base-size, ← is .claims, own))
 
     next-offset : (x base first n j : ℕ) → x < r + 1 → form t x ≡ recordOf base first n → j < n
         → getD next (OFFSETS + (first + j)) 0 ≡ ownOffset t f base first j
-    unfolding countOf
     next-offset x base first n j h e l = go (decLt x r)
       where
         go : Dec (x < r) → getD next (OFFSETS + (first + j)) 0 ≡ ownOffset t f base first j
         go (yes low) =
             let is = record-is (row-kept version t f x (below .each x (omega arith) low) .shape) e in
             let claims = is .claims in
-            let counted : countOf (form t x) ≡ n = ap countOf e in
+            let counted : countOf (form t x) ≡ n = of-record e .1 in
             let up = used-up t (suc x) r low in
             let more = used-next t x in
             other (OFFSETS + (first + j)) (omega arith) (omega arith)
@@ -286,7 +231,7 @@ module _ (t f plan : List ℕ) (used r : ℕ) (row : Row) (size : ℕ) (ready : 
         far i low =
             let one : r + 1 ≡ suc r = omega arith in
             let more = used-next t r in
-            let counted : countOf (formOf row) ≡ countOf (form t r) = ap countOf row-form in
+            let counted : countOf (formOf row) ≡ countOf (form t r) = ap countOf this-form in
             let l = rw one at low in
             omega (arith, more, counted, l, claimed)
 

@@ -2,8 +2,8 @@ use mathlib.Core.Path.{_≡_, sym, _∙_, ap}
 use Prim.Native.Nat.{_+_, _-_}
 use native.Mathlib.Omega.{arith}
 use denote.Ref.{now}
-use Rattle.image.specs.declared.Row.{Row}
-use Rattle.shapes.specs.Forms.{formOf, form, baseOf}
+use Rattle.shapes.specs.Forms.{form, baseOf}
+use Rattle.shapes.proofs.Rows.{row-form}
 use Rattle.relations.proofs.Climbing.{up-none, up-high, up-low}
 use borrow.Author.Needs.{needs}
 use Rattle.ancestors.proofs.base_word.Statement.{statement}
@@ -16,8 +16,7 @@ use Rattle.shapes.proofs.base_of.Reads as base-of-reads
 -- the row's base
 base-is : (c : tie.After-base-of) → let s = c .before .before .before .before in
     c .base-of .result ≡ baseOf (form (now (s .args .t)) (s .args .r))
-unfolding form
-base-is c = c .base-of .ensures ∙ ap (λ (row : Row). baseOf (formOf row)) (c .before .row-at .ensures)
+base-is c = c .base-of .ensures ∙ ap baseOf (row-form _ _ (c .before .row-at .ensures))
 
 row-at-requires : tie.Need-row-at-requires
 row-at-requires c κs = search needs

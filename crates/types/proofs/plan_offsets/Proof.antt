@@ -3,6 +3,7 @@ use lib.ListN.{getD}
 use Rattle.prelude.specs.Parts.{sum}
 use Rattle.image.specs.declared.Row.{Row}
 use Rattle.shapes.specs.Forms.{ownTypes}
+use Rattle.shapes.proofs.Rows.{sum-end}
 use Rattle.types.specs.Filling.{Offsets}
 use Rattle.types.proofs.Offsetting.{Turn, at-turn, offsets-none, offsets-next}
 use mathlib.Core.Path.{_≡_, _∙_, ap}
@@ -41,10 +42,10 @@ add-end : tie.Need-add-end Inv-loop μ-loop
 add-end c = omega arith
 
 loop-holds : tie.Need-loop-holds Inv-loop μ-loop
-unfolding ownTypes sum
 loop-holds c = let a = c .before .before .args in
     let none : a .k - a .k ≡ 0 = omega arith in
-    (omega arith, omega arith, rw none (omega arith), rw none (offsets-none _ _ _ _))
+    let first = sum-end (now (a .f)) (a .k) (a .k) (λ r. getD (now (a .plan)) r 0) (omega arith) in
+    (omega arith, omega arith, omega (arith, first), rw none (offsets-none _ _ _ _))
 
 row-at-requires : tie.Need-row-at-requires Inv-loop μ-loop
 row-at-requires c κs = search needs
