@@ -10,9 +10,7 @@ use lib.ListN.{length, getD}
 use Rattle.prelude.specs.Cells.{Filled}
 use Rattle.image.specs.Rows.{rowAt, rowsOf}
 use Rattle.header.specs.Header.{tablesIn}
-use Rattle.shapes.specs.Forms.{kindIn}
-use Rattle.sizes.specs.Cells.{PLACES, FRAMES, FIRSTS, GLOBALS, BOUNDS, OWNERS, NODES, LOWER, UPPER, KINDS}
-use Rattle.sizes.specs.Cells.{RUN_PLAN}
+use Rattle.sizes.specs.Cells.{PLACES, FRAMES, FIRSTS, GLOBALS, BOUNDS, OWNERS, NODES, LOWER, UPPER, RUN_PLAN}
 use Rattle.types.specs.Plan.{Plan}
 use Rattle.relations.proofs.Fielding.{field-known}
 use Rattle.frames.specs.Variables.{isGlobal, globalsOf}
@@ -152,30 +150,26 @@ module _ (image old between plan : List ℕ) (room : RUN_PLAN ≤ length old) (a
       typed image old (left .between) room accepted (left .whole-plan) plan (cells ∙ left .filled .cells) low-same
       bounds-same
 
--- and the procedures of statements, what nodes designate, what each type extends and its cell's kind with it
+-- and the procedures of statements, what nodes designate and what each type extends with it
 pub opened-ready : (image old plan : List ℕ) (x : CheckAnswer) → RUN_PLAN ≤ length old → x ≡ Accepted
     → checkOf image ≡ x → Opened image old x plan → Ready image plan
 opened-ready image old plan x room e check (closed p) = let z : _≡_ {A = ℕ} 0 1 = cc in absurd (omega arith)
 opened-ready image old plan x room e check
-    (opened {between = between} {owned = first} {designated = second} {half = third} p owners nodes lower upper kinds) =
+    (opened {between = between} {owned = first} {designated = second} p owners nodes lower upper) =
     let few = program-accepted image check .counts in
-    let lower-last : (i : ℕ) → i < UPPER → getD plan i 0 ≡ getD third i 0 =
-    λ i h. kinds .below i (omega arith) ∙ upper .below i h in
     let types-last : (i : ℕ) → i < LOWER → getD plan i 0 ≡ getD second i 0 =
-    λ i h. lower-last i (omega arith) ∙ lower .below i h in
+    λ i h. upper .below i (omega arith) ∙ lower .below i h in
     let nodes-last : (i : ℕ) → i < NODES → getD plan i 0 ≡ getD first i 0 =
     λ i h. types-last i (omega arith) ∙ nodes .below i h in
     let checked =
-    prepared-checked image old between plan room check p
-    (kinds .cells ∙ upper .cells ∙ lower .cells ∙ nodes .cells ∙ owners .cells)
+    prepared-checked image old between plan room check p (upper .cells ∙ lower .cells ∙ nodes .cells ∙ owners .cells)
     (λ i h. nodes-last i (omega arith) ∙ owners .below i h) in
     record {
       planned = record {
         checked = checked;
         node = λ r h. types-last (NODES + r) (omega (arith, few .nodes)) ∙ nodes .cell r h;
-        lower = λ r h. lower-last (LOWER + r) (omega arith) ∙ lower .cell r h;
-        upper = λ r h. kinds .below (UPPER + r) (omega arith) ∙ upper .cell r h;
-        kind = kinds .cell;
+        lower = λ r h. upper .below (LOWER + r) (omega arith) ∙ lower .cell r h;
+        upper = upper .cell;
       };
       owner = λ r h. nodes-last (OWNERS + r) (omega (arith, few .statements)) ∙ owners .cell r h;
     }
@@ -188,13 +182,12 @@ pub opened-no : (image old plan : List ℕ) (x : CheckAnswer) {q row : ℕ} → 
 opened-no image old plan x e p = rw e (closed (rw e at p))
 
 -- of an accepted one
-pub opened-yes : (image old between owned designated half extended plan p t : List ℕ) (n : ℕ)
+pub opened-yes : (image old between owned designated half plan p t : List ℕ) (n : ℕ)
     → Prepared image old Accepted between → p ≡ programOf image .procedures
     → n ≡ rowsOf (programOf image .statements) → t ≡ programOf image .types
     → Filled OWNERS n (procedureAt p) between owned
     → Filled NODES (rowsOf (programOf image .nodes)) (nodeCell (programOf image)) owned designated
-    → Filled LOWER 64 (wordOf t 0) designated half → Filled UPPER 64 (wordOf t 32) half extended
-    → Filled KINDS (rowsOf t) (kindIn t) extended plan → Opened image old Accepted plan
-opened-yes image old between owned designated half extended plan p t n left procedures rows types owners nodes lower upper
-    kinds =
-    opened left (rw (procedures, rows) at owners) nodes (rw types at lower) (rw types at upper) (rw types at kinds)
+    → Filled LOWER 64 (wordOf t 0) designated half → Filled UPPER 64 (wordOf t 32) half plan
+    → Opened image old Accepted plan
+opened-yes image old between owned designated half plan p t n left procedures rows types owners nodes lower upper =
+    opened left (rw (procedures, rows) at owners) nodes (rw types at lower) (rw types at upper)

@@ -1,7 +1,6 @@
 -- What a machine needs to know of an image and its plan.
 -- To the cells that `checker` fills, OWNERS + r adds the procedure whose body has statement row r, NODES + r what node
--- row r designates, LOWER + r and UPPER + r which of the rows 0 to 31 and 32 to 63 type row r extends, and KINDS + r the
--- kind of its objects' one cell.
+-- row r designates, and LOWER + r and UPPER + r which of the rows 0 to 31 and 32 to 63 type row r extends.
 use Prim.Native.Nat.{ℕ, _+_, _≤_, _<_}
 use mathlib.Core.Path.{_≡_}
 use mathlib.Core.List.{List}
@@ -11,10 +10,8 @@ use Rattle.prelude.specs.Choice.{choose}
 use Rattle.prelude.specs.Cells.{Filled}
 use Rattle.image.specs.Rows.{rowsOf}
 use Rattle.header.specs.Header.{tablesIn}
-use Rattle.shapes.specs.Forms.{kindIn}
 use Rattle.shapes.specs.Sizes.{sizeOf}
-use Rattle.sizes.specs.Cells.{PLACES, FRAMES, FIRSTS, GLOBALS, BOUNDS, OWNERS, NODES, LOWER, UPPER, KINDS}
-use Rattle.sizes.specs.Cells.{RUN_PLAN}
+use Rattle.sizes.specs.Cells.{PLACES, FRAMES, FIRSTS, GLOBALS, BOUNDS, OWNERS, NODES, LOWER, UPPER, RUN_PLAN}
 use Rattle.relations.specs.Fields.{fieldOf, plannedField}
 use Rattle.frames.specs.Procedures.{firstVariable}
 use Rattle.statements.specs.Statements.{procedureAt}
@@ -59,13 +56,12 @@ pub record Checked (image plan : List ℕ) : Type 0 where
   pub globals : getD plan GLOBALS 0 ≡ globalRoom (programOf image)
   pub bound : (j : ℕ) → j < 12 → getD plan (BOUNDS + j) 0 ≡ boundOf (tablesIn image) j
 
--- with what each node designates, what each type extends and the kind of its cell
+-- with what each node designates and what each type extends
 pub record Planned (image plan : List ℕ) : Type 0 where
   pub checked : Checked image plan
   pub node : (r : ℕ) → r < rowsOf (programOf image .nodes) → getD plan (NODES + r) 0 ≡ nodeCell (programOf image) r
   pub lower : (r : ℕ) → r < 64 → getD plan (LOWER + r) 0 ≡ wordOf (programOf image .types) 0 r
   pub upper : (r : ℕ) → r < 64 → getD plan (UPPER + r) 0 ≡ wordOf (programOf image .types) 32 r
-  pub kind : (r : ℕ) → r < rowsOf (programOf image .types) → getD plan (KINDS + r) 0 ≡ kindIn (programOf image .types) r
 
 -- and the procedure of each statement
 pub record Ready (image plan : List ℕ) : Type 0 where
@@ -74,13 +70,12 @@ pub record Ready (image plan : List ℕ) : Type 0 where
       → getD plan (OWNERS + r) 0 ≡ procedureAt (programOf image .procedures) r
 
 -- what the check leaves in a lent plan, and behind acceptance the procedure of each statement, what each node
--- designates, what each type extends and the kind of its cell
+-- designates and what each type extends
 pub data Opened (image old : List ℕ) : CheckAnswer → List ℕ → Type 0 where
   closed : {q row : ℕ} {plan : List ℕ} → Prepared image old (Refused q row) plan → Opened image old (Refused q row) plan
-  opened : {between owned designated half extended plan : List ℕ} → Prepared image old Accepted between
+  opened : {between owned designated half plan : List ℕ} → Prepared image old Accepted between
       → Filled OWNERS (rowsOf (programOf image .statements)) (procedureAt (programOf image .procedures)) between owned
       → Filled NODES (rowsOf (programOf image .nodes)) (nodeCell (programOf image)) owned designated
       → Filled LOWER 64 (wordOf (programOf image .types) 0) designated half
-      → Filled UPPER 64 (wordOf (programOf image .types) 32) half extended
-      → Filled KINDS (rowsOf (programOf image .types)) (kindIn (programOf image .types)) extended plan
+      → Filled UPPER 64 (wordOf (programOf image .types) 32) half plan
       → Opened image old Accepted plan

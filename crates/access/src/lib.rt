@@ -8,7 +8,6 @@ use sizes::BOUNDS;
 use sizes::FIRSTS;
 use sizes::FRAMES;
 use sizes::GLOBALS;
-use sizes::KINDS;
 use sizes::LOWER;
 use sizes::NODES;
 use sizes::OWNERS;
@@ -22,7 +21,7 @@ ghost use Rattle.prelude.specs.Cells.{Filled};
 ghost use Rattle.image.specs.Rows.{rowAt, rowsOf};
 ghost use Rattle.shapes.specs.Forms.{kindIn, isSingle};
 ghost use Rattle.shapes.specs.Sizes.{sizeOf};
-ghost use Rattle.sizes.specs.Cells.{OWNERS, NODES, KINDS, RUN_PLAN};
+ghost use Rattle.sizes.specs.Cells.{OWNERS, NODES, RUN_PLAN};
 ghost use Rattle.types.specs.Plan.{Plan as TypesPlan};
 ghost use Rattle.relations.specs.Extends.{extends as extendsOf};
 ghost use Rattle.relations.specs.Fields.{fieldOf};
@@ -33,6 +32,9 @@ ghost use Rattle.checker.specs.Check.{checkOf};
 ghost use Rattle.semantics.specs.Layout.{placeOf};
 ghost use Rattle.semantics.specs.Running.{programOf, globalRoom};
 ghost use Rattle.access.specs.Ready.{tableOf, nodeCell, Checked, Planned, Ready, Opened};
+
+// The version that there is.
+const VERSION: u8 = 1;
 
 // The plan of a run, lent by a reference that is one number: docs/PLAN.md.
 pub type Plan = [u32; RUN_PLAN];
@@ -130,12 +132,16 @@ pub fn size_of(image: &&[u8], plan: &Plan, r: u16) -> u32
     plan[r as usize]
 }
 
-// The kind of an object of type row r that is a single cell; shapes::NO_KIND of any other.
+// The kind of an object of type row r that is a single cell, shapes::NO_KIND of any other: the scalars stand first, each
+// in the row of its kind.
 pub fn kind_of(image: &&[u8], plan: &Plan, r: u16) -> u16
     requires { ⌜ Planned (now (now image)) (now plan) × (r < rowsOf (programOf (now (now image)) .types)) ⌝ }
     ensures { λ x. ⌜ x ≡ kindIn (programOf (now (now (image .entry))) .types) r ⌝ }
 {
-    plan[KINDS + r as usize] as u16
+    if r < image::scalar_rows(VERSION) {
+        return r;
+    }
+    NO_KIND
 }
 
 // Whether objects of type row r are single cells.
@@ -247,20 +253,6 @@ fn fill_nodes(image: &[u8], plan: &mut [u32])
     designators::fill(t, f, v, n, plan);
 }
 
-// Writes the kind of each type row.
-fn fill_kinds(t: &[u8], plan: &mut [u32])
-    requires { ⌜ (rowsOf (now t) ≤ 64) × (RUN_PLAN ≤ length (now plan)) ⌝ }
-    ensures { λ x. ⌜ Filled KINDS (rowsOf (now (t .entry))) (kindIn (now (t .entry))) (now (plan .entry))
-        (now (plan .exit)) ⌝ }
-{
-    let n = image::rows_of(t);
-    let mut r: usize = 0;
-    while r < n {
-        plan[KINDS + r] = shapes::kind_in(t, r as u16) as u32;
-        r = r + 1;
-    }
-}
-
 // The check, which leaves a whole plan of an image that it accepts.
 pub fn open_image(image: &[u8], plan: &mut [u32]) -> CheckAnswer
     requires { ⌜ RUN_PLAN ≤ length (now plan) ⌝ }
@@ -278,6 +270,5 @@ pub fn open_image(image: &[u8], plan: &mut [u32]) -> CheckAnswer
     fill_nodes(image, plan);
     ancestors::fill(t, plan, LOWER, 0);
     ancestors::fill(t, plan, UPPER, 32);
-    fill_kinds(t, plan);
     CheckAnswer::Accepted
 }

@@ -89,6 +89,17 @@ later-shape t f used r row e =
     (choose-cases (eqb (row .kind) 4) (a .1)))
     (choose-cases (eqb (row .kind) 3) e)
 
+later-high : (t f : List ℕ) (used r : ℕ) (row : Row) → laterKept t f used r row ≡ true → 3 ≤ row .kind
+unfolding laterKept
+later-high t f used r row e =
+    ⊎-elim
+    (λ a. let kind = eqb-true (row .kind) 3 (a .0) in omega arith)
+    (λ a. ⊎-elim
+    (λ b. let kind = eqb-true (row .kind) 4 (b .0) in omega arith)
+    (λ b. clash (sym (b .1)))
+    (choose-cases (eqb (row .kind) 4) (a .1)))
+    (choose-cases (eqb (row .kind) 3) e)
+
 module _ (version : ℕ) (t f : List ℕ) (used r : ℕ) (row : Row) (e : shapeKept version t f used r row ≡ true) where
   scalar-first : r < scalarRows version → formOf row ≡ scalar r
   unfolding shapeKept
@@ -101,6 +112,13 @@ module _ (version : ℕ) (t f : List ℕ) (used r : ℕ) (row : Row) (e : shapeK
   pub scalar-shaped : r < scalarRows version → kindBy (formOf row) ≡ r
   unfolding kindBy
   scalar-shaped h = rw (scalar-first h)
+
+  -- "Later rows are kind 3, array (..), or kind 4, record"
+  pub later-shaped : scalarRows version ≤ r → 3 ≤ row .kind
+  unfolding shapeKept
+  later-shaped h =
+      later-high t f used r row
+      (sym (choose-no _ _ _ (le-ltb r (scalarRows version) h)) ∙ also-true _ _ e .1)
 
   pub shape-of : Shape t f used r (formOf row)
   unfolding shapeKept

@@ -37,8 +37,5 @@ LOWER = NODES + 2048
 abbrev pub UPPER : ℕ
 UPPER = LOWER + 64
 
-abbrev pub KINDS : ℕ
-KINDS = UPPER + 64
-
 abbrev pub RUN_PLAN : ℕ
-RUN_PLAN = KINDS + 64
+RUN_PLAN = UPPER + 64

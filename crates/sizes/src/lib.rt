@@ -23,10 +23,9 @@ ghost use Rattle.shapes.specs.Sizes.{sizeBy};
 // 1806  NODES       + r: of node row r the field's offset, the type, and the record that the field is in    access
 // 3854  LOWER       + r: bit u: type row r extends row u                                                    access
 // 3918  UPPER       + r: bit u: type row r extends row 32 + u                                               access
-// 3982  KINDS       + r: the kind of an object of type row r that is a single cell, 255 of any other        access
 //
 //  782  CHECK_PLAN  how many cells the check needs
-// 4046  RUN_PLAN    how many cells a run needs
+// 3982  RUN_PLAN    how many cells a run needs
 pub const INHERITED: usize = 64;
 
 pub const OFFSETS: usize = INHERITED + 64;
@@ -51,9 +50,7 @@ pub const LOWER: usize = NODES + 2048;
 
 pub const UPPER: usize = LOWER + 64;
 
-pub const KINDS: usize = UPPER + 64;
-
-pub const RUN_PLAN: usize = KINDS + 64;
+pub const RUN_PLAN: usize = UPPER + 64;
 
 // A cell of the plan, 0 past its end.
 pub fn cell(plan: &[u32], i: usize) -> u32

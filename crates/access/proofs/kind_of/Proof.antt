@@ -1,29 +1,27 @@
+use mathlib.Core.Path.{sym}
 use native.Mathlib.Omega.{arith}
 use denote.Ref.{now}
-use Rattle.shapes.proofs.Singles.{kind-small}
-use Rattle.semantics.specs.Running.{programOf}
-use Rattle.access.proofs.Bounds.{types-few}
+use Rattle.image.proofs.Versions.{three-rows, few-rows}
+use Rattle.types.proofs.Accepted.{scalar-row, later-row}
+use Rattle.semantics.proofs.Demand3.{program-accepted}
 use borrow.Author.Needs.{needs}
 use Rattle.access.proofs.kind_of.Statement.{statement}
 use Rattle.access.proofs.kind_of.Tie as tie
 
-add-result : tie.Need-add-result
-add-result c = search needs
-
-mul-result : tie.Need-mul-result
-mul-result c = search needs
-
-element-copy-out-result : tie.Need-element-copy-out-result
-element-copy-out-result c = omega (arith, c .pre .0 .checked .cells, types-few (c .pre .0), c .pre .1)
-
-cast-result : tie.Need-cast-result
-cast-result c = let s = c .before in
-    let types = programOf (now (now (s .args .image))) .types in
-    omega (arith, s .pre .0 .kind _ (s .pre .1), kind-small types (s .args .r))
+scalar-rows-requires : tie.Need-scalar-rows-requires
+scalar-rows-requires c κs = search needs
 
 returns : tie.Need-returns
-returns c = let s = c .before in s .pre .0 .kind _ (s .pre .1)
+returns c = let s = c .before .before in
+    let accepted = program-accepted _ (s .pre .0 .checked .accepted) .questions .types in
+    sym (scalar-row _ _ accepted _ (s .pre .1)
+    (omega (arith, c .if1 .taken, c .before .scalar-rows .ensures, few-rows 1, three-rows (accepted .version))))
+
+returns-2 : tie.Need-returns-2
+returns-2 c = let s = c .before .before in
+    let accepted = program-accepted _ (s .pre .0 .checked .accepted) .questions .types in
+    sym (later-row _ _ accepted _ (s .pre .1)
+    (omega (arith, c .if1 .left, c .before .scalar-rows .ensures, three-rows 1, few-rows (accepted .version))))
 
 pub kind-of-spec : {M : Type 1} → statement M
-kind-of-spec =
-    tie.close (tie.spec add-result mul-result element-copy-out-result cast-result returns)
+kind-of-spec = tie.close (tie.spec scalar-rows-requires returns returns-2)

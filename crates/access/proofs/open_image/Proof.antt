@@ -108,42 +108,20 @@ fill-requires-2 c κs = let lower = c .before .before .before in
           (arith, lower .fill .ensures .cells, nodes .fill-nodes .ensures .cells, owners .fill-owners .ensures .cells, b .cells),
     )
 
-fill-kinds-requires : tie.Need-fill-kinds-requires
-fill-kinds-requires c κs = let upper = c .before .before .before in
-    let lower = upper .before .before .before .before in
-    let nodes = lower .before .before .before .before in
-    let owners = nodes .before .before .before .before in
-    let e = owners .before .before .before .before .before .before .before .before .before in
-    let (procedures, rows, types) = tables (owners .before .before) in
-    let b = checked e in (
-      rw types (program-accepted _ (accepted e .0) .counts .types),
-      omega (
-        arith,
-        upper .fill2 .ensures .cells,
-        lower .fill .ensures .cells,
-        nodes .fill-nodes .ensures .cells,
-        owners .fill-owners .ensures .cells,
-        b .cells,
-      ),
-    )
-
 same-length-2 : tie.Need-same-length-2
-same-length-2 c = let kinds = c .before .before in
-    let upper = kinds .before .before .before .before in
+same-length-2 c = let upper = c .before .before in
     let lower = upper .before .before .before .before in
     let nodes = lower .before .before .before .before in
     let owners = nodes .before .before .before .before in
     let e = owners .before .before .before .before .before .before .before .before .before in
-    kinds .fill-kinds .ensures .cells
-    ∙ upper .fill2 .ensures .cells
+    upper .fill2 .ensures .cells
     ∙ lower .fill .ensures .cells
     ∙ nodes .fill-nodes .ensures .cells
     ∙ owners .fill-owners .ensures .cells
     ∙ e .before .before .before .before .prepare .kept .1 .0
 
 returns-2 : tie.Need-returns-2
-returns-2 c = let kinds = c .before .before in
-    let upper = kinds .before .before .before .before in
+returns-2 c = let upper = c .before .before in
     let lower = upper .before .before .before .before in
     let nodes = lower .before .before .before .before in
     let owners = nodes .before .before .before .before in
@@ -151,8 +129,8 @@ returns-2 c = let kinds = c .before .before in
     let (check, left) = accepted (t .before .before .before .before .before .before .before) in
     let (procedures, rows, types) = tables t in (
       sym check,
-      opened-yes _ _ _ _ _ _ _ _ _ _ _ left procedures rows types (owners .fill-owners .ensures)
-          (nodes .fill-nodes .ensures) (lower .fill .ensures) (upper .fill2 .ensures) (kinds .fill-kinds .ensures),
+      opened-yes _ _ _ _ _ _ _ _ _ _ left procedures rows types (owners .fill-owners .ensures)
+          (nodes .fill-nodes .ensures) (lower .fill .ensures) (upper .fill2 .ensures),
     )
 
 pub open-image-spec : {M : Type 1} → statement M
@@ -172,6 +150,5 @@ open-image-spec =
     fill-nodes-requires
     fill-requires
     fill-requires-2
-    fill-kinds-requires
     same-length-2
     returns-2)
