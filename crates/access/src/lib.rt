@@ -3,7 +3,6 @@
 use checker::CheckAnswer;
 use image::Row;
 use relations::FieldAnswer;
-use shapes::NO_KIND;
 use sizes::BOUNDS;
 use sizes::FIRSTS;
 use sizes::FRAMES;
@@ -19,7 +18,7 @@ ghost use Prim.Native.Nat.{_≤_, _<_};
 ghost use lib.ListN.{length};
 ghost use Rattle.prelude.specs.Cells.{Filled};
 ghost use Rattle.image.specs.Rows.{rowAt, rowsOf};
-ghost use Rattle.shapes.specs.Forms.{kindIn, isSingle};
+ghost use Rattle.shapes.specs.Forms.{isSingle};
 ghost use Rattle.shapes.specs.Sizes.{sizeOf};
 ghost use Rattle.sizes.specs.Cells.{OWNERS, NODES, RUN_PLAN};
 ghost use Rattle.types.specs.Plan.{Plan as TypesPlan};
@@ -132,24 +131,12 @@ pub fn size_of(image: &&[u8], plan: &Plan, r: u16) -> u32
     plan[r as usize]
 }
 
-// The kind of an object of type row r that is a single cell, shapes::NO_KIND of any other: the scalars stand first, each
-// in the row of its kind.
-pub fn kind_of(image: &&[u8], plan: &Plan, r: u16) -> u16
-    requires { ⌜ Planned (now (now image)) (now plan) × (r < rowsOf (programOf (now (now image)) .types)) ⌝ }
-    ensures { λ x. ⌜ x ≡ kindIn (programOf (now (now (image .entry))) .types) r ⌝ }
-{
-    if r < image::scalar_rows(VERSION) {
-        return r;
-    }
-    NO_KIND
-}
-
-// Whether objects of type row r are single cells.
+// Whether objects of type row r are single cells: the scalars stand first, each in the row of its kind.
 pub fn is_single(image: &&[u8], plan: &Plan, r: u16) -> bool
     requires { ⌜ Planned (now (now image)) (now plan) × (r < rowsOf (programOf (now (now image)) .types)) ⌝ }
     ensures { λ x. ⌜ x ≡ isSingle (programOf (now (now (image .entry))) .types) r ⌝ }
 {
-    kind_of(image, plan, r) != NO_KIND
+    r < image::scalar_rows(VERSION)
 }
 
 // ---- variables and procedures

@@ -61,15 +61,14 @@ fn no_value(x: Found) -> Answer
     }
 }
 
-// The value of an object.
+// The value of an object. A scalar's type row is its kind, and no other row is the kind of a value.
 fn load(image: &&[u8], plan: &Plan, store: &&[i64], top: u32, place: Place) -> Answer
     requires { ⌜ Planned (now (now image)) (now plan)
         × (place .declared < rowsOf (programOf (now (now image)) .types)) × (top ≤ length (now (now store))) ⌝ }
     ensures { λ r. ⌜ r ≡ valueAt bare top (now (now (store .entry)))
         (kindIn (programOf (now (now (image .entry))) .types) (place .declared)) (place .address) ⌝ }
 {
-    let kind = access::kind_of(image, plan, place.declared);
-    cells::value_at(*store, top, kind, place.address)
+    cells::value_at(*store, top, place.declared, place.address)
 }
 
 // ---- designators

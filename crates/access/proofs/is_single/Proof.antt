@@ -1,18 +1,15 @@
-use mathlib.Core.Path.{ap}
-use mathlib.Core.Bool.{not}
-use Prim.Native.Nat.{ℕ}
-use lib.Dec.{eqb}
-use Rattle.shapes.specs.Forms.{NO_KIND, isSingle}
+use mathlib.Core.Path.{sym}
 use borrow.Author.Needs.{needs}
+use Rattle.access.proofs.Bounds.{single-first}
 use Rattle.access.proofs.is_single.Statement.{statement}
 use Rattle.access.proofs.is_single.Tie as tie
 
-kind-of-requires : tie.Need-kind-of-requires
-kind-of-requires c κs = search needs
+scalar-rows-requires : tie.Need-scalar-rows-requires
+scalar-rows-requires c κs = search needs
 
 returns : tie.Need-returns
-unfolding isSingle
-returns c = ap (λ (k : ℕ). not (eqb k NO_KIND)) (c .kind-of .ensures)
+returns c = let s = c .before in
+    rw (c .scalar-rows .ensures) (sym (single-first (s .pre .0) _ (s .pre .1) 1))
 
 pub is-single-spec : {M : Type 1} → statement M
-is-single-spec = tie.close (tie.spec kind-of-requires returns)
+is-single-spec = tie.close (tie.spec scalar-rows-requires returns)
