@@ -21,8 +21,7 @@ struct damage {
 static const struct damage of_smallest[] = {
     {"starred case 10", 0, 1, 57, 0, 0},
     {"no bytes", 0, 1, 0, 1, 0},
-    {"version 3", 0, 3, 57, 1, 0},
-    {"version 2 without CHAR", 0, 2, 57, 3, 0},
+    {"version 2", 0, 2, 57, 1, 0},
     {"another length", 4, 58, 57, 2, 0},
     {"a byte less", 0, 1, 56, 2, 0},
     {"four types", 6, 4, 57, 3, 0},

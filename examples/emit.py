@@ -4,32 +4,29 @@
 For makers of tools: from names and nested expressions to the rows of docs/IMAGE.md, to be read, copied or imported.
 image_of(program) gives the bytes; emit.py writes those of FIRST, below, which is examples/first.lst. A program has
 
-    version     1 or 2; without it 1
     types       name: ('array', length, type) or ('record', base or None, {field: type})
     globals     name: type
     procedures  name: ({parameter: ('value' or 'VAR', type)}, {local: type}, body), the module body first
 
-A type is BOOLEAN, INTEGER, SET, in version 2 CHAR, or a name. A body is a list of statements, where e is an expression:
+A type is BOOLEAN, INTEGER, SET or a name. A body is a list of statements, where e is an expression:
 
     ('assign', target, e)   ('call', procedure, e ..)   ('read', target)   ('write', e)   ('halt', 7)   ('return',)
     ('label', name)   ('goto', name)   ('unless', e, name): go there if e is FALSE
 
-    True   -5   {1, 4}   b'A'   'variable'   ('.', e, field)   ('[]', e, index)   ('guard', variable, type)
+    True   -5   {1, 4}   'variable'   ('.', e, field)   ('[]', e, index)   ('guard', variable, type)
     ('is', variable, type)   ('DIV', e, e), and so on for each dyadic operator   ('-', e)   ('~', e)
-    ('ORD', e)   ('CHR', e)
 
-A name that is not there is a KeyError, and so is CHAR in version 1; one that is there twice or a word that is not known
-is a ValueError, a number that does not fit an OverflowError, and b'AB' a TypeError. The rest is the check's to ask:
-doordump OUT.img says what it answers."""
+A name that is not there is a KeyError, one that is there twice or a word that is not known a ValueError, and a number
+that does not fit an OverflowError. The rest is the check's to ask: doordump OUT.img says what it answers."""
 import sys
 
 TYPES, FIELDS, VARIABLES, PROCEDURES, NODES, STATEMENTS = range(6)
-SCALARS = {'BOOLEAN': 0, 'INTEGER': 1, 'SET': 2, 'CHAR': 5}  # their rows' kinds; version 1 has the first three
+SCALARS = ['BOOLEAN', 'INTEGER', 'SET']
 KINDS_OF_VARIABLES = ['global', 'local', 'value', 'VAR']
 KINDS_OF_STATEMENTS = ['assign', 'call', 'unless', 'goto', 'return', 'read', 'write', 'halt']
 JUMPS = 'unless', 'goto'
 DYADIC = ['+', '-', '*', 'DIV', 'MOD', '/', '=', '#', '<', '<=', '>', '>=', '&', 'OR', 'IN', '..']
-MONADIC = ['-', '~', 'ORD', 'CHR']
+MONADIC = ['-', '~']
 
 
 def declare(names, name, value):
@@ -43,9 +40,8 @@ class Emitter:
         self.tables = [[] for _ in range(6)]
         self.shapes, self.types, self.fields = program['types'], {}, {}
         self.procedures = {name: row for row, name in enumerate(program['procedures'])}
-        self.version = program.get('version', 1)
-        for scalar in list(SCALARS)[:2 + self.version]:
-            self.types[scalar] = self.add(TYPES, SCALARS[scalar])
+        for kind, scalar in enumerate(SCALARS):
+            self.types[scalar] = self.add(TYPES, kind)
         for name, shape in self.shapes.items():
             self.types[name] = self.array(shape) if shape[0] == 'array' else self.record(name, shape)
         self.globals = {name: self.variable('global', of) for name, of in program['globals'].items()}
@@ -125,11 +121,9 @@ class Emitter:
     def constant(self, value):
         if isinstance(value, (set, frozenset)):
             of, bits = 'SET', sum(1 << element for element in value).to_bytes(4, 'big')
-        elif isinstance(value, bytes):
-            of, bits = 'CHAR', ord(value).to_bytes(4, 'big')
         else:
             of, bits = 'BOOLEAN' if isinstance(value, bool) else 'INTEGER', value.to_bytes(4, 'big', signed=True)
-        return self.add(NODES, 0, self.types[of], int.from_bytes(bits[:2], 'big'), int.from_bytes(bits[2:], 'big'))
+        return self.add(NODES, 0, SCALARS.index(of), int.from_bytes(bits[:2], 'big'), int.from_bytes(bits[2:], 'big'))
 
     def type_of(self, e):
         """The type of a designator."""
@@ -141,12 +135,12 @@ class Emitter:
 
 
 def image_of(program):
-    emitter, tables = Emitter(program), b''
-    for rows in emitter.tables:
+    tables = b''
+    for rows in Emitter(program).tables:
         tables += len(rows).to_bytes(2, 'big')
         for kind, *numbers in rows:
             tables += bytes([kind, 0]) + b''.join(number.to_bytes(2, 'big') for number in numbers)
-    return bytes([emitter.version]) + (5 + len(tables)).to_bytes(4, 'big') + tables
+    return b'\x01' + (5 + len(tables)).to_bytes(4, 'big') + tables
 
 
 FIRST = {

@@ -57,12 +57,12 @@ int main(int count, char **words) {
     length = fread(members, 1, sizeof members, file);
     fclose(file);
     memcpy(other, smallest, sizeof other);
-    other[0] = 3;
+    other[0] = 2;
     run("starred case 10", smallest, 57, none, 0, 3, 100,
         (struct door_result){.outcome = 1, .steps = 1, .top = 3, .mark = 3});
     run("no steps", smallest, 57, none, 0, 3, 0, (struct door_result){.top = 3, .mark = 3});
     run("two cells", smallest, 57, none, 0, 2, 100, (struct door_result){.refusal = 13});
-    run("version 3", other, 57, none, 0, CELLS, 100, (struct door_result){.refusal = 1});
+    run("version 2", other, 57, none, 0, CELLS, 100, (struct door_result){.refusal = 1});
     run("a member", members, length, member, 2, CELLS, 200, opened);
     run("a member, in as many cells as the mark", members, length, member, 2, 34, 200, opened);
     run("a member, in one less", members, length, member, 2, 33, 200,

@@ -34,7 +34,7 @@ extern const char door_version[];
 
 /* The stack that a call needs, in bytes: measured, by painting the stack, and rounded up. It is no proven bound, and
  * holds for the libraries that this kit builds. `bash tests/stack` measures it on x86-64, `bash tests/targets/run` on
- * the other targets, of which none needs more. Check: 16,424 at most, for the longest image and all of vectors/, and
+ * the other targets, of which none needs more. Check: 16,440 at most, for the longest image and all of vectors/, and
  * 16,696 on riscv64-linux; no function of it calls itself. Run and continue: expressions of 2,048 nodes, the deepest
  * that an accepted image can have, in a thread with this stack and four pages more for the thread itself. A continue
  * needs hardly more than a run: what question 14 takes is given back before the first step. */
@@ -46,7 +46,7 @@ extern const char door_version[];
  *
  *                                      what is wrong                                                   row */
 #define DOOR_ACCEPTED 0u             /* nothing                                                         0 */
-#define DOOR_REFUSED_VERSION 1u      /* there is no first byte, or it is not 1 or 2                     0 */
+#define DOOR_REFUSED_VERSION 1u      /* there is no first byte, or it is not 1                          0 */
 #define DOOR_REFUSED_LENGTH 2u       /* bytes 1 to 4 are missing, or are not the image's length         0 */
 #define DOOR_REFUSED_TABLES 3u       /* a count is out of range, or the tables do not fill the image    0 */
 #define DOOR_REFUSED_TYPE 4u         /* a type row, or an own field of a record, breaks its rule        type (1) */
@@ -75,7 +75,7 @@ extern const char door_version[];
 #define DOOR_TRAP_INDEX 1u    /* an index outside its array */
 #define DOOR_TRAP_GUARD 2u    /* a guard that does not hold */
 #define DOOR_TRAP_TARGET 3u   /* a record assigned to one of another dynamic type */
-#define DOOR_TRAP_OVERFLOW 4u /* an INTEGER beyond 32 bits, also by -2147483648 DIV -1, or CHR outside 0 to 255 */
+#define DOOR_TRAP_OVERFLOW 4u /* an INTEGER beyond 32 bits, also by -2147483648 DIV -1 */
 #define DOOR_TRAP_DIVISOR 5u  /* a divisor that is zero */
 #define DOOR_TRAP_BOUND 6u    /* a set's element, in a range or before IN, outside 0 to 31 */
 #define DOOR_TRAP_FRAME 7u    /* a call whose frame goes beyond the store */

@@ -1,9 +1,8 @@
 #!/usr/bin/env python3
 """Holds examples/emit.py to the image format: emit.py --check
 
-MEMBERS and NAMES are the programs of examples/door/members.lst and names.lst, written by hand from their Oberon-2
-comments: their images must be vectors/input/members-1.img and names-1.img, which tests/report.py makes of the listings.
-SMALL has what neither that program nor the
+MEMBERS is the program of examples/door/members.lst, written by hand from its Oberon-2 comments: its image must be
+vectors/input/members-1.img, which tests/report.py makes of the listing. SMALL has what neither that program nor the
 emitter's own example has; its rows were found by hand from docs/IMAGE.md. The emitter's own example is compared by
 tests/listing and run by examples/run."""
 import pathlib
@@ -57,77 +56,6 @@ MEMBERS = {
     },
 }
 
-NEW_NAME = ('.', NEW, 'name')
-ITS_CHARACTER, X, Y = ('[]', 'name', 'i'), ('[]', 'x', 'i'), ('[]', 'y', 'i')
-NAMES = {
-    'version': 2,
-    'types': {
-        'Name': ('array', 8, 'CHAR'),
-        'Member': ('record', None, {'name': 'Name', 'number': 'INTEGER'}),
-        'Members': ('array', 3, 'Member'),
-    },
-    'globals': {'members': 'Members', 'count': 'INTEGER', 'name': 'Name', 'number': 'INTEGER'},
-    'procedures': {
-        'Names': ({}, {}, [
-            ('call', 'Add', b'A', b'D', b'A', 4711),
-            ('call', 'Add', b'B', b'O', b'\0', 815),
-            ('call', 'Add', b'E', b'V', b'E', 1234),
-            ('call', 'ReadName', 'name'),
-            ('label', 'while'), ('unless', ('#', ('[]', 'name', 0), b'\0'), 'end'),
-            ('call', 'Find', 'name', 'number'),
-            ('write', 'number'),
-            ('unless', ('#', 'number', 0), 'next'), ('call', 'WriteName', 'name'),
-            ('label', 'next'), ('call', 'ReadName', 'name'), ('goto', 'while'),
-            ('label', 'end'), ('return',),
-        ]),
-        'Add': ({'first': ('value', 'CHAR'), 'second': ('value', 'CHAR'), 'third': ('value', 'CHAR'),
-                 'number': ('value', 'INTEGER')}, {}, [
-            ('assign', ('[]', NEW_NAME, 0), 'first'),
-            ('assign', ('[]', NEW_NAME, 1), 'second'),
-            ('assign', ('[]', NEW_NAME, 2), 'third'),
-            ('assign', ('.', NEW, 'number'), 'number'),
-            ('assign', 'count', ('+', 'count', 1)),
-            ('return',),
-        ]),
-        'ReadName': ({'name': ('VAR', 'Name')}, {'i': 'INTEGER', 'key': 'INTEGER', 'ch': 'CHAR'}, [
-            ('read', 'key'),
-            ('assign', 'ch', ('CHR', 'key')),
-            ('label', 'while'), ('unless', ('#', 'ch', b'\r'), 'end'),
-            ('unless', ('&', ('<=', b'a', 'ch'), ('<=', 'ch', b'z')), 'put'),
-            ('assign', 'ch', ('CHR', ('+', ('-', ('ORD', 'ch'), ('ORD', b'a')), ('ORD', b'A')))),
-            ('label', 'put'), ('assign', ITS_CHARACTER, 'ch'),
-            ('assign', 'i', ('+', 'i', 1)),
-            ('read', 'key'),
-            ('assign', 'ch', ('CHR', 'key')), ('goto', 'while'),
-            ('label', 'end'), ('assign', ITS_CHARACTER, b'\0'),
-            ('return',),
-        ]),
-        'Find': ({'name': ('VAR', 'Name'), 'number': ('VAR', 'INTEGER')}, {'i': 'INTEGER', 'order': 'INTEGER'}, [
-            ('assign', 'number', 0),
-            ('assign', 'order', 1),
-            ('label', 'while'), ('unless', ('&', ('>', 'order', 0), ('<', 'i', 'count')), 'end'),
-            ('call', 'Compare', 'name', ('.', FOUND, 'name'), 'order'),
-            ('unless', ('=', 'order', 0), 'next'), ('assign', 'number', ('.', FOUND, 'number')),
-            ('label', 'next'), ('assign', 'i', ('+', 'i', 1)), ('goto', 'while'),
-            ('label', 'end'), ('return',),
-        ]),
-        'Compare': ({'x': ('VAR', 'Name'), 'y': ('VAR', 'Name'), 'order': ('VAR', 'INTEGER')}, {'i': 'INTEGER'}, [
-            ('label', 'while'), ('unless', ('&', ('=', X, Y), ('#', X, b'\0')), 'differ'),
-            ('assign', 'i', ('+', 'i', 1)), ('goto', 'while'),
-            ('label', 'differ'), ('unless', ('<', X, Y), 'elsif'), ('assign', 'order', -1), ('goto', 'end'),
-            ('label', 'elsif'), ('unless', ('>', X, Y), 'else'), ('assign', 'order', 1), ('goto', 'end'),
-            ('label', 'else'), ('assign', 'order', 0),
-            ('label', 'end'), ('return',),
-        ]),
-        'WriteName': ({'name': ('VAR', 'Name')}, {'i': 'INTEGER'}, [
-            ('label', 'while'), ('unless', ('#', ITS_CHARACTER, b'\0'), 'end'),
-            ('write', ('ORD', ITS_CHARACTER)),
-            ('assign', 'i', ('+', 'i', 1)), ('goto', 'while'),
-            ('label', 'end'), ('return',),
-        ]),
-    },
-}
-
 SMALL = {
     'types': {
         'Base': ('record', None, {'x': 'INTEGER', 'on': 'BOOLEAN'}),
@@ -170,8 +98,6 @@ BODIES = [
     ([('call', 'Nobody')], KeyError),
     ([('label', 'end'), ('label', 'end'), ('return',)], ValueError),
     ([('write', ('AND', True, True))], ValueError),
-    ([('write', ('ORD', b'A'))], KeyError),
-    ([('write', ('ORD', b'AB'))], TypeError),
 ]
 
 
@@ -188,9 +114,8 @@ def main():
     if sys.argv[1:] != ['--check']:
         sys.exit('usage: emit.py --check')
     wrong = []
-    for name, program in ('members', MEMBERS), ('names', NAMES):
-        if emit.image_of(program) != (TOP / f'vectors/input/{name}-1.img').read_bytes():
-            wrong.append(f'the program of examples/door/{name}.lst has another image')
+    if emit.image_of(MEMBERS) != (TOP / 'vectors/input/members-1.img').read_bytes():
+        wrong.append('the program of examples/door/members.lst has another image')
     for wanted, found in zip(SMALL_TABLES, emit.Emitter(SMALL).tables):
         if wanted != found:
             wrong.append(f'expected the rows {wanted}, not {found}')
@@ -201,7 +126,7 @@ def main():
     for program, error in [*programs, (twice, ValueError)]:
         if raised(program) != error:
             wrong.append(f'expected {error}, not {raised(program)}, of {program}')
-    print('\n'.join(f'emit: {line}' for line in wrong) or f'emit: {4 + len(BODIES)} programs')
+    print('\n'.join(f'emit: {line}' for line in wrong) or f'emit: {3 + len(BODIES)} programs')
     return 1 if wrong else 0
 
 

@@ -7,10 +7,10 @@ Writes crates/cases_values/data/operators.bin and crates/cases_values/stdout; wi
 A case has 17 bytes, its numbers big-endian:
     0       what to ask: 0 a dyadic operator, 1 a monadic one, 2 a cell, 3 a constant, 4 a value's number
     1       the operator
-    2, 3    the kinds of the left and of the right operand: 0 BOOLEAN, 1 INTEGER, 2 SET, 3 CHAR
+    2, 3    the kinds of the left and of the right operand: 0 BOOLEAN, 1 INTEGER, 2 SET
     4..7    the left operand's 32 bits
     8..11   the right operand's 32 bits
-    12      the answer: a value of kind 0, 1, 2 or 3; 4 a trap; 5 stuck
+    12      the answer: a value of kind 0, 1 or 2; 3 a trap; 4 stuck
     13..16  the value's 32 bits, or the number of the trap
 A cell's number has 64 bits, 4 to 11, and its kind is the left one. A constant is the left operand itself.
 A value's number is put into a cell of its kind and read back."""
@@ -18,21 +18,19 @@ import os
 import random
 import sys
 
-BOOLEAN, INTEGER, SET, CHAR = 0, 1, 2, 3
-TRAP, STUCK = 4, 5
+BOOLEAN, INTEGER, SET = 0, 1, 2
+TRAP, STUCK = 3, 4
 LEAST, MOST = -2147483648, 2147483647
 ALL = frozenset(range(32))
 stuck = (STUCK, 0)
 
 
-# A value is a kind and a bool, an int, a frozenset of elements, or of a CHAR a byte.
+# A value is a kind and a bool, an int, or a frozenset of elements.
 def bits(kind, value):
     if kind == BOOLEAN:
         return 1 if value else 0
     if kind == INTEGER:
         return value if value >= 0 else 4294967296 + value
-    if kind == CHAR:
-        return ord(value)
     return sum(2 ** i for i in value)
 
 
@@ -44,8 +42,6 @@ def read(kind, number):
         return kind, number - 4294967296 if number > MOST else number
     if kind == SET:
         return kind, frozenset(i for i in range(32) if number // 2 ** i % 2 == 1)
-    if kind == CHAR:
-        return (kind, bytes([number])) if number < 256 else None
     return None
 
 
@@ -96,13 +92,8 @@ def dyadic(op, left, right):
         return {
             7: lambda: truth(x == y), 8: lambda: truth(x != y), 13: lambda: truth(x and y), 14: lambda: truth(x or y),
         }.get(op, lambda: stuck)()
-    if j == CHAR and k == CHAR:
-        return {
-            7: lambda: truth(x == y), 8: lambda: truth(x != y), 9: lambda: truth(x < y),
-            10: lambda: truth(x <= y), 11: lambda: truth(x > y), 12: lambda: truth(x >= y),
-        }.get(op, lambda: stuck)()
     if j == INTEGER and k == SET and op == 15:
-        # "IN with an element outside 0 to 31 gives trap 6, after both operands are found."
+        # "IN with an element outside 0 to 31 now gives trap 6, after both operands are found."
         return truth(x in y) if 0 <= x <= 31 else (TRAP, 6)
     return stuck
 
@@ -115,11 +106,6 @@ def monadic(op, operand):
         return answer((SET, ALL - x))
     if op == 2 and kind == BOOLEAN:
         return truth(not x)
-    # "ORD gives its CHAR's number; CHR gives the CHAR of that number, with trap 4 outside 0 to 255."
-    if op == 3 and kind == CHAR:
-        return integer(ord(x))
-    if op == 4 and kind == INTEGER:
-        return answer((CHAR, bytes([x]))) if 0 <= x <= 255 else (TRAP, 4)
     return stuck
 
 
@@ -130,8 +116,6 @@ def cell(kind, number):
         return integer(number)
     if kind == SET and 0 <= number <= 4294967295:
         return answer(read(SET, number))
-    if kind == CHAR and 0 <= number <= 255:
-        return answer((CHAR, bytes([number])))
     return stuck
 
 
@@ -144,13 +128,10 @@ def constant(kind, number):
 
 integers = [LEAST, LEAST + 1, -65536, -33, -5, -3, -2, -1, 0, 1, 2, 3, 5, 7, 30, 31, 32, 33, 46341, MOST - 1, MOST]
 sets = [0, 1, 2, 5, 15, 65536, 2147483648, 2863311530, 4294967294, 4294967295]
-chars = [0, 1, 64, 65, 97, 127, 128, 254, 255]
-around = [-256, -255, -191, -128, 256, 257, 321, 65535, 65536, 65601]  # no CHARs, but some by their lowest bits
 edges = {
     BOOLEAN: [(BOOLEAN, False), (BOOLEAN, True)],
     INTEGER: [(INTEGER, n) for n in integers],
     SET: [read(SET, n) for n in sets],
-    CHAR: [read(CHAR, n) for n in chars],
 }
 pick = random.Random(1993)
 
@@ -161,8 +142,6 @@ def some(kind):
         return kind, pick.random() < 0.5
     if kind == SET:
         return read(SET, pick.randrange(4294967296))
-    if kind == CHAR:
-        return read(CHAR, pick.randrange(256))
     return kind, pick.randrange(-40, 41) if pick.random() < 0.5 else pick.randrange(LEAST, MOST + 1)
 
 
@@ -189,26 +168,23 @@ def dyadic_cases():
 
 
 def monadic_cases():
-    more = {INTEGER: [(INTEGER, n) for n in chars + around if n not in integers]}
     for op in range(18):
         for kind in edges:
-            for v in edges[kind] + more.get(kind, []) + [some(kind) for _ in range(6)]:
+            for v in edges[kind] + [some(kind) for _ in range(6)]:
                 yield case(1, op, held(v), (0, 0), monadic(op, v))
 
 
 def cell_cases():
-    wide = [LEAST - 1, MOST + 1, 2 ** 32, 2 ** 32 + 65, -(2 ** 32), -(2 ** 32) + 65, -(2 ** 63), 2 ** 63 - 1]
-    numbers = sorted({*integers, *sets, *chars, *around, *wide})
-    for kind in range(6):
+    numbers = sorted(set(integers) | set(sets) | {LEAST - 1, MOST + 1, 4294967296, -4294967296, -(2 ** 63), 2 ** 63 - 1})
+    for kind in range(5):
         for z in numbers + [pick.randrange(-(2 ** 34), 2 ** 34) for _ in range(12)]:
             number = z % 2 ** 64
             yield case(2, 0, (kind, number // 2 ** 32), (0, number % 2 ** 32), cell(kind, z))
 
 
 def constant_cases():
-    numbers = sorted({n % 2 ** 32 for n in integers + sets + chars + around})
-    for kind in range(6):
-        for n in numbers + [pick.randrange(2 ** 32) for _ in range(12)]:
+    for kind in range(5):
+        for n in sorted({n % 2 ** 32 for n in integers + sets}) + [pick.randrange(2 ** 32) for _ in range(12)]:
             yield case(3, 0, (kind, n), (0, 0), constant(kind, n))
 
 

@@ -9,16 +9,13 @@
 enum { TYPES, FIELDS, VARIABLES, PROCEDURES, NODES, STATEMENTS, TABLES };
 enum { MOST_NODES = 2048, LONGEST = 29713 };
 
-/* Kinds of types, variables, nodes and statements; operators 1 are + and -. CHAR is type row 3. */
-enum { BOOLEAN, INTEGER, SET, ARRAY, RECORD, CHAR };
-enum { CHAR_ROW = 3 };
+/* Kinds of types, variables, nodes and statements; operators 1 are + and -. */
+enum { BOOLEAN, INTEGER, SET, ARRAY, RECORD };
 enum { GLOBAL, LOCAL, VALUE, VAR };
 enum { CONSTANT, VARIABLE, FIELD, ELEMENT, GUARD, DYADIC, MONADIC, TEST, ARGUMENT };
 enum { ASSIGN, CALL, UNLESS, GO, RETURN, READ, WRITE, HALT };
-enum { ORD = 3, CHR };
 
 struct builder {
-    int characters; /* whether it is of version 2, with CHAR */
     uint8_t rows[TABLES][8 * MOST_NODES];
     unsigned count[TABLES];
 };
@@ -42,12 +39,6 @@ static inline void begin(struct builder *b) {
     add(b, PROCEDURES, 0, 0, 0, 0);
 }
 
-/* Behind begin: an image of version 2, with the type CHAR. */
-static inline void with_characters(struct builder *b) {
-    b->characters = 1;
-    add(b, TYPES, CHAR, 0, 0, 0);
-}
-
 static inline size_t bytes(const struct builder *b, uint8_t *image) {
     size_t at = 5;
     for (int t = 0; t < TABLES; t++) {
@@ -56,7 +47,7 @@ static inline size_t bytes(const struct builder *b, uint8_t *image) {
         memcpy(image + at + 2, b->rows[t], 8 * b->count[t]);
         at += 2 + 8 * b->count[t];
     }
-    image[0] = b->characters ? 2 : 1;
+    image[0] = 1;
     for (int i = 0; i < 4; i++)
         image[1 + i] = (uint8_t)(at >> (24 - 8 * i));
     return at;

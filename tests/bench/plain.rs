@@ -1,20 +1,13 @@
 //! Document 01's questions 1 to 11 in plain Rust, with no proof. It is written from the paper alone and shares nothing
 //! with the crates: the benchmark holds the proved check to its speed, and to its answers.
 
-// The rows of the scalar types; CHAR is one in version 2 alone.
 const BOOLEAN: u8 = 0;
 const INTEGER: u8 = 1;
 const SET: u8 = 2;
-const CHAR: u8 = 3;
-
-/// The kinds of these rows.
-const SCALARS: [u8; 4] = [0, 1, 2, 5];
-
-// The kinds of later type rows.
 const ARRAY: u8 = 3;
 pub const RECORD: u8 = 4;
 
-/// The fewest and the most rows of the six tables; of types there are at least the scalars.
+/// The fewest and the most rows of the six tables.
 const COUNTS: [(usize, usize); 6] = [(3, 64), (0, 256), (0, 256), (1, 64), (0, 2048), (1, 1024)];
 
 /// The first "no": the question and the row.
@@ -62,8 +55,6 @@ impl<'a> Table<'a> {
 }
 
 pub struct Image<'a> {
-    /// How many scalar types it has: 3 in version 1, 4 in version 2.
-    pub scalars: usize,
     pub types: Table<'a>,
     pub fields: Table<'a>,
     pub variables: Table<'a>,
@@ -98,11 +89,9 @@ pub fn accept(image: &[u8]) -> Result<Accepted<'_>, No> {
 
 /// Questions 1 to 3.
 fn header(image: &[u8]) -> Result<Image<'_>, No> {
-    let scalars = match image.first() {
-        Some(1) => 3,
-        Some(2) => 4,
-        _ => return Err((1, 0)),
-    };
+    if image.first() != Some(&1) {
+        return Err((1, 0));
+    }
     match image.get(1..5) {
         Some(n) if u32::from_be_bytes([n[0], n[1], n[2], n[3]]) as usize == image.len() => {}
         _ => return Err((2, 0)),
@@ -118,11 +107,11 @@ fn header(image: &[u8]) -> Result<Image<'_>, No> {
         *table = Table(after[..8 * count].as_chunks().0);
         rest = &after[8 * count..];
     }
-    let [types, fields, variables, procedures, nodes, statements] = tables;
-    if types.len() < scalars || !rest.is_empty() {
+    if !rest.is_empty() {
         return Err((3, 0));
     }
-    Ok(Image { scalars, types, fields, variables, procedures, nodes, statements })
+    let [types, fields, variables, procedures, nodes, statements] = tables;
+    Ok(Image { types, fields, variables, procedures, nodes, statements })
 }
 
 /// What later questions ask of types.
@@ -160,8 +149,8 @@ fn type_row(image: &Image, types: &mut Types, unused: &mut usize, i: usize, row:
     }
     types.above[i] = 1 << i;
     let size = match row.kind {
-        _ if i < image.scalars => {
-            if row.kind != SCALARS[i] || row.a != 0 || row.b != 0 || row.c != 0 {
+        _ if i < 3 => {
+            if row.kind as usize != i || row.a != 0 || row.b != 0 || row.c != 0 {
                 return false;
             }
             1
@@ -255,31 +244,20 @@ fn designator(kind: u8) -> bool {
     (1..=4).contains(&kind)
 }
 
-/// Whether a constant's value is one of its type.
-fn constant(r: Row) -> bool {
-    match r.a as u8 {
-        BOOLEAN => r.b == 0 && r.c <= 1,
-        CHAR => r.b == 0 && r.c <= 255,
-        _ => true,
-    }
-}
-
 fn question7(image: &Image) -> Result<(), No> {
     let child = |i: usize, row: usize| row < i && image.nodes.kind(row) != 8;
     let object = |i: usize, row: usize| row < i && designator(image.nodes.kind(row));
     let typed = |r: Row| r.a < image.variables.len() && r.b < image.types.len() && r.c == 0;
-    // ORD and CHR are operators where CHAR is a type
-    let monadic = if image.scalars == 4 { 4 } else { 2 };
     for (i, r) in image.nodes.rows() {
         let good = r.zero == 0
             && match r.kind {
-                0 => r.a < image.scalars && constant(r),
+                0 => r.a <= 2 && (r.a != 0 || r.b == 0 && r.c <= 1),
                 1 => r.a < image.variables.len() && r.b == 0 && r.c == 0,
                 2 => object(i, r.a) && r.c == 0,
                 3 => object(i, r.a) && child(i, r.b) && r.c == 0,
                 4 | 7 => typed(r),
                 5 => child(i, r.a) && child(i, r.b) && (1..=16).contains(&r.c),
-                6 => child(i, r.a) && r.b == 0 && (1..=monadic).contains(&r.c),
+                6 => child(i, r.a) && r.b == 0 && (1..=2).contains(&r.c),
                 8 => child(i, r.a) && r.b == 0 && r.c == 0,
                 _ => false,
             };
@@ -410,8 +388,12 @@ fn node_type(image: &Image, types: &Types, known: &[u8; 2048], row: Row) -> Opti
                 && types.extends(row.b as u8, variable.a as u8);
             good.then_some(if row.kind == 4 { row.b as u8 } else { BOOLEAN })
         }
-        5 => dyadic(image.scalars, row.c, known[row.a], known[row.b]),
-        6 => monadic(row.c, known[row.a]),
+        5 => dyadic(row.c, known[row.a], known[row.b]),
+        6 => match (row.c, known[row.a]) {
+            (1, t @ (INTEGER | SET)) => Some(t),
+            (2, BOOLEAN) => Some(BOOLEAN),
+            _ => None,
+        },
         _ => Some(known[row.a]),
     }
 }
@@ -428,27 +410,15 @@ fn field_type(image: &Image, types: &Types, mut record: usize, field: usize) -> 
     (own < row.c).then(|| image.fields.row(row.b + own).a as u8)
 }
 
-fn dyadic(scalars: usize, operator: usize, left: u8, right: u8) -> Option<u8> {
+fn dyadic(operator: usize, left: u8, right: u8) -> Option<u8> {
     match (operator, left, right) {
         (1..=5, INTEGER, INTEGER) => Some(INTEGER),
         (1..=3 | 6, SET, SET) => Some(SET),
-        (7 | 8, _, _) if left == right && (left as usize) < scalars => Some(BOOLEAN),
+        (7 | 8, BOOLEAN | INTEGER | SET, _) if left == right => Some(BOOLEAN),
         (9..=12, INTEGER, INTEGER) => Some(BOOLEAN),
-        (9..=12, CHAR, CHAR) if scalars == 4 => Some(BOOLEAN),
         (13 | 14, BOOLEAN, BOOLEAN) => Some(BOOLEAN),
         (15, INTEGER, SET) => Some(BOOLEAN),
         (16, INTEGER, INTEGER) => Some(SET),
-        _ => None,
-    }
-}
-
-/// Operators 3 and 4, ORD and CHR, are there in version 2 alone.
-fn monadic(operator: usize, operand: u8) -> Option<u8> {
-    match (operator, operand) {
-        (1, INTEGER | SET) => Some(operand),
-        (2, BOOLEAN) => Some(BOOLEAN),
-        (3, CHAR) => Some(INTEGER),
-        (4, INTEGER) => Some(CHAR),
         _ => None,
     }
 }

@@ -1,7 +1,7 @@
-//! Document 01's run in plain Rust, with the mark, and with no proof. It is written from the papers alone, in the forms
-//! that document 01 names: rows are read from the image at each visit, `find` and `eval` call each other on lower node
-//! rows, answers are enums. Sizes, places and frames are found once, after the check of plain.rs. The benchmark holds the
-//! proved run to its speed, and to its answers.
+//! Document 01's run in plain Rust, IN and division as document 02 has them, with the mark, and with no proof. It is
+//! written from the papers alone, in the forms that document 01 names: rows are read from the image at each visit, `find`
+//! and `eval` call each other on lower node rows, answers are enums. Sizes, places and frames are found once, after the
+//! check of plain.rs. The benchmark holds the proved run to its speed, and to its answers.
 //!
 //! What the check has shown is not asked again at each step: an arm that no accepted image reaches is `unreachable!`,
 //! and a cell is taken as the kind that its type gives.
@@ -34,8 +34,6 @@ enum Value {
     Bool(u32),
     Int(i32),
     Set(u32),
-    /// 0 to 255
-    Char(u32),
 }
 
 /// What an evaluation gives.
@@ -117,8 +115,6 @@ struct Program<'a> {
     procedures: Table<'a>,
     nodes: Table<'a>,
     statements: Table<'a>,
-    /// The scalar types have the rows below this.
-    scalars: usize,
     size: [u32; 64],
     /// Bit u of row t: t extends u.
     above: [u64; 64],
@@ -147,7 +143,6 @@ impl<'a> Program<'a> {
             procedures: image.procedures.0,
             nodes: image.nodes.0,
             statements: image.statements.0,
-            scalars: image.scalars,
             size: types.size.map(|size| size as u32),
             above: types.above,
             inherited: types.inherited.map(|count| count as u16),
@@ -334,8 +329,7 @@ fn value(t: u8, number: i64) -> Value {
     match t {
         0 => Value::Bool((number != 0) as u32),
         1 => Value::Int(number as i32),
-        2 => Value::Set(number as u32),
-        _ => Value::Char(number as u32),
+        _ => Value::Set(number as u32),
     }
 }
 
@@ -344,7 +338,6 @@ fn number(value: Value) -> i64 {
         Value::Bool(x) => x as i64,
         Value::Int(x) => x as i64,
         Value::Set(x) => x as i64,
-        Value::Char(x) => x as i64,
     }
 }
 
@@ -367,8 +360,6 @@ fn dyadic(operator: usize, left: Value, right: Value) -> Answer {
         (Value::Set(s), Value::Set(t)) => sets(operator, s, t),
         (Value::Bool(p), Value::Bool(q)) => booleans(operator, p != 0, q != 0),
         (Value::Int(x), Value::Set(s)) => element(x, s),
-        // compared by their numbers
-        (Value::Char(x), Value::Char(y)) => integers(operator, x as i32, y as i32),
         _ => unreachable!(),
     }
 }
@@ -469,9 +460,6 @@ fn monadic(operator: usize, x: Value) -> Answer {
         },
         (1, Value::Set(s)) => Answer::Val(Value::Set(!s)),
         (2, Value::Bool(p)) => boolean(p == 0),
-        (3, Value::Char(x)) => Answer::Val(Value::Int(x as i32)),
-        (4, Value::Int(x @ 0..=255)) => Answer::Val(Value::Char(x as u32)),
-        (4, Value::Int(_)) => Answer::Trap(Trap::Overflow),
         _ => unreachable!(),
     }
 }
@@ -546,7 +534,7 @@ impl Program<'_> {
             Found::Trap(trap) => return Some(trap),
         };
         let address = target.address as usize;
-        if (target.declared as usize) < self.scalars {
+        if target.declared <= 2 {
             match self.eval(store, base, statement.b()) {
                 Answer::Val(value) => store[address] = number(value),
                 Answer::Trap(trap) => return Some(trap),
@@ -605,7 +593,7 @@ impl Program<'_> {
     fn pass(&self, store: &[i64], frame: &mut [i64], base: u32, k: usize, v: usize) -> Option<Trap> {
         let parameter = row(self.variables, v);
         let place = self.place[v] as usize;
-        if parameter.kind() == 2 && parameter.a() < self.scalars {
+        if parameter.kind() == 2 && parameter.a() <= 2 {
             match self.eval(store, base, k) {
                 Answer::Val(value) => frame[place] = number(value),
                 Answer::Trap(trap) => return Some(trap),

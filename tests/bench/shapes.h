@@ -23,19 +23,6 @@ static void shape_negations(struct builder *b) {
     add(b, STATEMENTS, RETURN, 0, 0, 0);
 }
 
-/* write -ORD(CHR(ORD(CHR(... 5)))) */
-static void shape_conversions(struct builder *b) {
-    unsigned node;
-    with_characters(b);
-    node = constant(b, 5);
-    while (b->count[NODES] + 2 <= MOST_NODES) {
-        node = add(b, NODES, MONADIC, node, 0, CHR);
-        node = add(b, NODES, MONADIC, node, 0, ORD);
-    }
-    add(b, STATEMENTS, WRITE, add(b, NODES, MONADIC, node, 0, 1), 0, 0);
-    add(b, STATEMENTS, RETURN, 0, 0, 0);
-}
-
 /* P(-(-(... 5))), which writes it */
 static void shape_argument(struct builder *b) {
     const unsigned v = add(b, VARIABLES, VALUE, 1, 0, 0), node = negations(b, 2045);
@@ -91,13 +78,8 @@ static const struct {
     const char *name;
     void (*make)(struct builder *b);
 } shapes[] = {
-    {"negations", shape_negations},
-    {"conversions", shape_conversions},
-    {"an argument", shape_argument},
-    {"sums, left", shape_left},
-    {"sums, right", shape_right},
-    {"indices", shape_index},
-    {"indices and fields", shape_fields},
+    {"negations", shape_negations}, {"an argument", shape_argument}, {"sums, left", shape_left},
+    {"sums, right", shape_right},   {"indices", shape_index},        {"indices and fields", shape_fields},
 };
 
 enum { SHAPES = sizeof shapes / sizeof shapes[0] };

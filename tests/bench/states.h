@@ -169,17 +169,6 @@ static void arrays(struct state *s, size_t cells) {
     run_full(s, cells);
 }
 
-/* Value parameters and locals of a record with a name, 16 CHARs, and a number */
-static void names(struct state *s, size_t cells) {
-    unsigned r;
-    begin(&b);
-    with_characters(&b);
-    field(add(&b, TYPES, ARRAY, CHAR_ROW, 16, 0)), field(INTEGER);
-    r = record(0, 2);
-    calling_itself(global(r), VALUE, r, 4, r, 4);
-    run_full(s, cells);
-}
-
 /* Records nested as deep as types can be, each with a BOOLEAN before the next, so that none has cells of one kind: the
  * values are read by calls that are nested as deep. Bases in place of fields need the same stack. */
 static void deep_values(struct state *s, size_t cells) {
@@ -410,7 +399,6 @@ static const struct {
     {"parameters", parameters},
     {"values", values},
     {"arrays", arrays},
-    {"names", names},
     {"deep-values", deep_values},
     {"empty-fields", empty_fields},
     {"empty-locals", empty_locals},

@@ -147,10 +147,7 @@ def notes(room):
             ('--reader 65536', '01-version', report % (1, 0)), ('--refusal 0 0', 'first', report % (0, 0)),
             ('--against good.img', 'good', 'the same bytes as good.img'),
             ('--names good.lst', '08-damaged', no_names % '1 field row, 1 node row, 2 statement rows'),
-            ('--names good.lst', '08-shorter', no_names % '1 node row, 1 statement row'),
-            ('--names good.lst', '04-version', no_names % 'the version'),
-            ('--against good.img', '04-version',
-             'differs from good.img in the version; first at byte 0 (hexadecimal 0): 02, there 01')]:
+            ('--names good.lst', '08-shorter', no_names % '1 node row, 1 statement row')]:
         status, text, said = command(room, *words.split(), f'{name}.img')
         if (status, text, said) != (1 if name[0].isdigit() else 0, second_line(stored_text(name), line), ''):
             fail(f'{words} {name}.img: {status} {said}\n{text}')

@@ -112,9 +112,6 @@ static unsigned field_type(unsigned type, unsigned field) {
 
 static bool is_type(unsigned type, unsigned kind) { return type < b.count[TYPES] && kind_at(TYPES, type) == kind; }
 
-/* The scalar types of the image's version, which are the first rows. */
-static unsigned scalars(void) { return b.characters ? CHAR_ROW + 1 : SET + 1; }
-
 static unsigned type_of(unsigned node) {
     const unsigned x = number(NODES, node, A), y = number(NODES, node, B), op = number(NODES, node, C);
     unsigned type;
@@ -129,8 +126,6 @@ static unsigned type_of(unsigned node) {
         return BOOLEAN;
     case DYADIC:
         return op == 16 ? SET : op >= 7 ? BOOLEAN : x < node ? type_of(x) : NONE;
-    case MONADIC:
-        return op == ORD ? INTEGER : op == CHR ? CHAR_ROW : x < node ? type_of(x) : NONE;
     case FIELD:
         type = x < node ? type_of(x) : NONE;
         return is_type(type, RECORD) ? field_type(type, y) : NONE;
@@ -150,9 +145,8 @@ static unsigned interesting(void) {
 }
 
 static unsigned new_constant(unsigned type) {
-    const bool character = type == CHAR_ROW && below(16);
-    if (type == BOOLEAN || character || below(2))
-        return add(&b, NODES, CONSTANT, type, 0, below(type == BOOLEAN ? 2 : character ? 256 : 40));
+    if (type == BOOLEAN || below(2))
+        return add(&b, NODES, CONSTANT, type, 0, below(type == BOOLEAN ? 2 : 40));
     return add(&b, NODES, CONSTANT, type, interesting(), interesting());
 }
 
@@ -231,10 +225,9 @@ static unsigned new_dyadic(unsigned type, unsigned p, unsigned depth) {
     const unsigned choice = below(8);
     const bool compares = type == BOOLEAN && choice < 4, in = type == BOOLEAN && choice == 4;
     const bool range = type == SET && choice == 0;
-    const unsigned compared = b.characters && below(2) ? CHAR_ROW : INTEGER;
     const unsigned op = range ? 16 : in ? 15 : compares ? 7 + below(6) : operator_for(type, true);
-    const unsigned left = compares ? compared : range || in ? INTEGER : type;
-    const unsigned right = compares ? compared : range ? INTEGER : in ? SET : type;
+    const unsigned left = compares || range || in ? INTEGER : type;
+    const unsigned right = compares || range ? INTEGER : in ? SET : type;
     const unsigned x = in && below(4)                       ? new_element()
                        : divides(type, op) && below(8) == 0 ? new_dividend()
                                                             : new_expression(left, p, depth - 1);
@@ -242,28 +235,12 @@ static unsigned new_dyadic(unsigned type, unsigned p, unsigned depth) {
     return add(&b, NODES, DYADIC, x, y, op);
 }
 
-/* CHR, mostly of a constant that it takes. */
-static unsigned new_character(unsigned p, unsigned depth) {
-    const unsigned x = below(2) ? new_number(below(256)) : new_expression(INTEGER, p, depth - 1);
-    return add(&b, NODES, MONADIC, x, 0, CHR);
-}
-
-/* ORD. */
-static unsigned new_ordinal(unsigned p, unsigned depth) {
-    const unsigned x = new_expression(CHAR_ROW, p, depth - 1);
-    return add(&b, NODES, MONADIC, x, 0, ORD);
-}
-
 static unsigned new_expression(unsigned type, unsigned p, unsigned depth) {
     const unsigned designator = below(2) ? new_designator(type, p, depth) : NONE;
-    if (designator != NONE || type >= scalars())
+    if (designator != NONE || type > SET)
         return designator != NONE ? designator : new_designator(type, p, 0);
     if (depth == 0)
         return new_constant(type);
-    if (type == CHAR_ROW)
-        return new_character(p, depth);
-    if (b.characters && type == INTEGER && below(8) == 0)
-        return new_ordinal(p, depth);
     if (type == BOOLEAN && below(8) == 0)
         return add(&b, NODES, TEST, visible_variable(p), below(b.count[TYPES]), 0);
     if (below(4) == 0) {
@@ -303,7 +280,7 @@ static void change_number(int table, unsigned row, bool any) {
 }
 
 static void change_kind(int table, unsigned row) {
-    static const unsigned kinds[TABLES] = {6, 1, 4, 1, 9, 8};
+    static const unsigned kinds[TABLES] = {5, 1, 4, 1, 9, 8};
     row_at(table, row)[0] = (uint8_t)below(kinds[table] + (below(16) == 0));
 }
 
@@ -327,21 +304,6 @@ static unsigned procedure_of(unsigned statement) {
     return p;
 }
 
-/* What named the node names the row behind a copy of it. */
-static void insert_behind(unsigned node) {
-    uint8_t row[8];
-    memcpy(row, row_at(NODES, node), 8);
-    insert_row(NODES, node, row);
-}
-
-/* ORD or CHR around a node, and the other around that. */
-static void convert_and_back(unsigned node, unsigned op) {
-    insert_behind(node);
-    set_row(row_at(NODES, node + 1), MONADIC, node, 0, op);
-    insert_behind(node + 1);
-    set_row(row_at(NODES, node + 2), MONADIC, node + 1, 0, ORD + CHR - op);
-}
-
 /* An operator around a node: what named the node names the operator. A dyadic one has a constant before the node as its
  * other operand. */
 static void wrap(unsigned node) {
@@ -349,12 +311,8 @@ static void wrap(unsigned node) {
     const bool dyadic = below(4) != 0, first = below(2);
     const unsigned op = operator_for(type, dyadic);
     uint8_t row[8];
-    if (kind_at(NODES, node) == ARGUMENT || type >= scalars() || b.count[NODES] + 3 > room[NODES])
+    if (kind_at(NODES, node) == ARGUMENT || type > SET || b.count[NODES] + 3 > room[NODES])
         return;
-    if (type == CHAR_ROW || (b.characters && type == INTEGER && below(8) == 0)) {
-        convert_and_back(node, type == INTEGER ? CHR : ORD);
-        return;
-    }
     if (dyadic) {
         const bool other = divides(type, op) && below(4);
         const unsigned constant = !other ? new_constant(type) : first ? new_dividend() : new_divisor();
@@ -363,11 +321,13 @@ static void wrap(unsigned node) {
         insert_row(NODES, node, row);
         node++;
     }
-    insert_behind(node);
+    memcpy(row, row_at(NODES, node), 8);
+    insert_row(NODES, node, row); /* what named the node names the row behind this copy of it: the operator */
     if (dyadic)
-        set_row(row_at(NODES, node + 1), DYADIC, first ? node - 1 : node, first ? node : node - 1, op);
+        set_row(row, DYADIC, first ? node - 1 : node, first ? node : node - 1, op);
     else
-        set_row(row_at(NODES, node + 1), MONADIC, node, 0, op);
+        set_row(row, MONADIC, node, 0, op);
+    memcpy(row_at(NODES, node + 1), row, 8);
 }
 
 /* The arguments of a call: the first row, or NONE. */
@@ -394,7 +354,7 @@ static unsigned new_arguments(unsigned p, unsigned called) {
 static void new_statement(unsigned behind) {
     const unsigned p = procedure_of(behind), start = number(PROCEDURES, p, A), before = b.count[NODES];
     const unsigned end = p + 1 < b.count[PROCEDURES] ? number(PROCEDURES, p + 1, A) : b.count[STATEMENTS];
-    const unsigned kind = below(8), type = below(4) ? below(scalars()) : below(b.count[TYPES]);
+    const unsigned kind = below(8), type = below(4) ? below(3) : below(b.count[TYPES]);
     const unsigned target = start + below(end - start + 1), called = 1 + below(b.count[PROCEDURES] - 1);
     unsigned x = 0, y = 0;
     uint8_t row[8];
@@ -468,20 +428,6 @@ static void new_declaration(void) {
     }
 }
 
-/* The other version: with CHAR's row before the later types, and so without another change of meaning; or without that
- * row. Seldom the version alone. */
-static void other_version(void) {
-    uint8_t row[8];
-    b.characters = !b.characters;
-    set_row(row, CHAR, 0, 0, 0);
-    if (below(8) == 0)
-        return;
-    if (b.characters)
-        insert_row(TYPES, CHAR_ROW, row);
-    else if (b.count[TYPES] > CHAR_ROW)
-        remove_row(TYPES, CHAR_ROW);
-}
-
 /* A change of a row that asks for nothing: most break a rule. */
 static void change_row(int table, unsigned row) {
     switch (below(5)) {
@@ -506,10 +452,8 @@ static void change_image(void) {
     static const uint8_t likely[] = {TYPES, FIELDS, VARIABLES, PROCEDURES, NODES, NODES, NODES, STATEMENTS, STATEMENTS};
     const int table = likely[below(sizeof likely)];
     const unsigned row = below(b.count[table]), choice = below(16);
-    if (b.count[TYPES] < scalars() || b.count[PROCEDURES] == 0 || b.count[STATEMENTS] == 0)
+    if (b.count[TYPES] < 3 || b.count[PROCEDURES] == 0 || b.count[STATEMENTS] == 0)
         begin(&b);
-    else if (below(32) == 0)
-        other_version();
     else if (choice < 4)
         new_statement(below(b.count[STATEMENTS]));
     else if (choice < 5)
@@ -529,7 +473,6 @@ static void change_image(void) {
 /* Takes an image apart, as far as its counts and bytes go. */
 static void take_apart(const uint8_t *image, size_t length) {
     size_t at = 5;
-    b.characters = length > 0 && image[0] == 2;
     for (int t = 0; t < TABLES; t++) {
         const size_t left = at + 2 <= length ? (length - at - 2) / 8 : 0;
         size_t count = at + 2 <= length ? 256u * image[at] + image[at + 1] : 0;

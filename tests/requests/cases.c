@@ -245,7 +245,7 @@ static void take(const char *line) {
     if (line[0] == '\0' || line[0] == '#')
         return;
     if ((rest = after(line, "level"))) {
-        if (strcmp(rest, "6") != 0)
+        if (strcmp(rest, "5") != 0)
             broken("a level that is not known");
     } else if ((rest = after(line, "image")))
         take_image(rest);

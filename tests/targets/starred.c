@@ -1,7 +1,7 @@
-/* Starred cases of document 01, CHARs, a door program and the deepest expressions. It prints the library's version, and
- * of the images that are linked in what vectors/ has: the name, the nine numbers of its run, its outputs. Of these and
- * of tests/bench/shapes.h it prints, behind "stack", the stack that check, run and a continue from the fresh state took,
- * in bytes, by painting. It ends with another status than 0 where that is more than door.h states. */
+/* Starred cases of document 01, a door program and the deepest expressions. It prints the library's version, and of the
+ * images that are linked in what vectors/ has: the name, the nine numbers of its run, its outputs. Of these and of
+ * tests/bench/shapes.h it prints, behind "stack", the stack that check, run and a continue from the fresh state took, in
+ * bytes, by painting. It ends with another status than 0 where that is more than door.h states. */
 #include "door.h"
 #include "linked.h"
 #include "shapes.h"
@@ -74,13 +74,14 @@ static void hold(size_t used, size_t stated, const char *what) {
         stop(what);
 }
 
-/* Prints the stack that check, run and continue of a program took. What a run gave is left in `ran` and `output`. */
+/* Runs a program, and prints the stack that check, run and continue took; what the run gave is left in `ran`. */
 static void measure(const struct linked *program) {
     const size_t of_check = stack_of(check, program), of_run = stack_of(run, program);
+    const struct door_result whole = ran;
     size_t of_continue;
     fresh = run_of(program, 0);
     of_continue = stack_of(go_on, program);
-    ran = run_of(program, program->steps); /* of two continues, the second found the store as the first left it */
+    ran = whole;
     if (checked != (ran.refusal <= DOOR_REFUSED_RULE ? ran.refusal * 65536u + ran.fault : 0))
         stop("check and run differ");
     say("stack ");

@@ -138,9 +138,7 @@ class Globals:
 
     def size(self, row):
         kind, _, a, b, _ = self.tables[0][row]
-        if kind == 3:
-            return b * self.size(a)
-        return sum(map(self.size, self.fields(row))) if kind == 4 else 1
+        return 1 if kind < 3 else b * self.size(a) if kind == 3 else sum(map(self.size, self.fields(row)))
 
     def put(self, path, value):
         """Takes a line of the trace; those of parameters and locals have no place here."""
@@ -164,8 +162,6 @@ def number_of(value):
     if value.startswith('{'):
         spans = [re.findall(r'\d+', part) for part in value.split(',')]
         return sum(1 << element for span in spans if span for element in range(int(span[0]), int(span[-1]) + 1))
-    if value.endswith('X'):
-        return int(value.split()[-1][:-1], 16)
     return {'FALSE': 0, 'TRUE': 1}[value] if value in ('FALSE', 'TRUE') else int(value)
 
 

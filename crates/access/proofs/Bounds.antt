@@ -11,11 +11,16 @@ use lib.Dec.{ltb}
 use lib.IntN.{ℤ}
 use Rattle.prelude.specs.Choice.{choose}
 use Rattle.image.specs.Rows.{row_at, rows_of}
-use Rattle.image.proofs.Versions.{three_rows}
+use Rattle.image.specs.Versions.{scalar_rows}
+use Rattle.image.proofs.Versions.{three_rows, few_rows}
 use Rattle.image.proofs.Bytes.{row_there}
-use Rattle.shapes.specs.Forms.{kind_in}
+use Rattle.values.specs.Values.{cell_of}
+use Rattle.values.proofs.Scalars.{no_scalar_cell}
+use Rattle.shapes.specs.Forms.{NO_KIND, kind_in, is_single}
 use Rattle.shapes.specs.Sizes.{size_of}
-use Rattle.types.proofs.Accepted.{scalar_row}
+use Rattle.shapes.proofs.Singles.{kind_single, no_single}
+use Rattle.types.specs.Question.{TypesAccepted}
+use Rattle.types.proofs.Accepted.{scalar_row, later_row}
 use Rattle.shapes.proofs.Accepted.{size_small}
 use Rattle.shapes.proofs.Layouts.{layout_length, field_layout, element_layout}
 use Rattle.relations.specs.declared.FieldAnswer.TheVariants.{Missing, Field}
@@ -54,11 +59,39 @@ module _ {image plan : List ℕ} (p : Planned image plan) where
 
   -- ---- types
 
-  -- BOOLEAN, INTEGER and SET stand in the rows of their kinds, whatever the version
-  pub early_kind : (r : ℕ) → r < rows_of g.types → r < 3 → kind_in g.types r ≡ r
-  early_kind r low early =
-      scalar_row g.types g.fields ok.questions.types r low
-      (omega (arith, three_rows ok.questions.types.version))
+  -- what is no scalar has no kind
+  first_or_none : (r : ℕ) → r < rows_of g.types
+      → ((r < 3) × (kind_in g.types r ≡ r)) ⊎ ((3 ≤ r) × (kind_in g.types r ≡ NO_KIND))
+  first_or_none r low = go (dec_lt r 3)
+    where
+      accepted : TypesAccepted g.types g.fields
+      accepted = ok.questions.types
+
+      go : Dec (r < 3) → ((r < 3) × (kind_in g.types r ≡ r)) ⊎ ((3 ≤ r) × (kind_in g.types r ≡ NO_KIND))
+      go (yes h) =
+          inl (h, scalar_row g.types g.fields accepted r low (omega (arith, three_rows accepted.version)))
+      go (no h) =
+          inr (
+            omega arith,
+            later_row g.types g.fields accepted r low (omega (arith, few_rows accepted.version)),
+          )
+
+  -- single cells are those of the first rows
+  pub single_first : (r : ℕ) → r < rows_of g.types → (version : ℕ)
+      → is_single g.types r ≡ ltb r (scalar_rows version)
+  single_first r low version = elim (first_or_none r low) [
+    | inl h ↦ kind_single g.types r (λ e. absurd (omega (arith, h.0, h.1)))
+        ∙ sym (lt-ltb r (scalar_rows version) (omega (arith, h.0, three_rows version)))
+    | inr h ↦ no_single g.types r h.1
+        ∙ sym (le-ltb r (scalar_rows version) (omega (arith, h.0, few_rows version)))
+  ]
+
+  -- so a cell is read by the row of its type
+  pub kind_read : (r : ℕ) → r < rows_of g.types → (z : ℤ) → cell_of (kind_in g.types r) z ≡ cell_of r z
+  kind_read r low z = elim (first_or_none r low) [
+    | inl h ↦ rw h.1
+    | inr h ↦ rw h.1 (no_scalar_cell NO_KIND z (omega arith) ∙ sym (no_scalar_cell r z h.0))
+  ]
 
   -- "No size exceeds 4,096."
   pub size_low : (r : ℕ) → r < rows_of g.types → size_of g.types g.fields r ≤ 4096

@@ -3,7 +3,7 @@
 ghost use Rattle.std.specs.Prelude.{◌≡◌, ◌≤◌, ◌<◌, length};
 ghost use Rattle.prelude.specs.Cells.{Filled};
 ghost use Rattle.image.specs.Rows.{row_at, rows_of};
-ghost use Rattle.shapes.specs.Forms.{kind_in, is_single};
+ghost use Rattle.shapes.specs.Forms.{is_single};
 ghost use Rattle.shapes.specs.Sizes.{size_of};
 ghost use Rattle.sizes.specs.Cells.{OWNERS, NODES, RUN_PLAN};
 ghost use Rattle.types.specs.Plan.{Plan as TypesPlan};
@@ -20,11 +20,10 @@ ghost use Rattle.access.specs.Ready.{table_of, node_cell, Checked, Planned, Read
 use checker::CheckAnswer;
 use image::Row;
 use relations::FieldAnswer;
-use shapes::NO_KIND;
 use sizes::{BOUNDS, FIRSTS, FRAMES, GLOBALS, LOWER, NODES, OWNERS, PLACES, RUN_PLAN, UPPER};
 
-// BOOLEAN, INTEGER and SET, which every version has: a type row below this is the kind of its values.
-const EARLY: u16 = 3;
+// The version that there is.
+const VERSION: u8 = 1;
 
 // The plan of a run, lent by a reference that is one number: docs/PLAN.md.
 pub type Plan = [u32; RUN_PLAN];
@@ -122,23 +121,12 @@ pub fn size_of(image: &&[u8], plan: &Plan, r: u16) -> u32
     plan[r as usize]
 }
 
-// The kind of value of type row r, where its objects are single cells.
-pub fn kind_of(image: &&[u8], plan: &Plan, r: u16) -> u16
-    requires { Planned image.now.now plan.now × (r < rows_of (program_of image.now.now).types) }
-    ensures { result ≡ kind_in (program_of image.now.now).types r }
-{
-    if r < EARLY {
-        return r;
-    }
-    shapes::kind_in(table(*image, plan, 0), r)
-}
-
-// Whether objects of type row r are single cells.
+// Whether objects of type row r are single cells: the scalars stand first, each in the row of its kind.
 pub fn is_single(image: &&[u8], plan: &Plan, r: u16) -> bool
     requires { Planned image.now.now plan.now × (r < rows_of (program_of image.now.now).types) }
     ensures { result ≡ is_single (program_of image.now.now).types r }
 {
-    kind_of(image, plan, r) != NO_KIND
+    r < image::scalar_rows(VERSION)
 }
 
 // ---- variables and procedures

@@ -2,7 +2,7 @@
 use Rattle.std.specs.Prelude.{Bool, false, List, ℕ, zero, suc, ◌+◌, ◌*◌, eqb, ℤ, pos, ◌+ℤ◌, ◌*ℤ◌, get_or, take, drop}
 use Rattle.std.specs.Bool.{beq}
 use Rattle.prelude.specs.Choice.{choose}
-use Rattle.values.specs.Values.{constant_of, cell_of, number_of, trap_number, as_boolean, as_integer, as_set, as_char, bind}
+use Rattle.values.specs.Values.{constant_of, cell_of, number_of, trap_number, bind}
 use Rattle.operators.specs.Operators.{dyadic_of, monadic_of, equal_z}
 use Rattle.values.specs.declared.Value.{Value}
 use Rattle.values.specs.declared.Value.TheVariants as Vs
@@ -32,7 +32,9 @@ monadic_case s = bind (operand_at s (get_or s 2 0) 4) (λ v. monadic_of (get_or 
 
 -- a cell of this kind whose number has the upper half v
 unfoldable pub cell_with : List ℕ → Value → Answer
-cell_with s v = as_integer As.Stuck v λ h. cell_of (get_or s 2 0) (wide_at h (half_at s 8) (half_at s 10))
+cell_with s (Vs.Bool p) = As.Stuck
+cell_with s (Vs.Int h) = cell_of (get_or s 2 0) (wide_at h (half_at s 8) (half_at s 10))
+cell_with s (Vs.Set t) = As.Stuck
 
 unfoldable pub cell_case : List ℕ → Answer
 cell_case s = bind (operand_at s 1 4) (cell_with s)
@@ -50,10 +52,15 @@ answer_of s =
 -- ---- against what the case says
 
 unfoldable pub same_value : Value → Value → Bool
-same_value (Vs.Bool p) w = as_boolean false w (beq p)
-same_value (Vs.Int x) w = as_integer false w (equal_z x)
-same_value (Vs.Set s) w = as_set false w (eqb s)
-same_value (Vs.Char c) w = as_char false w (eqb c)
+same_value (Vs.Bool p) (Vs.Bool q) = beq p q
+same_value (Vs.Bool p) (Vs.Int y) = false
+same_value (Vs.Bool p) (Vs.Set t) = false
+same_value (Vs.Int x) (Vs.Bool q) = false
+same_value (Vs.Int x) (Vs.Int y) = equal_z x y
+same_value (Vs.Int x) (Vs.Set t) = false
+same_value (Vs.Set s) (Vs.Bool q) = false
+same_value (Vs.Set s) (Vs.Int y) = false
+same_value (Vs.Set s) (Vs.Set t) = eqb s t
 
 unfoldable pub same_as : Value → Answer → Bool
 same_as v (As.Val w) = same_value v w
@@ -62,8 +69,8 @@ same_as v As.Stuck = false
 
 unfoldable pub agrees : Answer → List ℕ → Bool
 agrees (As.Val v) s = same_as v (operand_at s (get_or s 12 0) 13)
-agrees (As.Trap t) s = choose (eqb (get_or s 12 0) 4) (eqb (trap_number t) (half_at s 15)) false
-agrees As.Stuck s = eqb (get_or s 12 0) 5
+agrees (As.Trap t) s = choose (eqb (get_or s 12 0) 3) (eqb (trap_number t) (half_at s 15)) false
+agrees As.Stuck s = eqb (get_or s 12 0) 4
 
 unfoldable pub is_good : List ℕ → Bool
 is_good s = agrees (answer_of s) s

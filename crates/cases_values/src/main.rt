@@ -57,21 +57,15 @@ fn dyadic(op: u16, left: Value, right: Value) -> Answer
             operators::booleans(op, p, q)
         }
         Value::Int(x) => match right {
+            Value::Bool(_) => Answer::Stuck,
             Value::Int(y) => operators::integers(op, x, y),
             Value::Set(t) => operators::membership(op, x, t),
-            _ => Answer::Stuck,
         },
         Value::Set(s) => {
             let Value::Set(t) = right else {
                 return Answer::Stuck;
             };
             operators::sets(op, s, t)
-        }
-        Value::Char(c) => {
-            let Value::Char(d) = right else {
-                return Answer::Stuck;
-            };
-            operators::chars(op, c, d)
         }
     }
 }
@@ -166,12 +160,6 @@ fn same_value(v: Value, w: Value) -> bool
             };
             s == t
         }
-        Value::Char(c) => {
-            let Value::Char(d) = w else {
-                return false;
-            };
-            c == d
-        }
     }
 }
 
@@ -192,12 +180,12 @@ fn agrees(a: Answer, s: &[u8]) -> bool
     match a {
         Answer::Val(v) => same_as(v, operand_at(s, kind, 13)),
         Answer::Trap(t) => {
-            if kind != 4 {
+            if kind != 3 {
                 return false;
             }
             values::trap_number(t) as u16 == half_at(s, 15)
         }
-        Answer::Stuck => kind == 5,
+        Answer::Stuck => kind == 4,
     }
 }
 

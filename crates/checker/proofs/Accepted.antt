@@ -9,7 +9,7 @@ use Rattle.prelude.proofs.Choice.{clash}
 use Rattle.image.specs.declared.Verdict.{Verdict}
 use Rattle.image.specs.declared.Verdict.TheVariants.{Kept, Fault}
 use Rattle.image.specs.Rows.{rows_of}
-use Rattle.image.specs.Versions.{scalar_rows}
+use Rattle.image.proofs.Versions.{three_rows}
 use Rattle.header.specs.declared.HeaderAnswer.{HeaderAnswer}
 use Rattle.header.specs.declared.HeaderAnswer.TheVariants.{Yes}
 use Rattle.header.specs.Header.{version_of, question1, question2, question3, tables_in, header_of}
@@ -17,12 +17,11 @@ use Rattle.header.proofs.Fitting.{Fits, header_fits, HeaderCase, HeaderCase.firs
 use Rattle.header.proofs.Fitting.{HeaderCase.all_yes, header_case}
 use Rattle.kinds.specs.declared.KindAnswer.TheVariants.{Kind}
 use Rattle.shapes.proofs.Accepted.{TypesKept}
-use Rattle.types.specs.Question.{question4, TypesAccepted}
+use Rattle.types.specs.Question.{TypesAccepted}
 use Rattle.types.proofs.Accepted.{types_kept}
 use Rattle.frames.specs.Variables.{question5}
 use Rattle.frames.specs.Procedures.{question6}
 use Rattle.frames.proofs.Accepted.{VariableRow, variables_kept, ProceduresKept, procedures_kept}
-use Rattle.nodes.specs.Nodes.{question7}
 use Rattle.nodes.proofs.Accepted.{NodeRow, NodesAccepted, nodes_kept}
 use Rattle.statements.specs.Statements.{procedure_at, question8}
 use Rattle.statements.proofs.Accepted.{StatementRow, statements_kept}
@@ -54,22 +53,22 @@ pub record AllYes (t f v p n s : List ℕ) : Type 0 where
 -- accepted tables, row by row
 pub record AcceptedTables (t f v p n s : List ℕ) : Type 0 where
   pub counts : CountsFit t f v p n s
+  pub scalars : 3 ≤ rows_of t
   pub first_statement : 1 ≤ rows_of s
   pub questions : AllYes t f v p n s
-  pub scalars : scalar_rows questions.types.version ≤ rows_of t
   pub types : TypesKept t f
   pub variable : (r : ℕ) → r < rows_of v → VariableRow t v r
   pub procedures : ProceduresKept v p s
-  pub node : (r : ℕ) → r < rows_of n → NodeRow questions.types.version t v n r
+  pub node : (r : ℕ) → r < rows_of n → NodeRow t v n r
   pub statement : (r : ℕ) → r < rows_of s → StatementRow n p s r
   pub body : (r : ℕ) → r < rows_of s → InBody p s (procedure_at p r) r
   pub names : NamesKept n p s
   pub typed : (r : ℕ) → r < rows_of n → (x : ℕ) × NodeTyped t f v n r x × (type_of t f v n r ≡ Kind x)
   pub ruled : (r : ℕ) → r < rows_of s → StatementRuled t f v p n s r
 
-tables_accepted : (t f v p n s : List ℕ) → CountsFit t f v p n s → 1 ≤ rows_of s → (said : AllYes t f v p n s)
-    → scalar_rows said.types.version ≤ rows_of t → AcceptedTables t f v p n s
-tables_accepted t f v p n s counts first said scalars =
+tables_accepted : (t f v p n s : List ℕ) → CountsFit t f v p n s → 3 ≤ rows_of t → 1 ≤ rows_of s → AllYes t f v p n s
+    → AcceptedTables t f v p n s
+tables_accepted t f v p n s counts scalars first said =
     let kept = procedures_kept v p s said.procedures in
     record {
       counts = counts;
@@ -114,22 +113,13 @@ module _ (image : List ℕ) where
         (yes_true (question3 image) (each 3 (omega arith) (omega arith)))
         (header_case image)
 
-    -- questions 4 and 7, which hang on the version
-    pub types_accepted : question4 (version_of image) (types_in image) (fields_in image) ≡ Kept
-    unfolding question_of table_question choose
-    types_accepted = each 4 (omega arith) (omega arith)
-
-    pub nodes_accepted : question7 (version_of image) (types_in image) (variables_in image) (nodes_in image) ≡ Kept
-    unfolding question_of table_question choose
-    nodes_accepted = each 7 (omega arith) (omega arith)
-
     all_yes_tables : AllYes (types_in image) (fields_in image) (variables_in image) (procedures_in image) (nodes_in image) (statements_in image)
     unfolding question_of table_question choose
     all_yes_tables = record {
-      types = record { version = version_of image; passes = types_accepted };
+      types = record { version = version_of image; passes = each 4 (omega arith) (omega arith) };
       variables = each 5 (omega arith) (omega arith);
       procedures = each 6 (omega arith) (omega arith);
-      nodes = record { passes = nodes_accepted };
+      nodes = record { passes = each 7 (omega arith) (omega arith) };
       statements = each 8 (omega arith) (omega arith);
       names = each 9 (omega arith) (omega arith);
       typing = each 10 (omega arith) (omega arith);
@@ -139,11 +129,12 @@ module _ (image : List ℕ) where
     -- an image that the check accepts
     pub image_accepted :
         AcceptedTables (types_in image) (fields_in image) (variables_in image) (procedures_in image) (nodes_in image) (statements_in image)
-    unfolding all_yes_tables
     image_accepted =
         let fits = header_fits image (tables_in image) header_yes in
+        let least = fits.types.least in
+        let three = three_rows (version_of image) in
         tables_accepted (types_in image) (fields_in image) (variables_in image) (procedures_in image) (nodes_in image) (statements_in image)
-        (counts_fit image header_yes) fits.statements.least all_yes_tables fits.types.least
+        (counts_fit image header_yes) (omega arith) fits.statements.least all_yes_tables
 
     -- and the tables that it has
     pub accepted_header : header_of image ≡ Yes (tables_in image)

@@ -3,4 +3,3 @@ pub mod Asking
 pub mod Bounds
 pub mod Exactly
 pub mod Accepted
-pub mod FirstVersion

@@ -1,4 +1,3 @@
 pub mod Check
 pub mod Exactly
 pub mod Prepared
-pub mod FirstVersion

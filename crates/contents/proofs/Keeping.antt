@@ -14,8 +14,8 @@ use mir.Syntax.{w64}
 use mir.Val.{SFits, to_z, of_z}
 use Rattle.prelude.specs.Choice.{choose, ◌also◌}
 use Rattle.prelude.proofs.Choice.{clash}
-use Rattle.values.specs.Values.{cell_of, boolean_cell, integer_cell, set_cell, char_cell, is_integer}
-use Rattle.values.proofs.Numbers.{plain64, sets_up_to, chars_up_to, natural_neg, natural_large, natural_is}
+use Rattle.values.specs.Values.{cell_of, boolean_cell, integer_cell, is_integer}
+use Rattle.values.proofs.Numbers.{plain64, set_neg, set_large, set_is}
 use Rattle.asking.specs.State.{is_value, values_kept}
 use Rattle.contents.specs.Kinds.{lowest, highest}
 
@@ -27,38 +27,35 @@ pub compared : (x y : ℤ) {b : Bool} → SFits w64 x → SFits w64 y → lt_z (
 compared x y p q e = rw (plain64 x p, plain64 y q) at e
 
 -- a number below the kind's lowest is no value
-pub too_low : (k : ℕ) (z : ℤ) → k < 4 → lt_z z (lowest k) ≡ true → is_value (cell_of k z) ≡ false
-unfolding lowest cell_of boolean_cell integer_cell set_cell char_cell is_integer is_value choose
+pub too_low : (k : ℕ) (z : ℤ) → k < 3 → lt_z z (lowest k) ≡ true → is_value (cell_of k z) ≡ false
+unfolding lowest cell_of boolean_cell integer_cell is_integer is_value choose
 too_low zero (pos n) low h = absurd (omega (arith, ltb-true))
 too_low zero (negsuc n) low h = refl
 too_low (suc zero) z low h = rw h
-too_low (suc (suc zero)) z low h = rw (natural_neg sets_up_to _ _ z h)
-too_low (suc (suc (suc zero))) z low h = rw (natural_neg chars_up_to _ _ z h)
-too_low (suc (suc (suc (suc k)))) z low h = absurd (omega arith)
+too_low (suc (suc zero)) z low h = rw (set_neg z h)
+too_low (suc (suc (suc k))) z low h = absurd (omega arith)
 
 -- nor is one above its highest
-pub too_high : (k : ℕ) (z : ℤ) → k < 4 → lt_z z (lowest k) ≡ false → lt_z (highest k) z ≡ true → is_value (cell_of k z) ≡ false
-unfolding lowest highest cell_of boolean_cell integer_cell set_cell char_cell is_integer is_value choose
+pub too_high : (k : ℕ) (z : ℤ) → k < 3 → lt_z z (lowest k) ≡ false → lt_z (highest k) z ≡ true → is_value (cell_of k z) ≡ false
+unfolding lowest highest cell_of boolean_cell integer_cell is_integer is_value choose
 too_high zero (pos zero) low h more = absurd (omega (arith, ltb-true))
 too_high zero (pos (suc zero)) low h more = absurd (omega (arith, ltb-true))
 too_high zero (pos (suc (suc n))) low h more =
     rw (ne_eqb (suc (suc n)) 0 (omega arith), ne_eqb (suc (suc n)) 1 (omega arith))
 too_high zero (negsuc n) low h more = refl
 too_high (suc zero) z low h more = rw (h, more)
-too_high (suc (suc zero)) z low h more = rw (natural_large sets_up_to _ _ z more)
-too_high (suc (suc (suc zero))) z low h more = rw (natural_large chars_up_to _ _ z more)
-too_high (suc (suc (suc (suc k)))) z low h more = absurd (omega arith)
+too_high (suc (suc zero)) z low h more = rw (set_large z more)
+too_high (suc (suc (suc k))) z low h more = absurd (omega arith)
 
-pub in_range : (k : ℕ) (z : ℤ) → k < 4 → lt_z z (lowest k) ≡ false → lt_z (highest k) z ≡ false → is_value (cell_of k z) ≡ true
-unfolding lowest highest cell_of boolean_cell integer_cell set_cell char_cell is_integer is_value choose
+pub in_range : (k : ℕ) (z : ℤ) → k < 3 → lt_z z (lowest k) ≡ false → lt_z (highest k) z ≡ false → is_value (cell_of k z) ≡ true
+unfolding lowest highest cell_of boolean_cell integer_cell is_integer is_value choose
 in_range zero (pos zero) low h most = refl
 in_range zero (pos (suc zero)) low h most = refl
 in_range zero (pos (suc (suc n))) low h most = absurd (omega (arith, ltb-false))
 in_range zero (negsuc n) low h most = clash h
 in_range (suc zero) z low h most = rw (h, most)
-in_range (suc (suc zero)) z low h most = rw (natural_is sets_up_to _ _ z h most)
-in_range (suc (suc (suc zero))) z low h most = rw (natural_is chars_up_to _ _ z h most)
-in_range (suc (suc (suc (suc k)))) z low h most = absurd (omega arith)
+in_range (suc (suc zero)) z low h most = rw (set_is z h most)
+in_range (suc (suc (suc k))) z low h most = absurd (omega arith)
 
 -- ---- a run of cells, at address `at` of those below `end`
 

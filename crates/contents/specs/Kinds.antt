@@ -3,17 +3,17 @@ use Rattle.std.specs.Prelude.{ℕ, ◌+◌, List, [], ◌∷◌, map, ltb, eqb, 
 use Rattle.prelude.specs.Choice.{choose}
 use Rattle.prelude.specs.Rec.{rec}
 use Rattle.shapes.specs.Forms.{Form, Form.scalar, Form.array, Form.record_of, Form.no_form, form, of_base, own_types}
-use Rattle.values.specs.Values.{BOOLEAN, INTEGER, CHAR}
+use Rattle.values.specs.Values.{BOOLEAN, INTEGER}
 
 -- ---- numbers for what cells are; below EMPTY it is the kind of them all
 
 -- no cells
 abbrev pub EMPTY : ℕ
-EMPTY = 4
+EMPTY = 3
 
 -- + s: the cells of type row s, which are of several kinds and in several parts
 abbrev pub PARTS : ℕ
-PARTS = 5
+PARTS = 4
 
 -- cells of several kinds
 abbrev pub MIXED : ℕ
@@ -50,13 +50,10 @@ even_of t f = rec EMPTY (λ even r. even_by f even r (form t r))
 
 -- ---- what a cell of a kind may hold
 
--- from this number: FALSE, "INTEGER is -2147483648 to 2147483647", the empty set, "CHAR is 0 to 255"
+-- from this number: FALSE, "INTEGER is -2147483648 to 2147483647", the empty set
 unfoldable pub lowest : ℕ → ℤ
 lowest kind = choose (eqb kind INTEGER) (negsuc 2147483647) (pos 0)
 
--- to this one: TRUE, 32 elements, and the same two
+-- to this one: TRUE, and 32 elements
 unfoldable pub highest : ℕ → ℤ
-highest kind =
-    choose (eqb kind BOOLEAN) (pos 1)
-    (choose (eqb kind INTEGER) (pos 2147483647)
-    (choose (eqb kind CHAR) (pos 255) (pos 4294967295)))
+highest kind = choose (eqb kind BOOLEAN) (pos 1) (choose (eqb kind INTEGER) (pos 2147483647) (pos 4294967295))

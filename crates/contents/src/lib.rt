@@ -20,10 +20,10 @@ use image::Row;
 // ---- what the cells of a type are: the kind of them all, or one of these numbers
 
 // No cells.
-const EMPTY: u8 = 4;
+const EMPTY: u8 = 3;
 
 // + s: the cells of type row s, which are of several kinds and in several parts.
-const PARTS: u8 = 5;
+const PARTS: u8 = 4;
 
 // Cells of several kinds, while a row's are put together.
 const MIXED: u8 = 255;
@@ -130,7 +130,6 @@ fn type_kind(f: &[u8], even: &[u8], r: u8, row: Row) -> u8
             let all = own_kind(f, even, base, b, c);
             owned(r, all)
         }
-        5 => 3,
         _ => EMPTY,
     }
 }
@@ -170,7 +169,6 @@ fn highest(kind: u8) -> i64
     match kind {
         0 => 1,
         1 => 2147483647,
-        3 => 255,
         _ => 4294967295,
     }
 }

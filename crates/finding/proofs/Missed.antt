@@ -81,7 +81,7 @@ index_handed (As.Trap u) t next value = refl
 index_handed As.Stuck t next value = refl
 
 -- and neither is a value that is no INTEGER
-pub index_none : {x : Answer} (v : Value) → x ≡ As.Val v → OneOf (0 ∷ 2 ∷ 3 ∷ []) (tag_of value_type v)
+pub index_none : {x : Answer} (v : Value) → x ≡ As.Val v → OneOf (0 ∷ 2 ∷ []) (tag_of value_type v)
     → (next : ℤ → Found) → index x next ≡ Fs.Stuck
 unfolding index
 index_none v e t next = rw e (no_integer _ v next t)

@@ -56,15 +56,14 @@ fn no_value(x: Found) -> Answer
     }
 }
 
-// The value of an object.
+// The value of an object. A scalar's type row is its kind, and no other row is the kind of a value.
 fn load(image: &&[u8], plan: &Plan, store: &&[i64], top: u32, place: Place) -> Answer
     requires { Planned image.now.now plan.now
         × (place.declared < rows_of (program_of image.now.now).types) × (top ≤ length store.now.now) }
     ensures { result ≡ value_at bare top store.now.now
         (kind_in (program_of image.now.now).types place.declared) place.address }
 {
-    let kind = access::kind_of(image, plan, place.declared);
-    cells::value_at(*store, top, kind, place.address)
+    cells::value_at(*store, top, place.declared, place.address)
 }
 
 // ---- designators
@@ -351,21 +350,15 @@ fn eval(image: &&[u8], plan: &Plan, store: &&[i64], base: u32, top: u32, r: u32)
                     operators::booleans(c, p, q)
                 }
                 Value::Int(i) => match y {
+                    Value::Bool(_) => Answer::Stuck,
                     Value::Int(j) => operators::integers(c, i, j),
                     Value::Set(u) => operators::membership(c, i, u),
-                    _ => Answer::Stuck,
                 },
                 Value::Set(s) => {
                     let Value::Set(t) = y else {
                         return Answer::Stuck;
                     };
                     operators::sets(c, s, t)
-                }
-                Value::Char(l) => {
-                    let Value::Char(k) = y else {
-                        return Answer::Stuck;
-                    };
-                    operators::chars(c, l, k)
                 }
             }
         }

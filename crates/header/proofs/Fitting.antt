@@ -12,7 +12,7 @@ use lib.Seq.{length-take-le}
 use Rattle.prelude.specs.Choice.{choose, ◌also◌}
 use Rattle.prelude.proofs.Choice.{choose_cases, choose_yes, also_true, also_yes}
 use Rattle.image.specs.Rows.{Bytes, number_at, word_at, rows_of}
-use Rattle.image.specs.Versions.{is_version, scalar_rows}
+use Rattle.image.specs.Versions.{scalar_rows}
 use Rattle.image.proofs.Bytes.{slice_bytes}
 use Rattle.header.specs.Header.{question1, question2, table_from, then_table, tables_of, third_answer, header_of}
 use Rattle.header.specs.Header.{version_of, part_of, question3, are_six, six_of, tables_in}
@@ -108,7 +108,7 @@ found_within image from low high e = (placed image from low high e).within
 
 -- "Then the six tables follow one another", and fill the image
 pub record Fits (image : List ℕ) (ts : Tables) : Type 0 where
-  pub version : is_version (version_of image) ≡ true
+  pub version : version_of image ≡ 1
   pub size : word_at image 1 ≡ length image
   pub types : Placed image 5 (scalar_rows (version_of image)) 64 ts.types
   pub fields : Placed image ts.types.end 0 256 ts.fields
@@ -118,7 +118,7 @@ pub record Fits (image : List ℕ) (ts : Tables) : Type 0 where
   pub statements : Placed image ts.nodes.end 1 1024 ts.statements
   pub filled : ts.statements.end ≡ length image
 
-tables_fit : (image : List ℕ) (ts : Tables) → is_version (version_of image) ≡ true → word_at image 1 ≡ length image
+tables_fit : (image : List ℕ) (ts : Tables) → version_of image ≡ 1 → word_at image 1 ≡ length image
     → tables_of image ≡ Six ts → Fits image ts
 unfolding tables_of
 tables_fit image ts version size e =
@@ -168,7 +168,7 @@ header_fits image ts e =
     ⊎_elim
     (λ a. ⊎_elim
     (λ b. tables_fit image ts
-    (also_true _ _ a.0).1
+    (eqb-true (version_of image) 1 (also_true _ _ a.0).1)
     (eqb-true (word_at image 1) (length image) (also_true _ _ b.0).1)
     (third_six (tables_of image) b.1))
     (λ b. no_header b.1)

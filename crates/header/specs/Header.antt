@@ -2,7 +2,7 @@
 use Rattle.std.specs.Prelude.{ℕ, ◌+◌, ◌-◌, ◌*◌, List, [], Bool, true, false, ltb, leb, eqb, length, get_or, take, drop}
 use Rattle.prelude.specs.Choice.{choose, ◌also◌}
 use Rattle.image.specs.Rows.{number_at, word_at}
-use Rattle.image.specs.Versions.{is_version, scalar_rows}
+use Rattle.image.specs.Versions.{scalar_rows}
 use Rattle.header.specs.declared.Table.{Table}
 use Rattle.header.specs.declared.Tables.{Tables}
 use Rattle.header.specs.declared.TableAnswer.{TableAnswer}
@@ -12,13 +12,13 @@ use Rattle.header.specs.declared.TablesAnswer.TheVariants.{Amiss, Six}
 use Rattle.header.specs.declared.HeaderAnswer.{HeaderAnswer}
 use Rattle.header.specs.declared.HeaderAnswer.TheVariants.{No, Yes}
 
--- "Byte 0 is the version, 1 or 2."
+-- "Byte 0 is the version, 1."
 unfoldable pub version_of : List ℕ → ℕ
 version_of image = get_or image 0 0
 
--- "1. Is there a first byte, and is it 1 or 2?"
+-- "1. Is there a first byte, and is it 1?"
 unfoldable pub question1 : List ℕ → Bool
-question1 image = ltb 0 (length image) also is_version (version_of image)
+question1 image = ltb 0 (length image) also eqb (version_of image) 1
 
 -- "2. Are bytes 1 to 4 present, equal to the image's length?"
 unfoldable pub question2 : List ℕ → Bool
@@ -38,8 +38,8 @@ unfoldable pub then_table : TableAnswer → (Table → TablesAnswer) → TablesA
 then_table Unfit next = Amiss
 then_table (Found t) next = next t
 
--- "Then the six tables follow one another, ..: types (3 to 64, in version 2 at least 4), fields (0 to 256), variables
--- (0 to 256), procedures (1 to 64), nodes (0 to 2,048), statements (1 to 1,024)."
+-- "Then the six tables follow one another, ..: types (3 to 64), fields (0 to 256), variables (0 to 256), procedures (1 to
+-- 64), nodes (0 to 2,048), statements (1 to 1,024)."
 -- "3. Are the counts in range, and do the tables fill the image exactly?"
 unfoldable pub tables_of : List ℕ → TablesAnswer
 tables_of image =

@@ -106,7 +106,7 @@ pub fn header(image: &[u8]) -> HeaderAnswer
         return HeaderAnswer::No(1);
     }
     let version = image[0];
-    if !image::is_version(version) {
+    if version != 1 {
         return HeaderAnswer::No(1);
     }
     if image.len() < 5 {

@@ -1,7 +1,7 @@
 // The rows of an image's tables, and what a question says of a table.
 ghost use Rattle.std.specs.Prelude.{◌≡◌, ◌+◌, ◌*◌, ◌≤◌, ◌<◌, length};
 ghost use Rattle.image.specs.Rows.{number_at, word_at, rows_of, row_at};
-ghost use Rattle.image.specs.Versions.{is_version, scalar_rows, monadics};
+ghost use Rattle.image.specs.Versions.{scalar_rows, monadics};
 
 // A row of a table.
 #[derive(Drop)]
@@ -82,26 +82,16 @@ pub fn a_at(t: &[u8], i: usize) -> u16
     number_at(t, i * 8 + 2)
 }
 
-// Whether an image may have this version.
-pub fn is_version(version: u8) -> bool
-    ensures { result ≡ is_version version }
-{
-    if version < 1 {
-        return false;
-    }
-    version <= 2
-}
-
 // How many scalar types stand first in an image of a version.
 pub fn scalar_rows(version: u8) -> u16
     ensures { result ≡ scalar_rows version }
 {
-    if version == 2 { 4 } else { 3 }
+    3
 }
 
 // How many monadic operators it has.
 pub fn monadics(version: u8) -> u16
     ensures { result ≡ monadics version }
 {
-    if version == 2 { 4 } else { 2 }
+    2
 }

@@ -1,16 +1,15 @@
--- What an operator takes and what it gives are of scalar kinds; CHR alone gives a CHAR.
+-- What an operator takes and what it gives are of scalar kinds.
 use mathlib.Core.Path.{◌≡◌, refl, sym}
 use mathlib.Core.Bool.{Bool, true, false, ◌&&◌}
-use Prim.Native.Nat.{ℕ, ◌≤◌, ◌<◌}
+use Prim.Native.Nat.{ℕ}
 use native.Mathlib.Omega.{arith}
 use borrow.Author.Tests.{leb-true, eqb-true}
 use lib.Dec.{leb, eqb}
 use Rattle.prelude.specs.Choice.{choose}
 use Rattle.prelude.proofs.Choice.{clash}
-use Rattle.values.specs.Values.{BOOLEAN, INTEGER, SET, CHAR, Scalar, Scalar.a_boolean, Scalar.an_integer}
-use Rattle.values.specs.Values.{Scalar.a_set, Scalar.a_char}
+use Rattle.values.specs.Values.{BOOLEAN, INTEGER, SET, Scalar, Scalar.a_boolean, Scalar.an_integer, Scalar.a_set}
 use Rattle.values.proofs.Scalars.{below_scalar}
-use Rattle.kinds.specs.Kinds.{integers_kind, sets_kind, booleans_kind, chars_kind, dyadic_kind, monadic_kind}
+use Rattle.kinds.specs.Kinds.{integers_kind, sets_kind, booleans_kind, dyadic_kind, monadic_kind}
 use Rattle.kinds.specs.declared.KindAnswer.{KindAnswer}
 use Rattle.kinds.specs.declared.KindAnswer.TheVariants.{Untyped, Kind}
 
@@ -36,41 +35,33 @@ module _ {P : ℕ → Type 0} where
 
 -- ---- by the operands' kinds
 
--- a BOOLEAN, an INTEGER or a SET
-abbrev Early : ℕ → Type 0
-Early x = x < CHAR
-
-booleans_early : (op : ℕ) → Given Early (booleans_kind op)
+booleans_scalar : (op : ℕ) → Given Scalar (booleans_kind op)
 unfolding booleans_kind
-booleans_early op = either _ (one (omega arith)) (either _ (one (omega arith)) none)
+booleans_scalar op = either _ (one a_boolean) (either _ (one a_boolean) none)
 
-integers_early : (op : ℕ) → Given Early (integers_kind op)
+integers_scalar : (op : ℕ) → Given Scalar (integers_kind op)
 unfolding integers_kind
-integers_early op = either _ (one (omega arith)) (either _ (one (omega arith)) (either _ (one (omega arith)) none))
+integers_scalar op = either _ (one an_integer) (either _ (one a_boolean) (either _ (one a_set) none))
 
-sets_early : (op : ℕ) → Given Early (sets_kind op)
+sets_scalar : (op : ℕ) → Given Scalar (sets_kind op)
 unfolding sets_kind
-sets_early op = either _ (one (omega arith)) (either _ (one (omega arith)) (either _ (one (omega arith)) none))
-
-chars_early : (op : ℕ) → Given Early (chars_kind op)
-unfolding chars_kind
-chars_early op = either _ (one (omega arith)) none
+sets_scalar op = either _ (one a_set) (either _ (one a_set) (either _ (one a_boolean) none))
 
 -- ---- every operator
 
--- the kinds of two operands, and the one that is given, which is no CHAR
+-- the kinds of two operands, and the one that is given
 pub record Operands (left right x : ℕ) : Type 0 where
   pub left_scalar : Scalar left
   pub right_scalar : Scalar right
-  pub given_early : x < CHAR
+  pub given_scalar : Scalar x
 
 both : (left right : ℕ) {j k : ℕ} {a : KindAnswer} → Scalar j → Scalar k → eqb left j ≡ true → eqb right k ≡ true
-    → Given Early a → Given (Operands left right) a
+    → Given Scalar a → Given (Operands left right) a
 both left right {j} {k} p q l r given = record {
   holds = λ x e. record {
     left_scalar = rw (eqb-true left j l) p;
     right_scalar = rw (eqb-true right k r) q;
-    given_early = given.holds x e;
+    given_scalar = given.holds x e;
   };
 }
 
@@ -78,15 +69,13 @@ dyadic_given : (op left right : ℕ) → Given (Operands left right) (dyadic_kin
 unfolding dyadic_kind
 dyadic_given op left right =
     when (eqb left BOOLEAN) (λ l. when (eqb right BOOLEAN)
-    (λ r. both left right a_boolean a_boolean l r (booleans_early op)) none)
+    (λ r. both left right a_boolean a_boolean l r (booleans_scalar op)) none)
     (when (eqb left INTEGER) (λ l. when (eqb right INTEGER)
-    (λ r. both left right an_integer an_integer l r (integers_early op))
+    (λ r. both left right an_integer an_integer l r (integers_scalar op))
     (when (eqb right SET)
-    (λ r. both left right an_integer a_set l r (either (eqb op 15) (one (omega arith)) none)) none))
+    (λ r. both left right an_integer a_set l r (either (eqb op 15) (one a_boolean) none)) none))
     (when (eqb left SET) (λ l. when (eqb right SET)
-    (λ r. both left right a_set a_set l r (sets_early op)) none)
-    (when (eqb left CHAR) (λ l. when (eqb right CHAR)
-    (λ r. both left right a_char a_char l r (chars_early op)) none) none)))
+    (λ r. both left right a_set a_set l r (sets_scalar op)) none) none))
 
 pub dyadic_scalar : (op left right x : ℕ) → dyadic_kind op left right ≡ Kind x → Operands left right x
 dyadic_scalar op left right = (dyadic_given op left right).holds
@@ -95,35 +84,17 @@ both_true : (a b : Bool) → a && b ≡ true → b ≡ true
 both_true true b e = e
 both_true false b e = clash (sym e)
 
--- the kind of an operand, and the one that is given: a CHAR by operator 4 alone
-pub record Operand (op operand x : ℕ) : Type 0 where
-  pub operand_scalar : Scalar operand
-  pub given_scalar : Scalar x
-  pub given_early : op ≤ 2 → x < CHAR
-
-monadic_given : (op operand : ℕ) → Given (Operand op operand) (monadic_kind op operand)
+monadic_given : (op operand : ℕ) → Given (λ x. Scalar operand × Scalar x) (monadic_kind op operand)
 unfolding monadic_kind
 monadic_given op operand =
     either (eqb op 1)
     (when (leb 1 operand && leb operand 2) (λ e.
     let low = leb-true operand 2 (both_true (leb 1 operand) (leb operand 2) e) in
     let scalar = below_scalar operand (omega arith) in
-    one (record { operand_scalar = scalar; given_scalar = scalar; given_early = λ h. omega arith })) none)
-    (either (eqb op 2) (when (eqb operand BOOLEAN) (λ e. one (record {
-      operand_scalar = rw (eqb-true operand BOOLEAN e) a_boolean;
-      given_scalar = a_boolean;
-      given_early = λ h. omega arith;
-    })) none)
-    (either (eqb op 3) (when (eqb operand CHAR) (λ e. one (record {
-      operand_scalar = rw (eqb-true operand CHAR e) a_char;
-      given_scalar = an_integer;
-      given_early = λ h. omega arith;
-    })) none)
-    (when (eqb op 4) (λ o. when (eqb operand INTEGER) (λ e. one (record {
-      operand_scalar = rw (eqb-true operand INTEGER e) an_integer;
-      given_scalar = a_char;
-      given_early = λ h. absurd (omega (arith, eqb-true op 4 o));
-    })) none) none)))
+    one (scalar, scalar)) none)
+    (either (eqb op 2) (when (eqb operand BOOLEAN) (λ e.
+    one (rw (eqb-true operand BOOLEAN e) a_boolean, a_boolean)) none) none)
 
-pub monadic_scalar : (op operand x : ℕ) → monadic_kind op operand ≡ Kind x → Operand op operand x
+-- the operand's kind, and the one that is given
+pub monadic_scalar : (op operand x : ℕ) → monadic_kind op operand ≡ Kind x → Scalar operand × Scalar x
 monadic_scalar op operand = (monadic_given op operand).holds

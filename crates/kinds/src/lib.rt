@@ -1,6 +1,6 @@
 // The type rules of the operators: which kinds they take, and the kind that they give.
 ghost use Rattle.std.specs.Prelude.{◌≡◌};
-ghost use Rattle.kinds.specs.Kinds.{integers_kind, sets_kind, booleans_kind, chars_kind, dyadic_kind, monadic_kind};
+ghost use Rattle.kinds.specs.Kinds.{integers_kind, sets_kind, booleans_kind, dyadic_kind, monadic_kind};
 
 // The kind that an operator gives, or that it does not take such operands.
 #[derive(Drop)]
@@ -41,15 +41,6 @@ fn booleans_kind(op: u16) -> KindAnswer
     }
 }
 
-fn chars_kind(op: u16) -> KindAnswer
-    ensures { result ≡ chars_kind op }
-{
-    match op {
-        7..=12 => KindAnswer::Kind(0),
-        _ => KindAnswer::Untyped,
-    }
-}
-
 // The kind that a dyadic operator gives on operands of two kinds.
 pub fn dyadic_kind(op: u16, left: u16, right: u16) -> KindAnswer
     ensures { result ≡ dyadic_kind op left right }
@@ -71,10 +62,6 @@ pub fn dyadic_kind(op: u16, left: u16, right: u16) -> KindAnswer
             2 => sets_kind(op),
             _ => KindAnswer::Untyped,
         },
-        3 => match right {
-            3 => chars_kind(op),
-            _ => KindAnswer::Untyped,
-        },
         _ => KindAnswer::Untyped,
     }
 }
@@ -90,14 +77,6 @@ pub fn monadic_kind(op: u16, operand: u16) -> KindAnswer
         },
         2 => match operand {
             0 => KindAnswer::Kind(0),
-            _ => KindAnswer::Untyped,
-        },
-        3 => match operand {
-            3 => KindAnswer::Kind(1),
-            _ => KindAnswer::Untyped,
-        },
-        4 => match operand {
-            1 => KindAnswer::Kind(3),
             _ => KindAnswer::Untyped,
         },
         _ => KindAnswer::Untyped,

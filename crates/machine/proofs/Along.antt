@@ -5,9 +5,10 @@ use Prim.Native.Nat.{ℕ, suc, ◌+◌, ◌-◌, ◌≤◌, ◌<◌, max}
 use native.Mathlib.Omega.{arith}
 use denote.Enum.Declared.{tag_of}
 use types.Run.{OneOf}
+use mathlib.Core.Logic.{⊎_elim}
 use lib.IntN.{ℤ, pos}
 use lib.ListN.{length}
-use Rattle.values.proofs.Binding.{neither, none_of_three}
+use Rattle.values.proofs.Binding.{neither}
 use Rattle.semantics.specs.declared.Registers.{Registers}
 use Rattle.semantics.specs.Memory.{bare}
 use Rattle.semantics.specs.Layout.{Program}
@@ -81,11 +82,14 @@ pub shows_going : {s : State ℤ} {x : Next ℤ} {q : Registers} {cells output :
     → Shows s x (Steps.Goes q) cells output → (x ≡ goes (state_of q cells output)) × OneLater q cells
 shows_going (shows_goes e later) = (ap goes e, later)
 
+no_three : {X : Type 0} {a b c d : ℕ} → (a ≡ b → ⊥) → (a ≡ c → ⊥) → (a ≡ d → ⊥) → OneOf (b ∷ c ∷ d ∷ []) a → X
+no_three p q r t = absurd (⊎_elim p (⊎_elim q r) t)
+
 pub shows_last : {s : State ℤ} {x : Next ℤ} {r : Step} {cells output : List ℤ} → Shows s x r cells output
     → OneOf (1 ∷ 2 ∷ 3 ∷ []) (tag_of step_type r) → (k mark : ℕ) (next : State ℤ → Ended ℤ)
     → Stops (onward x s k mark next) (stop_by r s.at k mark) cells output
 unfolding onward stop_by ended_with numbers_of
-shows_last (shows_goes e later) t k mark next = none_of_three (omega arith) (omega arith) (omega arith) t
+shows_last (shows_goes e later) t k mark next = no_three (omega arith) (omega arith) (omega arith) t
 shows_last (shows_end c o) t k mark next = record { answer = refl; cells_left = sym c; output_left = sym o }
 shows_last (shows_trap e o) t k mark next = record { answer = rw e; cells_left = rw e; output_left = rw e }
 shows_last (shows_stuck e o) t k mark next = record { answer = rw e; cells_left = rw e; output_left = rw e }

@@ -5,16 +5,17 @@ use mathlib.Core.List.{List}
 use mathlib.Core.Logic.{⊎_elim}
 use Prim.Native.Nat.{ℕ, ◌+◌, ◌≤◌, ◌<◌}
 use native.Mathlib.Omega.{arith}
-use borrow.Author.Tests.{ltb-true, leb-true, eqb-true, eqb-false, eq-eqb, ne_eqb, not-true}
+use borrow.Author.Tests.{ltb-true, leb-true, eqb-true, eqb-false, eq-eqb, not-true}
 use lib.Dec.{ltb, leb, eqb}
 use Rattle.prelude.specs.Choice.{choose, ◌also◌}
-use Rattle.prelude.proofs.Choice.{choose_yes, choose_no, choose_cases, also_true, clash}
+use Rattle.prelude.proofs.Choice.{choose_yes, choose_cases, also_true, clash}
 use Rattle.image.specs.declared.Row.{Row}
 use Rattle.image.specs.declared.Verdict.TheVariants.{Kept}
 use Rattle.image.specs.Rows.{row_at, rows_of}
 use Rattle.image.specs.Versions.{scalar_rows, monadics}
 use Rattle.image.proofs.Bytes.{row_there}
 use Rattle.image.proofs.Faults.{verdict_kept}
+use Rattle.image.proofs.Versions.{few_rows, few_monadics}
 use Rattle.nodes.specs.Nodes.{is_designator, is_argument, child_kept, designator_kept, constant_kept, variable_kept}
 use Rattle.nodes.specs.Nodes.{field_kept, element_kept, guard_kept, dyadic_kept, monadic_kept, argument_kept}
 use Rattle.nodes.specs.Nodes.{form_kept, node_kept, question7}
@@ -66,10 +67,9 @@ pub record Whole (n : List ℕ) (r k : ℕ) : Type 0 where
   pub low : k < r
   pub node : Designator n k
 
-pub record ConstantNode (version : ℕ) (row : Row) : Type 0 where
-  pub typed : row.a < scalar_rows version
+pub record ConstantNode (row : Row) : Type 0 where
+  pub typed : row.a ≤ 2
   pub boolean : row.a ≡ 0 → (row.b ≡ 0) × (row.c ≤ 1)
-  pub char : row.a ≡ 3 → (row.b ≡ 0) × (row.c ≤ 255)
 
 pub record VariableNode (v : List ℕ) (row : Row) : Type 0 where
   pub variable : row.a < rows_of v
@@ -97,11 +97,11 @@ pub record DyadicNode (n : List ℕ) (r : ℕ) (row : Row) : Type 0 where
   pub least : 1 ≤ row.c
   pub most : row.c ≤ 16
 
-pub record MonadicNode (version : ℕ) (n : List ℕ) (r : ℕ) (row : Row) : Type 0 where
+pub record MonadicNode (n : List ℕ) (r : ℕ) (row : Row) : Type 0 where
   pub operand : Child n r row.a
   pub unused_b : row.b ≡ 0
   pub least : 1 ≤ row.c
-  pub most : row.c ≤ monadics version
+  pub most : row.c ≤ 2
 
 pub record ArgumentNode (n : List ℕ) (r : ℕ) (row : Row) : Type 0 where
   pub holds : Child n r row.a
@@ -109,33 +109,27 @@ pub record ArgumentNode (n : List ℕ) (r : ℕ) (row : Row) : Type 0 where
   pub unused_c : row.c ≡ 0
 
 -- an accepted node row: its zero byte, its kind, and what the kind asks for
-pub data NodeRow (version : ℕ) (t v n : List ℕ) (r : ℕ) : Type 0 where
-  is_constant : (row_at n r).zero ≡ 0 → (row_at n r).kind ≡ 0 → ConstantNode version (row_at n r)
-      → NodeRow version t v n r
-  is_variable : (row_at n r).zero ≡ 0 → (row_at n r).kind ≡ 1 → VariableNode v (row_at n r) → NodeRow version t v n r
-  is_field : (row_at n r).zero ≡ 0 → (row_at n r).kind ≡ 2 → FieldNode n r (row_at n r) → NodeRow version t v n r
-  is_element_lem : (row_at n r).zero ≡ 0 → (row_at n r).kind ≡ 3 → ElementNode n r (row_at n r) → NodeRow version t v n r
-  is_guard : (row_at n r).zero ≡ 0 → (row_at n r).kind ≡ 4 → GuardNode t v (row_at n r) → NodeRow version t v n r
-  is_dyadic : (row_at n r).zero ≡ 0 → (row_at n r).kind ≡ 5 → DyadicNode n r (row_at n r) → NodeRow version t v n r
-  is_monadic : (row_at n r).zero ≡ 0 → (row_at n r).kind ≡ 6 → MonadicNode version n r (row_at n r)
-      → NodeRow version t v n r
-  is_test : (row_at n r).zero ≡ 0 → (row_at n r).kind ≡ 7 → GuardNode t v (row_at n r) → NodeRow version t v n r
-  is_argument_lem : (row_at n r).zero ≡ 0 → (row_at n r).kind ≡ 8 → ArgumentNode n r (row_at n r) → NodeRow version t v n r
+pub data NodeRow (t v n : List ℕ) (r : ℕ) : Type 0 where
+  is_constant : (row_at n r).zero ≡ 0 → (row_at n r).kind ≡ 0 → ConstantNode (row_at n r) → NodeRow t v n r
+  is_variable : (row_at n r).zero ≡ 0 → (row_at n r).kind ≡ 1 → VariableNode v (row_at n r) → NodeRow t v n r
+  is_field : (row_at n r).zero ≡ 0 → (row_at n r).kind ≡ 2 → FieldNode n r (row_at n r) → NodeRow t v n r
+  is_element_lem : (row_at n r).zero ≡ 0 → (row_at n r).kind ≡ 3 → ElementNode n r (row_at n r) → NodeRow t v n r
+  is_guard : (row_at n r).zero ≡ 0 → (row_at n r).kind ≡ 4 → GuardNode t v (row_at n r) → NodeRow t v n r
+  is_dyadic : (row_at n r).zero ≡ 0 → (row_at n r).kind ≡ 5 → DyadicNode n r (row_at n r) → NodeRow t v n r
+  is_monadic : (row_at n r).zero ≡ 0 → (row_at n r).kind ≡ 6 → MonadicNode n r (row_at n r) → NodeRow t v n r
+  is_test : (row_at n r).zero ≡ 0 → (row_at n r).kind ≡ 7 → GuardNode t v (row_at n r) → NodeRow t v n r
+  is_argument_lem : (row_at n r).zero ≡ 0 → (row_at n r).kind ≡ 8 → ArgumentNode n r (row_at n r) → NodeRow t v n r
 
 -- ---- what the rules say
 
-constant_node : (version : ℕ) (row : Row) → constant_kept version row ≡ true → ConstantNode version row
+constant_node : (version : ℕ) (row : Row) → constant_kept version row ≡ true → ConstantNode row
 unfolding constant_kept
 constant_node version row e =
     let (typed, rest) = also_true _ _ e in
     record {
-      typed = ltb-true _ _ typed;
+      typed = omega (arith, ltb-true row.a (scalar_rows version) typed, few_rows version);
       boolean = λ z.
           let (b, c) = also_true _ _ (sym (choose_yes _ _ _ (eq-eqb row.a 0 z)) ∙ rest) in
-          (eqb-true _ _ b, leb-true _ _ c);
-      char = λ z.
-          let other = choose_no _ _ _ (ne_eqb row.a 0 (omega arith)) in
-          let (b, c) = also_true _ _ (sym (choose_yes _ _ _ (eq-eqb row.a 3 z)) ∙ sym other ∙ rest) in
           (eqb-true _ _ b, leb-true _ _ c);
     }
 
@@ -184,7 +178,7 @@ module _ (n : List ℕ) (r : ℕ) (h : r < rows_of n) where
       let (low, high) = also_true _ _ e₂ in
       record { left = child _ a; right = child _ b; least = leb-true _ _ low; most = leb-true _ _ high }
 
-  monadic_node_lem : (version : ℕ) (row : Row) → monadic_kept version n r row ≡ true → MonadicNode version n r row
+  monadic_node_lem : (version : ℕ) (row : Row) → monadic_kept version n r row ≡ true → MonadicNode n r row
   unfolding monadic_kept
   monadic_node_lem version row e =
       let (a, e₁) = also_true _ _ e in
@@ -194,7 +188,7 @@ module _ (n : List ℕ) (r : ℕ) (h : r < rows_of n) where
         operand = child _ a;
         unused_b = eqb-true _ _ b;
         least = leb-true _ _ low;
-        most = leb-true _ _ high;
+        most = omega (arith, leb-true row.c (monadics version) high, few_monadics version);
       }
 
   argument_node : (row : Row) → argument_kept n r row ≡ true → ArgumentNode n r row
@@ -204,7 +198,7 @@ module _ (n : List ℕ) (r : ℕ) (h : r < rows_of n) where
       let (b, c) = also_true _ _ e₁ in
       record { holds = child _ a; unused_b = eqb-true _ _ b; unused_c = eqb-true _ _ c }
 
-  node_row : (version : ℕ) (t v : List ℕ) → node_kept version (rows_of t) (rows_of v) n r ≡ true → NodeRow version t v n r
+  node_row : (version : ℕ) (t v : List ℕ) → node_kept version (rows_of t) (rows_of v) n r ≡ true → NodeRow t v n r
   unfolding node_kept form_kept
   node_row version t v e =
       let (zero, form) = also_true _ _ e in
@@ -241,7 +235,7 @@ module _ {version : ℕ} (t v n : List ℕ) (accepted : NodesAccepted version t 
   unfolding question7
   kept = verdict_kept (node_kept version (rows_of t) (rows_of v) n) (rows_of n) accepted.passes r h
 
-  pub nodes_kept : NodeRow version t v n r
+  pub nodes_kept : NodeRow t v n r
   nodes_kept = node_row n r h version t v kept
 
   -- where the kind is known
@@ -249,7 +243,7 @@ module _ {version : ℕ} (t v n : List ℕ) (accepted : NodesAccepted version t 
   unfolding node_kept
   form k kind = sym (ap (λ j. form_kept version (rows_of t) (rows_of v) n r j (row_at n r)) kind) ∙ (also_true _ _ kept).1
 
-  pub constant_is : (row_at n r).kind ≡ 0 → ConstantNode version (row_at n r)
+  pub constant_is : (row_at n r).kind ≡ 0 → ConstantNode (row_at n r)
   unfolding form_kept choose
   constant_is k = constant_node version (row_at n r) (form 0 k)
 
@@ -273,7 +267,7 @@ module _ {version : ℕ} (t v n : List ℕ) (accepted : NodesAccepted version t 
   unfolding form_kept choose
   dyadic_is k = dyadic_node_lem n r h (row_at n r) (form 5 k)
 
-  pub monadic_is : (row_at n r).kind ≡ 6 → MonadicNode version n r (row_at n r)
+  pub monadic_is : (row_at n r).kind ≡ 6 → MonadicNode n r (row_at n r)
   unfolding form_kept choose
   monadic_is k = monadic_node_lem n r h version (row_at n r) (form 6 k)
 

@@ -23,13 +23,10 @@ child_kept n r k = ltb k r also not (is_argument n k)
 unfoldable pub designator_kept : List ℕ → ℕ → ℕ → Bool
 designator_kept n r k = ltb k r also is_designator n k
 
--- "0 constant: a type (0 to 2, in version 2 also 3); b × 65,536 + c is the value, .. 0 or 1 for BOOLEAN, 0 to 255 for
--- CHAR."
+-- "0 constant: a type (0 to 2); .. 0 or 1 for BOOLEAN."
 unfoldable pub constant_kept : ℕ → Row → Bool
 constant_kept version row =
-    ltb row.a (scalar_rows version)
-    also choose (eqb row.a 0) (eqb row.b 0 also leb row.c 1)
-    (choose (eqb row.a 3) (eqb row.b 0 also leb row.c 255) true)
+    ltb row.a (scalar_rows version) also choose (eqb row.a 0) (eqb row.b 0 also leb row.c 1) true
 
 -- "1 variable a."
 unfoldable pub variable_kept : ℕ → Row → Bool
@@ -51,7 +48,7 @@ guard_kept types variables row = ltb row.a variables also ltb row.b types also e
 unfoldable pub dyadic_kept : List ℕ → ℕ → Row → Bool
 dyadic_kept n r row = child_kept n r row.a also child_kept n r row.b also leb 1 row.c also leb row.c 16
 
--- "6 monadic a, operator c: 1 -, 2 ~, in version 2 also 3 ORD, 4 CHR."
+-- "6 monadic a, operator c: 1 -, 2 ~."
 unfoldable pub monadic_kept : ℕ → List ℕ → ℕ → Row → Bool
 monadic_kept version n r row =
     child_kept n r row.a also eqb row.b 0 also leb 1 row.c also leb row.c (monadics version)

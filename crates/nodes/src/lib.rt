@@ -1,6 +1,5 @@
 // Nodes: question 7.
-ghost use Rattle.std.specs.Prelude.{◌≡◌, ℕ, ◌≤◌, leb, eqb};
-ghost use Rattle.prelude.specs.Choice.{◌also◌};
+ghost use Rattle.std.specs.Prelude.{◌≡◌, ℕ, ◌≤◌};
 ghost use Rattle.image.specs.Rows.{rows_of};
 ghost use Rattle.nodes.specs.Nodes.{is_designator, is_argument, child_kept, designator_kept, constant_kept};
 ghost use Rattle.nodes.specs.Nodes.{variable_kept, field_kept, element_kept, guard_kept, dyadic_kept, monadic_kept};
@@ -48,16 +47,6 @@ fn designator_kept(n: &[u8], r: usize, k: u16) -> bool
     is_designator(n, child)
 }
 
-// Whether b × 65,536 + c is at most a 16-bit number.
-fn up_to(b: u16, c: u16, most: u16) -> bool
-    ensures { result ≡ (eqb b 0 also leb c most) }
-{
-    if b != 0 {
-        return false;
-    }
-    c <= most
-}
-
 fn constant_kept(version: u8, row: Row) -> bool
     ensures { result ≡ constant_kept version row }
 {
@@ -67,11 +56,13 @@ fn constant_kept(version: u8, row: Row) -> bool
     if image::scalar_rows(version) <= a {
         return false;
     }
-    match a {
-        0 => up_to(b, c, 1),
-        3 => up_to(b, c, 255),
-        _ => true,
+    if a != 0 {
+        return true;
     }
+    if b != 0 {
+        return false;
+    }
+    c <= 1
 }
 
 fn variable_kept(variables: usize, row: Row) -> bool

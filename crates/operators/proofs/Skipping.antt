@@ -39,7 +39,6 @@ decided : (op : ℕ) (v : Value) → decides op v ≡ true → Decided op v
 unfolding decides as_boolean
 decided op (Vs.Int x) e = clash (sym e)
 decided op (Vs.Set s) e = clash (sym e)
-decided op (Vs.Char c) e = clash (sym e)
 decided op (Vs.Bool p) e =
     elim (choose_cases (eqb op 13) e) [
       | inl h ↦ rw (eqb-true op 13 h.0, not-true p h.1) and_false

@@ -4,20 +4,19 @@ use mathlib.Core.Path.{◌≡◌, refl, ap, ◌∙◌}
 use mathlib.Core.Bool.{Bool, true, false, ◌&&◌}
 use Prim.Native.Nat.{ℕ, suc, ◌<◌, ◌≤◌}
 use native.Mathlib.Omega.{arith}
-use borrow.Author.Tests.{lt-ltb, ltb-true, ltb-false, leb-true, leb-false, le-leb, lt-leb, eqb-true, eqb-false}
+use borrow.Author.Tests.{ltb-true, ltb-false, leb-true, leb-false, le-leb, lt-leb, eqb-true, eqb-false}
 use lib.Bits.{or_lt, xor_lt, and_le_l}
 use lib.Dec.{leb, ltb, eqb}
-use lib.IntN.{ℤ, pos, negsuc, neg_ℤ}
+use lib.IntN.{ℤ, neg_ℤ}
 use mir.Syntax.{w32}
 use mir.Val.{SFits}
 use Rattle.prelude.specs.Choice.{choose}
-use Rattle.values.specs.Values.{BOOLEAN, INTEGER, SET, CHAR, kind_of, InRange, is_set, is_char, natural_of, Gives}
-use Rattle.values.specs.Values.Gives.{trapped}
-use Rattle.values.specs.Values.InRange.{integer, set, char}
+use Rattle.prelude.proofs.Choice.{choose_same}
+use Rattle.values.specs.Values.{BOOLEAN, SET, kind_of, InRange, is_set, as_boolean, as_integer, as_set, Gives}
+use Rattle.values.specs.Values.InRange.{integer, set}
 use Rattle.sets.specs.Sets.{complement_of}
-use Rattle.operators.specs.Operators.{integers_of, sets_of, booleans_of, membership_of, chars_of, dyadic_of, ord_of}
-use Rattle.operators.specs.Operators.{chr_of, monadic_of}
-use Rattle.kinds.specs.Kinds.{integers_kind, sets_kind, booleans_kind, chars_kind, dyadic_kind, monadic_kind}
+use Rattle.operators.specs.Operators.{integers_of, sets_of, booleans_of, membership_of, dyadic_of, monadic_of}
+use Rattle.kinds.specs.Kinds.{integers_kind, sets_kind, booleans_kind, dyadic_kind, monadic_kind}
 use Rattle.values.specs.declared.Value.{Value}
 use Rattle.values.specs.declared.Value.TheVariants as Vs
 use Rattle.values.specs.declared.Answer.{Answer}
@@ -25,8 +24,7 @@ use Rattle.values.specs.declared.Answer.TheVariants as As
 use Rattle.kinds.specs.declared.KindAnswer.{KindAnswer}
 use Rattle.kinds.specs.declared.KindAnswer.TheVariants.{Untyped, Kind}
 use Rattle.values.proofs.Numbers.{inside, under, over, integer_fits}
-use Rattle.values.proofs.Giving.{gives_boolean, gives_integer, gives_set, gives_char, gives_one}
-use Rattle.values.proofs.Cases.{boolean_by, integer_by, set_by, char_by}
+use Rattle.values.proofs.Giving.{gives_boolean, gives_set}
 use Rattle.integers.proofs.Results.{integer_gives, arithmetic_gives}
 use Rattle.sets.proofs.Results.{contains_gives, range_gives, complement_gives}
 
@@ -124,20 +122,6 @@ module _ {H : Type 0} (op : ℕ) where
       (agree (eqb op 6) (typed (λ h. gives_set _ (xor_lt 32 s t (f h) (g h))))
       (agree (leb 7 op && leb op 8) (typed (λ h. gives_boolean _)) untyped)))))
 
-  chars_agree : (c d : ℕ) → Agree H (chars_kind op) (chars_of op c d)
-  unfolding chars_kind chars_of
-  chars_agree c d = agree (leb 7 op && leb op 12) (typed (λ h. gives_boolean _)) untyped
-
--- ORD and CHR
-ord_gives : (c : ℕ) → c < 256 → Gives INTEGER (ord_of c)
-unfolding ord_of is_char choose
-ord_gives c h = rw (lt-ltb c 256 h) (gives_integer (pos c) (record { sfits = omega arith }))
-
-chr_gives : (x : ℤ) → Gives CHAR (chr_of x)
-unfolding chr_of natural_of is_char
-chr_gives (pos n) = gives_one (ltb n 256) (λ e. gives_char n (ltb-true n 256 e)) (λ e. trapped)
-chr_gives (negsuc n) = trapped
-
 integer_in : {z : ℤ} → InRange (Vs.Int z) → SFits w32 z
 integer_in (integer h) = integer_fits _ h
 
@@ -145,55 +129,33 @@ set_in : {s : ℕ} → InRange (Vs.Set s) → s < 4294967296
 unfolding is_set
 set_in (set h) = ltb-true _ _ h
 
-char_in : {c : ℕ} → InRange (Vs.Char c) → c < 256
-unfolding is_char
-char_in (char h) = ltb-true _ _ h
-
--- by the left operand's kind, then the right one's
 pub dyadic_agree : (op : ℕ) (v w : Value)
     → Agree (InRange v × InRange w) (dyadic_kind op (kind_of v) (kind_of w)) (dyadic_of op v w)
-unfolding dyadic_kind dyadic_of membership_of kind_of choose
-dyadic_agree op (Vs.Bool p) w = boolean_by (Agree _) untyped w (booleans_of op p) (λ q e. booleans_agree op p q)
-dyadic_agree op (Vs.Int x) w =
-    integer_by (Agree _)
-    (set_by (Agree _) untyped w (membership_of op x)
-    (λ t e. agree (eqb op 15) (typed (λ h. contains_gives x t)) untyped))
-    w (integers_of op x) (λ y e. integers_agree op x y (λ h. integer_in h.0) (λ h. integer_in (rw e at h.1)))
-dyadic_agree op (Vs.Set s) w =
-    set_by (Agree _) untyped w (sets_of op s)
-    (λ t e. sets_agree op s t (λ h. set_in h.0) (λ h. set_in (rw e at h.1)))
-dyadic_agree op (Vs.Char c) w = char_by (Agree _) untyped w (chars_of op c) (λ d e. chars_agree op c d)
-
--- an operator that an operand of the kind does not have
-lacks : {H : Type 0} (op k : ℕ) (answer : ℕ → Answer) → answer k ≡ As.Stuck → {x : KindAnswer} → Agree H x (answer op)
-    → Agree H (choose (eqb op k) Untyped x) (answer op)
-unfolding choose
-lacks {H} op k answer stuck {x} rest = go (eqb op k) refl
-  where
-    go : (t : Bool) → eqb op k ≡ t → Agree H (choose t Untyped x) (answer op)
-    go true e = rw (eqb-true op k e, stuck) untyped
-    go false e = rest
-
-lacks_both : {H : Type 0} (op j k : ℕ) → Agree H (choose (eqb op j) Untyped (choose (eqb op k) Untyped Untyped)) As.Stuck
-lacks_both op j k = lacks op j (λ o. As.Stuck) refl (lacks op k (λ o. As.Stuck) refl untyped)
+unfolding dyadic_kind dyadic_of as_boolean as_integer as_set membership_of kind_of choose
+dyadic_agree op (Vs.Bool p) (Vs.Bool q) = booleans_agree op p q
+dyadic_agree op (Vs.Bool p) (Vs.Int y) = untyped
+dyadic_agree op (Vs.Bool p) (Vs.Set t) = untyped
+dyadic_agree op (Vs.Int x) (Vs.Bool q) = untyped
+dyadic_agree op (Vs.Int x) (Vs.Int y) = integers_agree op x y (λ h. integer_in h.0) (λ h. integer_in h.1)
+dyadic_agree op (Vs.Int x) (Vs.Set t) = agree (eqb op 15) (typed (λ h. contains_gives x t)) untyped
+dyadic_agree op (Vs.Set s) (Vs.Bool q) = untyped
+dyadic_agree op (Vs.Set s) (Vs.Int y) = untyped
+dyadic_agree op (Vs.Set s) (Vs.Set t) = sets_agree op s t (λ h. set_in h.0) (λ h. set_in h.1)
 
 pub monadic_agree : (op : ℕ) (v : Value) → Agree (InRange v) (monadic_kind op (kind_of v)) (monadic_of op v)
 unfolding monadic_kind monadic_of kind_of choose
-monadic_agree op (Vs.Bool p) =
-    lacks op 1 (λ o. monadic_of o (Vs.Bool p)) refl
-    (agree (eqb op 2) (typed (λ h. gives_boolean _)) (lacks_both op 3 4))
+monadic_agree op (Vs.Bool p) = go (eqb op 1) refl
+  where
+    go : (t : Bool) → eqb op 1 ≡ t
+        → Agree (InRange (Vs.Bool p))
+        (choose t Untyped (choose (eqb op 2) (Kind BOOLEAN) Untyped)) (monadic_of op (Vs.Bool p))
+    go true e = rw (eqb-true op 1 e) untyped
+    go false e = agree (eqb op 2) (typed (λ h. gives_boolean _)) untyped
 monadic_agree op (Vs.Int x) =
-    agree (eqb op 1) (typed (λ h. integer_gives (neg_ℤ x)))
-    (lacks op 2 (λ o. choose (eqb o 4) (chr_of x) As.Stuck) refl
-    (lacks op 3 (λ o. choose (eqb o 4) (chr_of x) As.Stuck) refl
-    (agree (eqb op 4) (typed (λ h. chr_gives x)) untyped)))
+    rw (choose_same (eqb op 2) Untyped) (agree (eqb op 1) (typed (λ h. integer_gives (neg_ℤ x))) untyped)
 monadic_agree op (Vs.Set s) =
-    agree (eqb op 1) (typed (λ h. complement_gives s))
-    (lacks op 2 (λ o. As.Stuck) refl (lacks_both op 3 4))
-monadic_agree op (Vs.Char c) =
-    lacks op 1 (λ o. monadic_of o (Vs.Char c)) refl
-    (lacks op 2 (λ o. monadic_of o (Vs.Char c)) refl
-    (agree (eqb op 3) (typed (λ h. ord_gives c (char_in h))) (lacks op 4 (λ o. As.Stuck) refl untyped)))
+    rw (choose_same (eqb op 2) Untyped)
+    (agree (eqb op 1) (typed (λ h. complement_gives s)) untyped)
 
 -- ---- the laws
 

@@ -1,15 +1,14 @@
 -- What the operators give, by operator number and by the operands' kinds.
-use Rattle.std.specs.Prelude.{ℕ, Bool, false, not, ◌||◌, ◌&&◌, leb, ltb, eqb, ℤ, pos, negsuc, neg_ℤ}
+use Rattle.std.specs.Prelude.{ℕ, Bool, false, not, ◌||◌, ◌&&◌, leb, eqb, ℤ, pos, negsuc, neg_ℤ}
 use Rattle.std.specs.Bool.{beq}
 use Rattle.std.specs.Int.Signed.{lt_z}
 use Rattle.std.specs.Int.Bits.{bit_and, bit_or, bit_xor}
 use Rattle.prelude.specs.Choice.{choose}
-use Rattle.values.specs.Values.{is_char, natural_of, as_boolean, as_integer, as_set, as_char, bind}
+use Rattle.values.specs.Values.{as_boolean, as_integer, as_set, bind}
 use Rattle.integers.specs.Integers.{integer_of, arithmetic_of}
 use Rattle.sets.specs.Sets.{contains_of, range_of, complement_of}
 use Rattle.values.specs.declared.Value.{Value}
 use Rattle.values.specs.declared.Value.TheVariants as Vs
-use Rattle.values.specs.declared.Trap.TheVariants as Ts
 use Rattle.values.specs.declared.Answer.{Answer}
 use Rattle.values.specs.declared.Answer.TheVariants as As
 
@@ -30,7 +29,7 @@ equal_z (negsuc a) (negsuc b) = eqb a b
 
 -- ---- by the operands' kinds
 
--- two INTEGERs: "Operators 1 to 5 take INTEGER", "7, 8 take two of one scalar type; 9 to 12 two INTEGERs or two CHARs",
+-- two INTEGERs: "Operators 1 to 5 take INTEGER", "7, 8 take two of one scalar type; 9 to 12 INTEGER",
 -- "range takes INTEGER twice"
 unfoldable pub integers_of : ℕ → ℤ → ℤ → Answer
 integers_of op x y =
@@ -58,32 +57,17 @@ booleans_of op p q =
 unfoldable pub membership_of : ℕ → ℤ → ℕ → Answer
 membership_of op x t = choose (eqb op 15) (contains_of x t) As.Stuck
 
--- two CHARs, by their numbers: "7, 8 take two of one scalar type; 9 to 12 two INTEGERs or two CHARs"
-unfoldable pub chars_of : ℕ → ℕ → ℕ → Answer
-chars_of op c d =
-    choose (leb 7 op && leb op 12) (As.Val (Vs.Bool (compare_of op (ltb c d) (eqb c d)))) As.Stuck
-
 -- "5 dyadic a, b, operator c", both operands found: by the left one's kind, then the right one's
 unfoldable pub dyadic_of : ℕ → Value → Value → Answer
 dyadic_of op (Vs.Bool p) w = as_boolean As.Stuck w (booleans_of op p)
 dyadic_of op (Vs.Int x) w = as_integer (as_set As.Stuck w (membership_of op x)) w (integers_of op x)
 dyadic_of op (Vs.Set s) w = as_set As.Stuck w (sets_of op s)
-dyadic_of op (Vs.Char c) w = as_char As.Stuck w (chars_of op c)
 
--- "ORD gives its CHAR's number"; beyond 255 it is none's
-unfoldable pub ord_of : ℕ → Answer
-ord_of c = choose (is_char c) (As.Val (Vs.Int (pos c))) As.Stuck
-
--- "CHR gives the CHAR of that number, with trap 4 outside 0 to 255."
-unfoldable pub chr_of : ℤ → Answer
-chr_of x = natural_of (As.Trap Ts.Overflow) is_char (λ c. Vs.Char c) x
-
--- "6 monadic a, operator c: 1 -, 2 ~, in version 2 also 3 ORD, 4 CHR."
+-- "6 monadic a, operator c: 1 -, 2 ~."
 unfoldable pub monadic_of : ℕ → Value → Answer
 monadic_of op (Vs.Bool p) = choose (eqb op 2) (As.Val (Vs.Bool (not p))) As.Stuck
-monadic_of op (Vs.Int x) = choose (eqb op 1) (integer_of (neg_ℤ x)) (choose (eqb op 4) (chr_of x) As.Stuck)
+monadic_of op (Vs.Int x) = choose (eqb op 1) (integer_of (neg_ℤ x)) As.Stuck
 monadic_of op (Vs.Set s) = choose (eqb op 1) (As.Val (Vs.Set (complement_of s))) As.Stuck
-monadic_of op (Vs.Char c) = choose (eqb op 3) (ord_of c) As.Stuck
 
 -- "& and OR skip the right one when the left decides": FALSE decides 13 &, TRUE decides 14 OR
 unfoldable pub decides : ℕ → Value → Bool

@@ -1,9 +1,9 @@
 // The operators on values of the scalar kinds, by operator number and operand kind.
 ghost use Rattle.std.specs.Prelude.{◌≡◌};
-ghost use Rattle.operators.specs.Operators.{compare_of, integers_of, sets_of, booleans_of, membership_of, chars_of};
-ghost use Rattle.operators.specs.Operators.{ord_of, chr_of, monadic_of, decides as decidesOf};
+ghost use Rattle.operators.specs.Operators.{compare_of, integers_of, sets_of, booleans_of, membership_of, monadic_of};
+ghost use Rattle.operators.specs.Operators.{decides as decidesOf};
 
-use values::{Answer, Trap, Value};
+use values::{Answer, Value};
 
 // Operators 7 to 12, from whether the left is less and whether the two are equal.
 fn compare(op: u16, less: bool, equal: bool) -> bool
@@ -67,41 +67,6 @@ pub fn membership(op: u16, x: i32, t: u32) -> Answer
     }
 }
 
-// An operator on two CHARs.
-pub fn chars(op: u16, c: u32, d: u32) -> Answer
-    ensures { result ≡ chars_of op c d }
-{
-    match op {
-        7..=12 => Answer::Val(Value::Bool(compare(op, c < d, c == d))),
-        _ => Answer::Stuck,
-    }
-}
-
-// The number of a CHAR.
-fn ord(c: u32) -> Answer
-    ensures { result ≡ ord_of c }
-{
-    if 255 < c {
-        return Answer::Stuck;
-    }
-    let n = c as i32;
-    Answer::Val(Value::Int(n))
-}
-
-// The CHAR of a number.
-fn chr(x: i32) -> Answer
-    ensures { result ≡ chr_of x }
-{
-    if x < 0 {
-        return Answer::Trap(Trap::Overflow);
-    }
-    if 255 < x {
-        return Answer::Trap(Trap::Overflow);
-    }
-    let c = x as u32;
-    Answer::Val(Value::Char(c))
-}
-
 // A monadic operator.
 pub fn monadic(op: u16, operand: Value) -> Answer
     ensures { result ≡ monadic_of op operand }
@@ -113,15 +78,10 @@ pub fn monadic(op: u16, operand: Value) -> Answer
         },
         Value::Int(x) => match op {
             1 => integers::subtract(0, x),
-            4 => chr(x),
             _ => Answer::Stuck,
         },
         Value::Set(s) => match op {
             1 => Answer::Val(Value::Set(sets::complement(s))),
-            _ => Answer::Stuck,
-        },
-        Value::Char(c) => match op {
-            3 => ord(c),
             _ => Answer::Stuck,
         },
     }

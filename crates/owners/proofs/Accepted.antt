@@ -29,9 +29,9 @@ own_variable_lem v p q a e =
 
 -- ---- a node, whose children stand in lower rows
 
-module _ {X : Type 0} {version : ℕ} (t v n : List ℕ) (none : X) (one : ℕ → X) (both : X → X → X) (r : ℕ) (g h : ℕ → X)
+module _ {X : Type 0} (t v n : List ℕ) (none : X) (one : ℕ → X) (both : X → X → X) (r : ℕ) (g h : ℕ → X)
     (same : (k : ℕ) → k < r → g k ≡ h k) where
-  gather_agree : NodeRow version t v n r
+  gather_agree : NodeRow t v n r
       → gather none one both g (row_at n r).kind (row_at n r) ≡ gather none one both h (row_at n r).kind (row_at n r)
   unfolding gather choose
   gather_agree (is_constant z k c) = rw k

@@ -11,7 +11,6 @@ use Rattle.prelude.proofs.Parts.{map_append}
 use Rattle.prelude.proofs.Each.{Each, Each.none, Each.more, each_append}
 use Rattle.image.specs.Rows.{row_at}
 use Rattle.shapes.specs.Sizes.{layout_of}
-use Rattle.shapes.proofs.Singles.{single_small}
 use Rattle.shapes.proofs.Layouts.{layout_kinds}
 use Rattle.frames.specs.Variables.{is_local, kind_within}
 use Rattle.values.specs.Values.{Scalar}
@@ -53,8 +52,7 @@ module _ (g : Program) where
   kinds_scalar (suc n) k low =
       each_append {l = kinds_of g k}
       (rw (kinds_value g k (low k (omega arith) (omega arith)))
-      (layout_kinds Scalar g.types (λ r single. below_scalar _ (single_small g.types r single)) g.fields
-      (row_at g.variables k).a))
+      (layout_kinds below_scalar g.types g.fields (row_at g.variables k).a))
       (kinds_scalar n (k + 1) (λ j a b. low j (omega arith) (omega arith)))
 
   pub slots_matched : (fs : List Frame) (n k : ℕ) → ((j : ℕ) → k ≤ j → j < k + n → (row_at g.variables j).kind ≤ 2)

@@ -18,8 +18,7 @@ use Rattle.prelude.proofs.Rec.{rec_ind}
 use Rattle.image.specs.declared.Row.{Row}
 use Rattle.image.specs.Rows.{Bytes, row_at, rows_of}
 use Rattle.image.proofs.Bytes.{row_small}
-use Rattle.image.specs.Versions.{scalar_rows}
-use Rattle.image.proofs.Versions.{three_rows, few_rows}
+use Rattle.image.proofs.Versions.{three_rows}
 use Rattle.shapes.specs.Forms.{kind_in, is_single}
 use Rattle.shapes.proofs.Layouts.{decide}
 use Rattle.shapes.proofs.Singles.{kind_single, single_layout}
@@ -28,7 +27,7 @@ use Rattle.relations.specs.declared.FieldAnswer.TheVariants.{Field}
 use Rattle.relations.specs.Extends.{extends}
 use Rattle.relations.specs.Fields.{field_of}
 use Rattle.relations.proofs.Extension.{extends_refl, extends_trans}
-use Rattle.values.specs.Values.{BOOLEAN, INTEGER, Scalar, kind_of, InRange}
+use Rattle.values.specs.Values.{BOOLEAN, INTEGER, Scalar, Scalar.a_boolean, Scalar.an_integer, kind_of, InRange}
 use Rattle.values.specs.Values.{Gives, Gives.value, Gives.trapped, bind, cell_of}
 use Rattle.values.specs.declared.Value.{Value}
 use Rattle.values.specs.declared.Value.TheVariants as Vs
@@ -39,7 +38,7 @@ use Rattle.values.proofs.Cells.{cell_held}
 use Rattle.values.proofs.Giving.{gives_boolean}
 use Rattle.values.proofs.Ranges.{constant_typed}
 use Rattle.values.proofs.Cases.{integer_only}
-use Rattle.values.proofs.Scalars.{scalar_below}
+use Rattle.values.proofs.Scalars.{scalar_below, below_scalar}
 use Rattle.kinds.specs.declared.KindAnswer.{KindAnswer}
 use Rattle.kinds.specs.declared.KindAnswer.TheVariants.{Untyped, Kind}
 use Rattle.kinds.proofs.Scalars.{dyadic_scalar, monadic_scalar}
@@ -55,8 +54,7 @@ use Rattle.nodes.proofs.Accepted.{ConstantNode, VariableNode, FieldNode, Element
 use Rattle.nodes.proofs.Accepted.{MonadicNode, ArgumentNode}
 use Rattle.typing.specs.Typing.{type_of}
 use Rattle.typing.proofs.Accepted.{constant_typed as constant_type, variable_typed, field_typed, element_typed}
-use Rattle.typing.proofs.Accepted.{guard_typed, dyadic_typed, monadic_typed, test_typed, argument_typed, dyadic_row}
-use Rattle.typing.proofs.Accepted.{monadic_row}
+use Rattle.typing.proofs.Accepted.{guard_typed, dyadic_typed, monadic_typed, test_typed, argument_typed}
 use Rattle.owners.specs.Owners.{own_variable, own_below}
 use Rattle.owners.proofs.Accepted.{own_variable_lem, variable_own, field_own, element_own, guard_own, dyadic_own}
 use Rattle.owners.proofs.Accepted.{monadic_own, test_own, argument_own}
@@ -154,27 +152,20 @@ mark_there top cells {k = k} {n} {a} h p low small =
 
 module _ (g : Program)
     (ok : AcceptedTables g.types g.fields g.variables g.procedures g.nodes g.statements) where
-  -- the rows of the scalar types: BOOLEAN, INTEGER and SET, and those that come with the version
-  abbrev pub ScalarRow : ℕ → Type 0
-  ScalarRow k = k < scalar_rows ok.questions.types.version
-
-  pub early : (k : ℕ) → k < 3 → ScalarRow k
-  early k h = omega (arith, three_rows ok.questions.types.version)
-
   -- a scalar kind is the row of its type
-  pub kind_row : {k : ℕ} → ScalarRow k → kind_in g.types k ≡ k
+  pub kind_row : {k : ℕ} → Scalar k → kind_in g.types k ≡ k
   kind_row {k} scalar =
+      let low = scalar_below scalar in
       let most = ok.scalars in
-      scalar_row g.types g.fields ok.questions.types k (omega arith) scalar
+      let three = three_rows ok.questions.types.version in
+      scalar_row g.types g.fields ok.questions.types k (omega arith) (omega arith)
 
   -- what has one is a single cell
   pub kind_scalar : (x : ℕ) → Scalar (kind_in g.types x) → is_single g.types x ≡ true
   kind_scalar x scalar = let low = scalar_below scalar in kind_single g.types x (λ e. absurd (omega arith))
 
-  pub row_single : {k : ℕ} → ScalarRow k → is_single g.types k ≡ true
-  row_single {k} scalar =
-      kind_single g.types k
-      (λ e. absurd (omega (arith, kind_row scalar, few_rows ok.questions.types.version)))
+  pub row_single : {k : ℕ} → Scalar k → is_single g.types k ≡ true
+  row_single {k} scalar = kind_scalar k (rw (kind_row scalar) scalar)
 
   pub single_values : (x : ℕ) → is_single g.types x ≡ true → values_of g x ≡ any_value (kind_in g.types x) ∷ []
   unfolding values_of
@@ -431,7 +422,7 @@ module _ (g : Program)
   by child kind row = meaning_by tagged g base top cells child kind row
 
   expression_ok : (r x : ℕ) {answer : Answer} → (is_designator g.nodes r ≡ true → ⊥)
-      → ((row_at g.nodes r).kind ≡ 8 → ⊥) → ScalarRow g ok x → Gives x answer
+      → ((row_at g.nodes r).kind ≡ 8 → ⊥) → Scalar x → Gives x answer
       → MeaningOk g frames r x (record { place = Fs.Stuck; value = answer })
   expression_ok r x plain other scalar gives =
       record { place = λ d. no d; value = λ h. rw (kind_row g ok scalar) gives }
@@ -453,9 +444,6 @@ module _ (g : Program)
     abbrev row : Row
     row = row_at g.nodes r
 
-    abbrev version : ℕ
-    version = ok.questions.types.version
-
     abbrev types_of : ℕ → KindAnswer
     types_of k = type_of g.types g.fields g.variables g.nodes k
 
@@ -476,16 +464,16 @@ module _ (g : Program)
         → MeaningOk g frames r x (by child row.kind row)
     node_by kind e m = subst (λ (j : ℕ). MeaningOk g frames r x (by child j row)) (sym e) m
 
-    constant_node : row.kind ≡ 0 → ConstantNode version row → MeaningOk g frames r x (by child 0 row)
+    constant_node : row.kind ≡ 0 → ConstantNode row → MeaningOk g frames r x (by child 0 row)
     unfolding meaning_by choose
     constant_node k c =
         let small = row_small g.nodes bytes r in
         let type = constant_type g.types g.fields g.variables g.nodes
         ok.questions.nodes r low typed k in
         let most = c.typed in
-        rw type (expression_ok r row.a (not_constant r k) (λ e. absurd (omega arith)) most
-        (constant_typed row.a row.b row.c (omega (arith, few_rows version))
-        (λ e. let (b, d) = c.boolean e in omega arith) (λ e. let (b, d) = c.char e in omega arith)
+        rw type (expression_ok r row.a (not_constant r k) (λ e. absurd (omega arith))
+        (below_scalar row.a (omega arith))
+        (constant_typed row.a row.b row.c (omega arith) (λ e. let (b, d) = c.boolean e in omega arith)
         small.b small.c))
 
     variable_node_lem : row.kind ≡ 1 → VariableNode g.variables row → MeaningOk g frames r x (by child 1 row)
@@ -517,8 +505,8 @@ module _ (g : Program)
         rw type.element
         (designator_ok r (row_at g.types type.whole).a _
         (element_ok type.whole type.array (whole_place row.a type.whole c.whole type.whole_type mine)
-        (rw (kind_row g ok (early g ok INTEGER (omega arith))) at (child_value row.b INTEGER c.index.low c.index.node.within
-        type.index_type index_own (row_single g ok (early g ok INTEGER (omega arith)))))))
+        (rw (kind_row g ok an_integer) at (child_value row.b INTEGER c.index.low c.index.node.within
+        type.index_type index_own (row_single g ok an_integer)))))
 
     guard_node : row.kind ≡ 4 → GuardNode g.types g.variables row → MeaningOk g frames r x (by child 4 row)
     unfolding meaning_by choose
@@ -539,27 +527,25 @@ module _ (g : Program)
         let scalars = dyadic_scalar row.c _ _ x type.result in
         let left_single = kind_scalar g ok _ scalars.left_scalar in
         let right_single = kind_scalar g ok _ scalars.right_scalar in
-        expression_ok r x (not_designator r (omega arith)) (λ e. absurd (omega arith))
-        (dyadic_row version row.c _ _ x type.result)
+        expression_ok r x (not_designator r (omega arith)) (λ e. absurd (omega arith)) scalars.given_scalar
         (bind_ok (λ left. applied_to row.c left (child row.b).value)
         (child_value row.a type.left c.left.low c.left.node.within type.left_type left_own left_single)
         (λ v e range. applied_typed row.c (rw e type.result) range
         (child_value row.b type.right c.right.low c.right.node.within
         type.right_type right_own right_single)))
 
-    monadic_node_lem : row.kind ≡ 6 → MonadicNode version g.nodes r row → MeaningOk g frames r x (by child 6 row)
+    monadic_node_lem : row.kind ≡ 6 → MonadicNode g.nodes r row → MeaningOk g frames r x (by child 6 row)
     unfolding meaning_by choose
     monadic_node_lem k c =
         let type = monadic_typed g.types g.fields g.variables g.nodes
         ok.questions.nodes r low typed k in
         let mine = monadic_own g.types g.variables g.procedures g.nodes
         ok.questions.nodes procedure r low own k in
-        let scalars = monadic_scalar row.c _ x type.result in
-        expression_ok r x (not_designator r (omega arith)) (λ e. absurd (omega arith))
-        (monadic_row version row.c _ x c.most type.result)
+        let (operand_scalar, given_scalar) = monadic_scalar row.c _ x type.result in
+        expression_ok r x (not_designator r (omega arith)) (λ e. absurd (omega arith)) given_scalar
         (bind_ok (λ operand. monadic_of row.c operand)
         (child_value row.a type.operand c.operand.low c.operand.node.within
-        type.operand_type mine (kind_scalar g ok _ scalars.operand_scalar))
+        type.operand_type mine (kind_scalar g ok _ operand_scalar))
         (λ v e range. operator_typed row.c (rw e type.result) range))
 
     test_node : row.kind ≡ 7 → GuardNode g.types g.variables row → MeaningOk g frames r x (by child 7 row)
@@ -569,8 +555,7 @@ module _ (g : Program)
         let mine = test_own g.types g.variables g.procedures g.nodes
         ok.questions.nodes procedure r low own k in
         rw type.boolean
-        (expression_ok r BOOLEAN (not_designator r (omega arith)) (λ e. absurd (omega arith))
-        (early g ok BOOLEAN (omega arith))
+        (expression_ok r BOOLEAN (not_designator r (omega arith)) (λ e. absurd (omega arith)) a_boolean
         (test_ok row.b (row_at g.variables row.a).a (variable_ok row.a c.variable mine)))
 
     argument_node : row.kind ≡ 8 → ArgumentNode g.nodes r row → MeaningOk g frames r x (by child 8 row)
@@ -591,7 +576,7 @@ module _ (g : Program)
     node_ok : MeaningOk g frames r x (by child row.kind row)
     node_ok = go (ok.node r low)
       where
-        go : NodeRow version g.types g.variables g.nodes r → MeaningOk g frames r x (by child row.kind row)
+        go : NodeRow g.types g.variables g.nodes r → MeaningOk g frames r x (by child row.kind row)
         go (is_constant z k c) = node_by 0 k (constant_node k c)
         go (is_variable z k c) = node_by 1 k (variable_node_lem k c)
         go (is_field z k c) = node_by 2 k (field_node_lem k c)

@@ -7,7 +7,7 @@ use Rattle.semantics.specs.declared.RunResult.{RunResult}
 
 -- An image is a start, and then for each of the six tables a count and so many rows, joined.
 
--- "Byte 0 is the version, 1 or 2. Bytes 1 to 4 give the length of the whole image.": here 1, and below 65,536
+-- "Byte 0 is the version, 1. Bytes 1 to 4 give the length of the whole image.": here below 65,536
 abbrev pub start : ℕ → List ℕ
 start n = 1 ∷ 0 ∷ 0 ∷ n / 256 ∷ n % 256 ∷ []
 

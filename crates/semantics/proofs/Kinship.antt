@@ -11,7 +11,7 @@ use Rattle.image.specs.Rows.{row_at, rows_of}
 use Rattle.image.specs.Faults.{KeptIn}
 use Rattle.image.proofs.Faults.{kept_next}
 use Rattle.shapes.specs.Forms.{is_single}
-use Rattle.shapes.proofs.Singles.{single_base, single_no_record}
+use Rattle.shapes.proofs.Singles.{single_base, single_low}
 use Rattle.shapes.proofs.Accepted.{TypesKept}
 use Rattle.shapes.proofs.ByKind.{base_record}
 use Rattle.relations.specs.declared.FieldAnswer.TheVariants.{Field}
@@ -56,7 +56,7 @@ module _ (t f : List ℕ) (kept : TypesKept t f) where
   -- nor has a single cell's type any extension but itself
   pub extends_single : (r u : ℕ) → is_single t u ≡ true → extends t r u ≡ true → r < rows_of t → r ≡ u
   extends_single r u single e within =
-      extends_other r u e within (λ kind. single_no_record t u single kind)
+      extends_other r u e within (λ kind. let low = single_low t u single in absurd (omega arith))
 
   -- a record's fields are an extension's too, at the same places
   pub extension_field : (r u n : ℕ) {offset x : ℕ} → extends t r u ≡ true → r < rows_of t

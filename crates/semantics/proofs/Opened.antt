@@ -5,18 +5,17 @@ use Rattle.prelude.specs.Parts.{joined, sum}
 use Rattle.prelude.specs.Rec.{below, turns, rec}
 use Rattle.image.specs.Rows.{number_at, word_at, rows_of, row_at}
 use Rattle.image.specs.Faults.{first_from, lowest_fault, rule_up_to, all_from}
-use Rattle.image.specs.Versions.{is_version, has_char, scalar_rows, monadics}
-use Rattle.values.specs.Values.{kind_of, is_integer, is_set, is_char, trap_number, number_of as cell_number, boolean_cell}
-use Rattle.values.specs.Values.{integer_cell, natural_of, set_cell, char_cell, cell_of, signed_of, constant_of, as_boolean}
-use Rattle.values.specs.Values.{as_integer, as_set, as_char, bind}
-use Rattle.kinds.specs.Kinds.{integers_kind, sets_kind, booleans_kind, chars_kind, dyadic_kind, monadic_kind}
+use Rattle.image.specs.Versions.{scalar_rows, monadics}
+use Rattle.values.specs.Values.{kind_of, is_integer, is_set, trap_number, number_of as cell_number, boolean_cell}
+use Rattle.values.specs.Values.{integer_cell, set_cell, cell_of, signed_of, constant_of, as_boolean, as_integer, as_set, bind}
+use Rattle.kinds.specs.Kinds.{integers_kind, sets_kind, booleans_kind, dyadic_kind, monadic_kind}
 use Rattle.integers.specs.Integers.{integer_of, quotient_of, div_of, mod_of, division_of, arithmetic_of}
 use Rattle.sets.specs.Sets.{is_element, contains_of, elements_of, range_of, complement_of}
-use Rattle.operators.specs.Operators.{compare_of, equal_z, integers_of, sets_of, booleans_of, membership_of, chars_of}
-use Rattle.operators.specs.Operators.{dyadic_of, ord_of, chr_of, monadic_of, decides, applied_to}
+use Rattle.operators.specs.Operators.{compare_of, equal_z, integers_of, sets_of, booleans_of, membership_of, dyadic_of}
+use Rattle.operators.specs.Operators.{monadic_of, decides, applied_to}
 use Rattle.shapes.specs.Forms.{form_of, form, base_of, count_of, kind_by, kind_in, is_single, of_base, own_types}
 use Rattle.shapes.specs.Sizes.{size_by, size_of, layout_by, layout_of, fields_by, fields_of, offset_of}
-use Rattle.shapes.specs.Shapes.{used_below, scalar_byte, scalar_kept, array_kept, field_kept, base_kept, record_kept, later_kept}
+use Rattle.shapes.specs.Shapes.{used_below, scalar_kept, array_kept, field_kept, base_kept, record_kept, later_kept}
 use Rattle.shapes.specs.Shapes.{shape_kept, type_kept}
 use Rattle.relations.specs.Extends.{extends_to}
 use Rattle.relations.specs.Fields.{field_of}
@@ -60,12 +59,12 @@ use Rattle.semantics.specs.Running.{result_of, store_after, output_after}
 -- rows and rules
 unfoldable pub rows : Unit {0}
 unfolding choose ◌also◌ joined sum below turns rec number_at rows_of row_at first_from lowest_fault rule_up_to all_from
-    has_char scalar_rows monadics
+    scalar_rows monadics
 rows = tt
 
 -- types: their rules, and their sizes and relations
 unfoldable pub shapes : Unit {0}
-unfolding used_below scalar_byte scalar_kept array_kept field_kept base_kept record_kept later_kept shape_kept type_kept question4
+unfolding used_below scalar_kept array_kept field_kept base_kept record_kept later_kept shape_kept type_kept question4
 shapes = tt
 
 unfoldable pub sizes : Unit {0}
@@ -80,17 +79,17 @@ unfolding is_integer trap_number integer_of quotient_of div_of mod_of division_o
 integers = tt
 
 unfoldable pub operators : Unit {0}
-unfolding is_char natural_of as_boolean as_integer as_set as_char bind bit_of contains_of elements_of complement_of sets_of
-    booleans_of membership_of chars_of dyadic_of ord_of chr_of monadic_of decides applied_to
+unfolding as_boolean as_integer as_set bind bit_of contains_of elements_of complement_of sets_of booleans_of membership_of
+    dyadic_of monadic_of decides applied_to
 operators = tt
 
 unfoldable pub values : Unit {0}
-unfolding kind_of is_set is_char cell_number boolean_cell integer_cell natural_of set_cell char_cell cell_of signed_of constant_of
+unfolding kind_of is_set cell_number boolean_cell integer_cell set_cell cell_of signed_of constant_of
 values = tt
 
 -- the check
 unfoldable pub tables : Unit {0}
-unfolding version_of word_at is_version question1 question2 question3 table_from then_table tables_of are_six six_of tables_in part_of
+unfolding version_of word_at question1 question2 question3 table_from then_table tables_of are_six six_of tables_in part_of
 tables = tt
 
 unfoldable pub bodies : Unit {0}
@@ -113,7 +112,7 @@ unfolding names_of_node rows_from names_of_statement names_from names_in count_i
 names = tt
 
 unfoldable pub typing : Unit {0}
-unfolding integers_kind sets_kind booleans_kind chars_kind dyadic_kind monadic_kind typed variable_node field_type field_node
+unfolding integers_kind sets_kind booleans_kind dyadic_kind monadic_kind typed variable_node field_type field_node
     element_type element_node narrows narrow_node dyadic_node monadic_node type_by type_of has_type question10
 typing = tt
 

@@ -17,21 +17,23 @@ use Rattle.shapes.specs.Forms.{form, kind_in, is_single}
 use Rattle.shapes.specs.Sizes.{size_of}
 use Rattle.relations.specs.Extends.{extends}
 use Rattle.relations.proofs.Extension.{Extends.same, extends_refl}
-use Rattle.values.specs.Values.{BOOLEAN, INTEGER, kind_of, is_integer}
+use Rattle.values.specs.Values.{BOOLEAN, INTEGER, Scalar, Scalar.a_boolean, Scalar.an_integer, kind_of, is_integer}
 use Rattle.values.specs.Values.{InRange, InRange.integer, Gives, Gives.value, Gives.trapped as gives_trap}
 use Rattle.values.specs.declared.Value.{Value}
 use Rattle.values.specs.declared.Value.TheVariants as Vs
 use Rattle.values.specs.declared.Answer.{Answer}
 use Rattle.values.proofs.Cells.{cell_back}
 use Rattle.values.proofs.Cases.{boolean_only, integer_only}
+use Rattle.values.proofs.Scalars.{below_scalar}
 use Rattle.kinds.specs.declared.KindAnswer.TheVariants.{Kind}
+use Rattle.kinds.proofs.Scalars.{dyadic_scalar, monadic_scalar}
 use Rattle.nodes.specs.Nodes.{is_designator}
-use Rattle.nodes.proofs.Accepted.{Plain, constant_is, monadic_is}
+use Rattle.nodes.proofs.Accepted.{Plain, constant_is}
 use Rattle.typing.specs.Typing.{type_of}
 use Rattle.typing.proofs.Accepted.{NodeTyped, NodeTyped.by_constant, NodeTyped.by_variable, NodeTyped.by_field}
 use Rattle.typing.proofs.Accepted.{NodeTyped.by_element, NodeTyped.by_guard, NodeTyped.by_dyadic}
 use Rattle.typing.proofs.Accepted.{NodeTyped.by_monadic, NodeTyped.by_test, NodeTyped.by_argument, typed_node}
-use Rattle.typing.proofs.Accepted.{type_low, dyadic_row, monadic_row}
+use Rattle.typing.proofs.Accepted.{type_low}
 use Rattle.owners.specs.Owners.{own_below}
 use Rattle.statements.specs.Statements.{procedure_at}
 use Rattle.statements.proofs.Bodies.{InBody, end_within, body_only}
@@ -58,8 +60,7 @@ use Rattle.semantics.proofs.Holding.{matched_put, put_below, put_length, part_be
 use Rattle.semantics.proofs.Objects.{values_length}
 use Rattle.semantics.proofs.Kinship.{extends_single, single_extends}
 use Rattle.semantics.proofs.Evaluating.{FoundOk, found_ok, found_trap, Designates, itself, find_ok, eval_ok}
-use Rattle.semantics.proofs.Evaluating.{ScalarRow, early, found_front, found_single, kind_row, row_single}
-use Rattle.semantics.proofs.Evaluating.{designator_yes, mark_there}
+use Rattle.semantics.proofs.Evaluating.{found_front, found_single, kind_row, row_single, designator_yes, mark_there}
 use Rattle.semantics.proofs.Evaluating.{part_top}
 use Rattle.semantics.specs.Demand3.{Unchanged, NextOk, ok_goes, ok_finished, ok_trapped}
 
@@ -145,26 +146,24 @@ module _ (g : Program)
   structured_designator r x plain type structured =
       go (typed_node g.types g.fields g.variables g.nodes ok.questions.nodes r plain.within type)
     where
-      no_single : {C : Type 0} → ScalarRow g ok x → C
+      no_single : {C : Type 0} → Scalar x → C
       no_single scalar = absurd (structured (row_single g ok scalar))
 
       go : NodeTyped g.types g.fields g.variables g.nodes r x → is_designator g.nodes r ≡ true
       go (by_constant k e) =
           let said = ok.questions.nodes in
           let low = (constant_is g.types g.variables g.nodes said r plain.within k).typed in
-          no_single (rw e low)
+          no_single (below_scalar x (omega arith))
       go (by_variable k e) =
           designator_yes (record { within = plain.within; least = omega arith; most = omega arith })
       go (by_field k e) = designator_yes (record { within = plain.within; least = omega arith; most = omega arith })
       go (by_element k e) = designator_yes (record { within = plain.within; least = omega arith; most = omega arith })
       go (by_guard k e) = designator_yes (record { within = plain.within; least = omega arith; most = omega arith })
       go (by_dyadic k e) =
-          no_single (dyadic_row ok.questions.types.version (row_at g.nodes r).c _ _ x e.result)
+          no_single (dyadic_scalar (row_at g.nodes r).c _ _ x e.result).given_scalar
       go (by_monadic k e) =
-          let said = ok.questions.nodes in
-          let most = (monadic_is g.types g.variables g.nodes said r plain.within k).most in
-          no_single (monadic_row ok.questions.types.version (row_at g.nodes r).c _ x most e.result)
-      go (by_test k e) = no_single (rw e.boolean (early g ok BOOLEAN (omega arith)))
+          no_single (monadic_scalar (row_at g.nodes r).c _ x e.result).1
+      go (by_test k e) = no_single (rw e.boolean a_boolean)
       go (by_argument k e) = absurd (plain.plain k)
 
 -- ---- the newest frame is left
@@ -392,8 +391,8 @@ module _ (g : Program)
       let inside = kind_inside 2 kind (omega arith) (omega arith) (omega arith) in
       let known = form.condition.within in
       on_value_ok g s (unchanged g s) _ (given_here row.a BOOLEAN known ruled.type ruled.own
-      (row_single g ok (early g ok BOOLEAN (omega arith))))
-      (λ v k range. boolean_only (NextOk g s) _ v _ (k ∙ kind_row g ok (early g ok BOOLEAN (omega arith))) (λ holds.
+      (row_single g ok a_boolean))
+      (λ v k range. boolean_only (NextOk g s) _ v _ (k ∙ kind_row g ok a_boolean) (λ holds.
       ok_either g s holds (gone_ok (s.at.row + 1) inside)
       (gone_ok row.b (target_inside row.b form.target))))
 
@@ -481,8 +480,8 @@ module _ (g : Program)
       (itself (designator_yes d))) (λ target declared extended object.
       ok_choose g s _
       (λ more. read_ok (put_ok target (Vs.Int (input_at input s.at.read)) extended object
-      (sym (ap (kind_in g.types) declared ∙ kind_row g ok (early g ok INTEGER (omega arith))))
-      (integer (input_range input s.at.read)) (rw declared (row_single g ok (early g ok INTEGER (omega arith)))) inside))
+      (sym (ap (kind_in g.types) declared ∙ kind_row g ok an_integer))
+      (integer (input_range input s.at.read)) (rw declared (row_single g ok an_integer)) inside))
       (λ none. ok_trapped (unchanged g s)))
 
   pub sent_ok : row.kind ≡ 6 → ValueRow g.nodes row → NextOk g s (sent tagged g row s)
@@ -492,8 +491,8 @@ module _ (g : Program)
       let ruled = rules ok.questions.rules s.at.row row_within kind in
       let inside = kind_inside 6 kind (omega arith) (omega arith) (omega arith) in
       on_value_ok g s (unchanged g s) _ (given_here row.a INTEGER form.value.within ruled.type ruled.own
-      (row_single g ok (early g ok INTEGER (omega arith))))
-      (λ v k range. integer_only (NextOk g s) _ v _ (k ∙ kind_row g ok (early g ok INTEGER (omega arith))) (λ z.
+      (row_single g ok an_integer))
+      (λ v k range. integer_only (NextOk g s) _ v _ (k ∙ kind_row g ok an_integer) (λ z.
       ok_choose g s _
       (λ more. ok_goes (sound_with (s.at.row + 1) s.at.read (s.at.written + 1) s.cells
       _ inside sound.holding refl) refl (length-set s.output _ z))
@@ -505,8 +504,8 @@ module _ (g : Program)
       let rules = halt_ruled g.types g.fields g.variables g.procedures g.nodes g.statements in
       let ruled = (rules ok.questions.rules s.at.row row_within kind).value in
       on_value_ok g s (unchanged g s) _ (given_here row.a INTEGER form.value.within ruled.type ruled.own
-      (row_single g ok (early g ok INTEGER (omega arith))))
-      (λ v k range. integer_only (NextOk g s) _ v _ (k ∙ kind_row g ok (early g ok INTEGER (omega arith))) (λ z. ok_trapped (unchanged g s)))
+      (row_single g ok an_integer))
+      (λ v k range. integer_only (NextOk g s) _ v _ (k ∙ kind_row g ok an_integer) (λ z. ok_trapped (unchanged g s)))
 
   -- ---- by the kind
 

@@ -8,7 +8,7 @@ use Rattle.values.specs.declared.Answer.TheVariants as As
 use Rattle.semantics.specs.declared.Mark.{Mark}
 use Rattle.semantics.specs.declared.Mark.TheVariants.{Number, Nothing}
 
--- "A cell is a kind (BOOLEAN, INTEGER, SET, CHAR, link, address, type)": the lowest are the scalar kinds
+-- "A cell is a kind (BOOLEAN, INTEGER, SET, link, address, type)": the lowest are the scalar kinds
 abbrev pub LINK : ℕ
 LINK = 5
 

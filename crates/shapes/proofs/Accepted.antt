@@ -19,11 +19,11 @@ use Rattle.image.specs.Versions.{scalar_rows}
 use Rattle.image.proofs.Faults.{all_each}
 use Rattle.image.proofs.Versions.{few_rows}
 use Rattle.shapes.specs.Forms.{Form, Form.scalar, Form.array, Form.record_of, form_of, form}
-use Rattle.shapes.specs.Forms.{base_of, count_of, NO_KIND, kind_by, of_base, own_types}
+use Rattle.shapes.specs.Forms.{base_of, count_of, kind_by, of_base, own_types}
 use Rattle.shapes.specs.Sizes.{size_by, size_of, layout_by, layout_of, fields_by, fields_of}
-use Rattle.shapes.specs.Shapes.{used_below, scalar_byte, scalar_kept, array_kept, field_kept, base_kept, record_kept}
-use Rattle.shapes.specs.Shapes.{later_kept, shape_kept, type_kept}
-use Rattle.shapes.proofs.Rows.{form_scalar, form_array, form_record, form_char, of_row, by_bases, own_each}
+use Rattle.shapes.specs.Shapes.{used_below, scalar_kept, array_kept, field_kept, base_kept, record_kept, later_kept}
+use Rattle.shapes.specs.Shapes.{shape_kept, type_kept}
+use Rattle.shapes.proofs.Rows.{form_scalar, form_array, form_record, of_row, by_bases, own_each}
 
 -- ---- a row
 
@@ -52,20 +52,11 @@ unfolding base_kept
 based t r zero e = no_base
 based t r (suc b) e = let (l, k) = also_true _ _ e in on_base (ltb-true b r l) (eqb-true _ _ k)
 
-scalar_form : (r : ℕ) (row : Row) → r < 4 → scalar_kept r row ≡ true → form_of row ≡ scalar r
-unfolding scalar_kept scalar_byte
-scalar_form r row h e = go (dec_lt r 3)
-  where
-    is : row.kind ≡ scalar_byte r
-    is = eqb-true _ _ (also_true _ _ e).0
-
-    go : Dec (r < 3) → form_of row ≡ scalar r
-    go (yes l) =
-        let kind : row.kind ≡ r = is ∙ choose_yes _ r 5 (lt-ltb r 3 l) in
-        form_scalar row (omega arith) ∙ ap scalar kind
-    go (no l) =
-        let last : r ≡ 3 = omega arith in
-        form_char row (is ∙ choose_no _ r 5 (le-ltb r 3 (omega arith))) ∙ ap scalar (sym last)
+scalar_form : (r : ℕ) (row : Row) → r < 3 → scalar_kept r row ≡ true → form_of row ≡ scalar r
+unfolding scalar_kept
+scalar_form r row h e =
+    let kind : row.kind ≡ r = eqb-true _ _ (also_true _ _ e).0 in
+    form_scalar row (omega arith) ∙ ap scalar kind
 
 array_shape : (t f : List ℕ) (used r : ℕ) (row : Row) → row.kind ≡ 3 → array_kept r row ≡ true
     → Shape t f used r (form_of row)
@@ -98,13 +89,13 @@ later_shape t f used r row e =
     (choose_cases (eqb row.kind 4) a.1))
     (choose_cases (eqb row.kind 3) e)
 
-later_kind : (t f : List ℕ) (used r : ℕ) (row : Row) → later_kept t f used r row ≡ true → kind_by (form_of row) ≡ NO_KIND
-unfolding later_kept kind_by
-later_kind t f used r row e =
+later_high : (t f : List ℕ) (used r : ℕ) (row : Row) → later_kept t f used r row ≡ true → 3 ≤ row.kind
+unfolding later_kept
+later_high t f used r row e =
     ⊎_elim
-    (λ a. rw (form_array row (eqb-true _ _ a.0)))
+    (λ a. let kind = eqb-true row.kind 3 a.0 in omega arith)
     (λ a. ⊎_elim
-    (λ b. rw (form_record row (eqb-true _ _ b.0)))
+    (λ b. let kind = eqb-true row.kind 4 b.0 in omega arith)
     (λ b. clash (sym b.1))
     (choose_cases (eqb row.kind 4) a.1))
     (choose_cases (eqb row.kind 3) e)
@@ -117,16 +108,16 @@ module _ (version : ℕ) (t f : List ℕ) (used r : ℕ) (row : Row) (e : shape_
       let kept = sym (choose_yes _ _ _ (lt-ltb r (scalar_rows version) h)) ∙ (also_true _ _ e).1 in
       scalar_form r row (omega arith) kept
 
-  -- a row among the first is a scalar of its number
+  -- a row among the first is a scalar of its number: "Rows 0, 1, 2 are kinds 0 BOOLEAN, 1 INTEGER, 2 SET."
   pub scalar_shaped : r < scalar_rows version → kind_by (form_of row) ≡ r
   unfolding kind_by
   scalar_shaped h = rw (scalar_first h)
 
   -- "Later rows are kind 3, array (..), or kind 4, record"
-  pub later_shaped : scalar_rows version ≤ r → kind_by (form_of row) ≡ NO_KIND
+  pub later_shaped : scalar_rows version ≤ r → 3 ≤ row.kind
   unfolding shape_kept
   later_shaped h =
-      later_kind t f used r row
+      later_high t f used r row
       (sym (choose_no _ _ _ (le-ltb r (scalar_rows version) h)) ∙ (also_true _ _ e).1)
 
   pub shape_of : Shape t f used r (form_of row)

@@ -11,7 +11,7 @@ use Rattle.prelude.proofs.Each.{Each, Each.none, each_append}
 use Rattle.prelude.proofs.Rec.{rec_eq}
 use Rattle.image.specs.Rows.{row_at, rows_of, no_row}
 use Rattle.image.proofs.Bytes.{row_missing}
-use Rattle.shapes.specs.Forms.{Form, Form.no_form, form, base_of, of_base, own_types, kind_in, is_single}
+use Rattle.shapes.specs.Forms.{Form, Form.no_form, form, base_of, of_base, own_types, is_single}
 use Rattle.shapes.specs.Sizes.{size_by, size_of, layout_by, layout_of, fields_by, fields_of}
 use Rattle.shapes.specs.Shapes.{used_below}
 use Rattle.shapes.proofs.Rows.{form_none, no_record, row_form, array_form, record_form, of_no_base}
@@ -19,7 +19,7 @@ use Rattle.shapes.proofs.Rows.{by_base, own_none, own_each}
 use Rattle.shapes.proofs.Accepted.{Shape, IsArray, IsRecord, TypesKept, array_is, record_is, by_shape}
 use Rattle.shapes.proofs.Accepted.{based_on, made_of, size_is, layout_is}
 use Rattle.shapes.proofs.Accepted.{fields_are, field_low}
-use Rattle.shapes.proofs.Singles.{scalar_kind, char_kind, small_single}
+use Rattle.shapes.proofs.Singles.{low_single}
 
 -- a type that is no row has no fields
 pub missing_fields : (t f : List ℕ) (r : ℕ) → rows_of t ≤ r → fields_of t f r ≡ []
@@ -43,20 +43,14 @@ pub data Sort (t : List ℕ) (r : ℕ) : Type 0 where
 
 module _ (t f : List ℕ) (kept : TypesKept t f) where
   pub sort_of : (r : ℕ) → r < rows_of t → Sort t r
-  unfolding kind_in form
-  sort_of r low = go (dec_lt k 3) (dec_lt 3 k) (dec_lt 4 k) (dec_lt 5 k)
+  sort_of r low = go (dec_lt (row_at t r).kind 3) (dec_lt 3 (row_at t r).kind) (dec_lt 4 (row_at t r).kind)
     where
-      k : ℕ
-      k = (row_at t r).kind
-
-      go : Dec (k < 3) → Dec (3 < k) → Dec (4 < k) → Dec (5 < k) → Sort t r
-      go (yes l) d e f = a_single (small_single t r (omega (arith, scalar_kind (row_at t r) l)))
-      go (no l) (no m) e f = an_array (omega arith)
-      go (no l) (yes m) (no h) f = a_record (omega arith)
-      go (no l) (yes m) (yes h) (no x) =
-          a_single (small_single t r (omega (arith, char_kind (row_at t r) (omega arith))))
-      go (no l) (yes m) (yes h) (yes x) =
-          absurd (no_shape (kept.row r low).shape (sym (row_form t r refl) ∙ form_none (row_at t r) x))
+      go : Dec ((row_at t r).kind < 3) → Dec (3 < (row_at t r).kind) → Dec (4 < (row_at t r).kind) → Sort t r
+      go (yes l) d e = a_single (low_single t r l)
+      go (no l) (no m) e = an_array (omega arith)
+      go (no l) (yes m) (no h) = a_record (omega arith)
+      go (no l) (yes m) (yes h) =
+          absurd (no_shape (kept.row r low).shape (sym (row_form t r refl) ∙ form_none (row_at t r) h))
 
   module _ (r : ℕ) (low : r < rows_of t) where
     -- an array

@@ -14,13 +14,13 @@ use Rattle.prelude.specs.Parts.{joined, sum, Nth, Part}
 use Rattle.prelude.proofs.Parts.{nth_nil, nth_map, nth_replicate, part_joined, joined_replicate, joined_map_append, take_map}
 use Rattle.prelude.proofs.Each.{Each, Each.none, Each.more, each_append, each_repeated, each_joined}
 use Rattle.prelude.proofs.Rec.{rec_rel, rec_ind}
+use Rattle.image.specs.declared.Row.{Row}
 use Rattle.image.specs.Rows.{row_at, rows_of}
-use Rattle.shapes.specs.Forms.{Form, Form.scalar, Form.array, Form.record_of, Form.no_form, form, of_base}
-use Rattle.shapes.specs.Forms.{kind_by, kind_in, is_single, own_types}
+use Rattle.shapes.specs.Forms.{Form, Form.scalar, Form.array, Form.record_of, Form.no_form, form_of, form, of_base}
+use Rattle.shapes.specs.Forms.{own_types}
 use Rattle.shapes.specs.Sizes.{size_by, size_of, layout_by, layout_of, fields_of, offset_of}
 use Rattle.shapes.proofs.Rows.{by_any_form, by_base, by_bases}
 use Rattle.shapes.proofs.Accepted.{Based, TypesKept, based_on}
-use Rattle.shapes.proofs.Singles.{small_single}
 use Rattle.shapes.proofs.ByKind.{array_layout, record_row, record_kinds, record_fields, no_fields}
 
 -- ---- a layout is as long as the size
@@ -62,33 +62,27 @@ layout_length t f r =
     both g g' k low high j (yes h) = low j h
     both g g' k low high j (no h) = let (p, q) = high j (omega arith) in rw (p, q)
 
--- ---- a layout is made of the kinds of the table's single cells
+-- ---- a layout is made of scalar kinds
 
-module _ (P : ℕ → Type 0) (t : List ℕ) (kinds : (r : ℕ) → is_single t r ≡ true → P (kind_in t r)) where
+module _ {P : ℕ → Type 0} (scalars : (k : ℕ) → k < 3 → P k) where
   base_kinds : (layout : ℕ → List ℕ) → ((r : ℕ) → Each P (layout r)) → (a : ℕ) → Each P (of_base [] layout a)
   base_kinds layout h a = by_base (λ l. Each P l) a none (λ b e. h b)
 
-  scalar_row_kind : (r k : ℕ) → k < 4 → form t r ≡ scalar k → P k
-  unfolding kind_in kind_by
-  scalar_row_kind r k low e =
-      let kind : kind_in t r ≡ k = rw e in
-      rw kind at (kinds r (small_single t r (omega arith)))
+  kinds_by : (f : List ℕ) (layout : ℕ → List ℕ) → ((r : ℕ) → Each P (layout r)) → (row : Row)
+      → Each P (layout_by f layout (form_of row))
+  unfolding layout_by
+  kinds_by f layout h row =
+      by_any_form row (λ x. Each P (layout_by f layout x))
+      (λ k low. more (scalars k low) none)
+      (λ e n. each_repeated n (h e))
+      (λ base first count. each_append (base_kinds layout h base) (each_joined layout h (own_types f first count)))
+      none
 
-  kinds_by : (f : List ℕ) (layout : ℕ → List ℕ) → ((r : ℕ) → Each P (layout r)) → (r : ℕ)
-      → Each P (layout_by f layout (form t r))
-  unfolding layout_by form
-  kinds_by f layout h r =
-      by_any_form (row_at t r) (λ x. form t r ≡ x → Each P (layout_by f layout x))
-      (λ k low e. more (scalar_row_kind r k low e) none)
-      (λ m n e. each_repeated n (h m))
-      (λ base first count e. each_append (base_kinds layout h base) (each_joined layout h (own_types f first count)))
-      (λ e. none) refl
-
-  pub layout_kinds : (f : List ℕ) (r : ℕ) → Each P (layout_of t f r)
-  unfolding layout_of
-  layout_kinds f r =
+  pub layout_kinds : (t f : List ℕ) (r : ℕ) → Each P (layout_of t f r)
+  unfolding layout_of form
+  layout_kinds t f r =
       rec_ind [] (λ layout k. layout_by f layout (form t k)) (λ k l. Each P l)
-      (λ k layout low high. kinds_by f layout (λ j. every layout k low high j (dec_lt j k)) k) r
+      (λ k layout low high. kinds_by f layout (λ j. every layout k low high j (dec_lt j k)) (row_at t k)) r
     where
       every : (layout : ℕ → List ℕ) (k : ℕ) → ((j : ℕ) → j < k → Each P (layout j)) → ((j : ℕ) → k ≤ j → layout j ≡ [])
           → (j : ℕ) → Dec (j < k) → Each P (layout j)

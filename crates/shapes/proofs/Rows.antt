@@ -38,47 +38,29 @@ module _ (r : Row) where
   unfolding form_of choose
   form_record h = rw (lt-leb r.kind 2 (omega arith), ne_eqb r.kind 3 (omega arith), eq-eqb r.kind 4 h)
 
-  pub form_char : r.kind ≡ 5 → form_of r ≡ scalar 3
+  pub form_none : 4 < r.kind → form_of r ≡ no_form
   unfolding form_of choose
-  form_char h =
-      rw (
-        lt-leb r.kind 2 (omega arith),
-        ne_eqb r.kind 3 (omega arith),
-        ne_eqb r.kind 4 (omega arith),
-        eq-eqb r.kind 5 h,
-      )
-
-  pub form_none : 5 < r.kind → form_of r ≡ no_form
-  unfolding form_of choose
-  form_none h =
-      rw (
-        lt-leb r.kind 2 (omega arith),
-        ne_eqb r.kind 3 (omega arith),
-        ne_eqb r.kind 4 (omega arith),
-        ne_eqb r.kind 5 (omega arith),
-      )
+  form_none h = rw (lt-leb r.kind 2 (omega arith), ne_eqb r.kind 3 (omega arith), ne_eqb r.kind 4 (omega arith))
 
   -- what holds of every form holds of a row's
-  pub by_any_form : (P : Form → Type 0) → ((k : ℕ) → k < 4 → P (scalar k)) → ((e n : ℕ) → P (array e n))
+  pub by_any_form : (P : Form → Type 0) → ((k : ℕ) → k < 3 → P (scalar k)) → ((e n : ℕ) → P (array e n))
       → ((base first count : ℕ) → P (record_of base first count)) → P no_form → P (form_of r)
-  by_any_form P s a c n = go (dec_lt r.kind 3) (dec_lt 3 r.kind) (dec_lt 4 r.kind) (dec_lt 5 r.kind)
+  by_any_form P s a c n = go (dec_lt r.kind 3) (dec_lt 3 r.kind) (dec_lt 4 r.kind)
     where
-      go : Dec (r.kind < 3) → Dec (3 < r.kind) → Dec (4 < r.kind) → Dec (5 < r.kind) → P (form_of r)
-      go (yes l) d e f = rw (form_scalar l) (s r.kind (omega arith))
-      go (no l) (no m) e f = rw (form_array (omega arith)) (a r.a r.b)
-      go (no l) (yes m) (no h) f = rw (form_record (omega arith)) (c r.a r.b r.c)
-      go (no l) (yes m) (yes h) (no x) = rw (form_char (omega arith)) (s 3 (omega arith))
-      go (no l) (yes m) (yes h) (yes x) = rw (form_none x) n
+      go : Dec (r.kind < 3) → Dec (3 < r.kind) → Dec (4 < r.kind) → P (form_of r)
+      go (yes l) d e = rw (form_scalar l) (s r.kind l)
+      go (no l) (no m) e = rw (form_array (omega arith)) (a r.a r.b)
+      go (no l) (yes m) (no h) = rw (form_record (omega arith)) (c r.a r.b r.c)
+      go (no l) (yes m) (yes h) = rw (form_none h) n
 
   -- what holds of every other form holds of a row that is no record
   pub by_form : (P : Form → Type 0) → ((k : ℕ) → P (scalar k)) → ((e n : ℕ) → P (array e n)) → P no_form → (r.kind ≡ 4 → ⊥) → P (form_of r)
-  by_form P s a n h = go (dec_lt r.kind 3) (dec_lt 4 r.kind) (dec_lt 5 r.kind)
+  by_form P s a n h = go (dec_lt r.kind 3) (dec_lt 4 r.kind)
     where
-      go : Dec (r.kind < 3) → Dec (4 < r.kind) → Dec (5 < r.kind) → P (form_of r)
-      go (yes l) d e = rw (form_scalar l) (s r.kind)
-      go (no l) (no m) e = rw (form_array (omega arith)) (a r.a r.b)
-      go (no l) (yes m) (no x) = rw (form_char (omega arith)) (s 3)
-      go (no l) (yes m) (yes x) = rw (form_none x) n
+      go : Dec (r.kind < 3) → Dec (4 < r.kind) → P (form_of r)
+      go (yes l) d = rw (form_scalar l) (s r.kind)
+      go (no l) (yes m) = rw (form_none m) n
+      go (no l) (no m) = rw (form_array (omega arith)) (a r.a r.b)
 
   -- it has no base and no fields
   pub no_record : (r.kind ≡ 4 → ⊥) → (base_of (form_of r) ≡ 0) × (count_of (form_of r) ≡ 0)

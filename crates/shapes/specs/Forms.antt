@@ -4,9 +4,8 @@ use Rattle.prelude.specs.Choice.{choose}
 use Rattle.image.specs.declared.Row.{Row}
 use Rattle.image.specs.Rows.{row_at}
 
--- "Rows 0, 1, 2 are kinds 0 BOOLEAN, 1 INTEGER, 2 SET. In version 2, type row 3 is kind 5, CHAR, one cell, 0 to 255.
--- Later rows are kind 3, array (a element type, b length 1 to 4,096), or kind 4, record (a is 0 or base row plus 1, b
--- first own field row, c own field count)."; a scalar has its row's number, and so CHAR 3
+-- "Rows 0, 1, 2 are kinds 0 BOOLEAN, 1 INTEGER, 2 SET. Later rows are kind 3, array (a element type, b length 1 to 4,096),
+-- or kind 4, record (a is 0 or base row plus 1, b first own field row, c own field count)."
 pub data Form : Type 0 where
   scalar : ℕ → Form
   array : ℕ → ℕ → Form
@@ -17,8 +16,7 @@ unfoldable pub form_of : Row → Form
 form_of r =
     choose (leb r.kind 2) (scalar r.kind)
     (choose (eqb r.kind 3) (array r.a r.b)
-    (choose (eqb r.kind 4) (record_of r.a r.b r.c)
-    (choose (eqb r.kind 5) (scalar 3) no_form)))
+    (choose (eqb r.kind 4) (record_of r.a r.b r.c) no_form))
 
 -- the form of type row r of the table t
 unfoldable pub form : List ℕ → ℕ → Form

@@ -13,14 +13,9 @@ unfoldable pub used_below : List ℕ → ℕ → ℕ
 used_below t zero = 0
 used_below t (suc r) = used_below t r + count_of (form t r)
 
--- "Rows 0, 1, 2 are kinds 0 BOOLEAN, 1 INTEGER, 2 SET. In version 2, type row 3 is kind 5, CHAR": the kind of scalar
--- row r
-unfoldable pub scalar_byte : ℕ → ℕ
-scalar_byte r = choose (ltb r 3) r 5
-
--- "A number without a use below is 0."
+-- "Rows 0, 1, 2 are kinds 0 BOOLEAN, 1 INTEGER, 2 SET." "A number without a use below is 0."
 unfoldable pub scalar_kept : ℕ → Row → Bool
-scalar_kept r row = eqb row.kind (scalar_byte r) also eqb row.a 0 also eqb row.b 0 also eqb row.c 0
+scalar_kept r row = eqb row.kind r also eqb row.a 0 also eqb row.b 0 also eqb row.c 0
 
 -- "array (a element type, b length 1 to 4,096)"; "Base, element and field types stand in lower rows"
 unfoldable pub array_kept : ℕ → Row → Bool

@@ -3,17 +3,10 @@ ghost use Rattle.std.specs.Prelude.{◌≡◌, ◌+◌, ◌≤◌, ◌<◌};
 ghost use Rattle.image.specs.Faults.{all_from};
 ghost use Rattle.image.specs.Rows.{rows_of};
 ghost use Rattle.shapes.specs.Forms.{form_of, base_of, count_of, kind_by, kind_in};
-ghost use Rattle.shapes.specs.Shapes.{scalar_byte, scalar_kept, array_kept, field_kept, base_kept, record_kept};
-ghost use Rattle.shapes.specs.Shapes.{later_kept, shape_kept};
+ghost use Rattle.shapes.specs.Shapes.{scalar_kept, array_kept, field_kept, base_kept, record_kept, later_kept};
+ghost use Rattle.shapes.specs.Shapes.{shape_kept};
 
 use image::Row;
-
-// The kind that the scalar type in row r has in its row.
-fn scalar_byte(r: usize) -> usize
-    ensures { result ≡ scalar_byte r }
-{
-    if r < 3 { r } else { 5 }
-}
 
 fn scalar_kept(r: usize, row: Row) -> bool
     ensures { result ≡ scalar_kept r row }
@@ -22,7 +15,7 @@ fn scalar_kept(r: usize, row: Row) -> bool
     let a = row.a;
     let b = row.b;
     let c = row.c;
-    if kind as usize != scalar_byte(r) {
+    if kind as usize != r {
         return false;
     }
     if a != 0 {
@@ -171,18 +164,14 @@ pub fn base_of(row: Row) -> u16
     if kind == 4 { a } else { 0 }
 }
 
-// No kind of value.
+// The kind of a type row whose objects are single cells; 255 of any other.
 pub const NO_KIND: u16 = 255;
 
-// The kind of value of a type row whose objects are single cells.
 pub fn kind_of(row: Row) -> u16
     ensures { result ≡ kind_by (form_of row) }
 {
     let kind = row.kind;
-    if kind < 3 {
-        return kind as u16;
-    }
-    if kind == 5 { 3 } else { NO_KIND }
+    if kind < 3 { kind as u16 } else { NO_KIND }
 }
 
 // That of type row r.

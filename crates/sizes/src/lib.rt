@@ -116,7 +116,6 @@ pub fn type_size(f: &[u8], plan: &[u32], row: Row) -> usize
             let own = own_size(f, plan, b as usize, c);
             (base as usize) + own
         }
-        5 => 1,
         _ => 0,
     }
 }

@@ -125,12 +125,12 @@ module _ {s : State ℤ} {p : Passing} {r : Step} where
 
 module _ {s : State ℤ} where
   -- a value that is no INTEGER
-  pub shows_no_integer : (v : Value) (next : ℤ → Next ℤ) → OneOf (0 ∷ 2 ∷ 3 ∷ []) (tag_of value_type v)
+  pub shows_no_integer : (v : Value) (next : ℤ → Next ℤ) → OneOf (0 ∷ 2 ∷ []) (tag_of value_type v)
       → Shows s (as_integer (stuck s) v next) Steps.Stuck s.cells s.output
   shows_no_integer v next t = shows_by (no_integer _ v next t) (shows_stuck refl refl)
 
   -- no BOOLEAN
-  pub shows_no_boolean : (v : Value) (next : Bool → Next ℤ) → OneOf (1 ∷ 2 ∷ 3 ∷ []) (tag_of value_type v)
+  pub shows_no_boolean : (v : Value) (next : Bool → Next ℤ) → OneOf (1 ∷ 2 ∷ []) (tag_of value_type v)
       → Shows s (as_boolean (stuck s) v next) Steps.Stuck s.cells s.output
   shows_no_boolean v next t = shows_by (no_boolean _ v next t) (shows_stuck refl refl)
 

@@ -1,20 +1,18 @@
 -- What question 4 says of an accepted table.
-use mathlib.Core.Path.{◌≡◌, ap, ◌∙◌}
+use mathlib.Core.Path.{◌≡◌}
 use mathlib.Core.List.{List}
 use mathlib.Core.Bool.{true}
 use Prim.Native.Nat.{ℕ, ◌≤◌, ◌<◌}
 use native.Mathlib.Omega.{arith}
-use native.Mathlib.Decide.{dec_lt}
 use borrow.Author.Tests.{eqb-true}
 use Rattle.prelude.proofs.Choice.{also_true}
 use Rattle.image.specs.Rows.{row_at, rows_of}
 use Rattle.image.specs.Versions.{scalar_rows}
 use Rattle.image.proofs.Faults.{up_to_kept}
-use Rattle.image.proofs.Versions.{first_version}
 use Rattle.shapes.specs.Forms.{form, NO_KIND, kind_in}
 use Rattle.shapes.specs.Shapes.{used_below, shape_kept, type_kept}
 use Rattle.shapes.proofs.Accepted.{TypesKept, row_kept, scalar_shaped, later_shaped}
-use Rattle.shapes.proofs.Singles.{kind_single, single_there}
+use Rattle.shapes.proofs.Singles.{no_scalar}
 use Rattle.types.specs.Question.{question4, TypesAccepted}
 
 -- a table that question 4 accepts
@@ -34,7 +32,7 @@ module _ (t f : List ℕ) (accepted : TypesAccepted t f) (r : ℕ) (low : r < ro
       let (kept, all) = up_to_kept (type_kept accepted.version t f) (rows_of t) _ accepted.passes in
       (also_true _ _ (kept.each r (omega arith) low)).0
 
-  -- "Rows 0, 1, 2 are kinds 0 BOOLEAN, 1 INTEGER, 2 SET. In version 2, type row 3 is kind 5, CHAR"
+  -- "Rows 0, 1, 2 are kinds 0 BOOLEAN, 1 INTEGER, 2 SET."
   pub scalar_row : r < scalar_rows accepted.version → kind_in t r ≡ r
   unfolding kind_in form
   scalar_row scalar = scalar_shaped accepted.version t f (used_below t r) r (row_at t r) row_shaped scalar
@@ -42,18 +40,5 @@ module _ (t f : List ℕ) (accepted : TypesAccepted t f) (r : ℕ) (low : r < ro
   -- and no later row is a single cell's
   pub later_row : scalar_rows accepted.version ≤ r → kind_in t r ≡ NO_KIND
   unfolding kind_in form
-  later_row later = later_shaped accepted.version t f (used_below t r) r (row_at t r) row_shaped later
-
--- no type of a version 1 image is CHAR
-pub chars_only_2 : (t f : List ℕ) (accepted : TypesAccepted t f) → accepted.version ≡ 1 → (r : ℕ) → kind_in t r ≡ 3 → ⊥
-chars_only_2 t f accepted first r char = go (dec_lt r 3)
-  where
-    three : scalar_rows accepted.version ≡ 3
-    three = ap scalar_rows first ∙ first_version.0
-
-    low : r < rows_of t
-    low = single_there t r (kind_single t r (λ e. absurd (omega arith)))
-
-    go : Dec (r < 3) → ⊥
-    go (yes h) = absurd (omega (arith, scalar_row t f accepted r low (omega (arith, three))))
-    go (no h) = absurd (omega (arith, later_row t f accepted r low (omega (arith, three))))
+  later_row later =
+      no_scalar (row_at t r) (later_shaped accepted.version t f (used_below t r) r (row_at t r) row_shaped later)

@@ -13,13 +13,11 @@ use Rattle.prelude.proofs.Rec.{below_low, rec_eq}
 use Rattle.image.specs.declared.Row.{Row}
 use Rattle.image.specs.declared.Verdict.TheVariants.{Kept}
 use Rattle.image.specs.Rows.{row_at, rows_of}
-use Rattle.image.specs.Versions.{scalar_rows, monadics}
 use Rattle.image.proofs.Faults.{verdict_kept}
-use Rattle.image.proofs.Versions.{three_rows, char_rows}
 use Rattle.values.specs.Values.{BOOLEAN, INTEGER}
 use Rattle.values.proofs.Scalars.{scalar_below}
 use Rattle.kinds.specs.Kinds.{dyadic_kind, monadic_kind}
-use Rattle.kinds.proofs.Scalars.{Operand, dyadic_scalar, monadic_scalar}
+use Rattle.kinds.proofs.Scalars.{dyadic_scalar, monadic_scalar}
 use Rattle.shapes.specs.Forms.{kind_in}
 use Rattle.kinds.specs.declared.KindAnswer.{KindAnswer}
 use Rattle.kinds.specs.declared.KindAnswer.TheVariants.{Untyped, Kind}
@@ -30,8 +28,7 @@ use Rattle.relations.specs.Fields.{field_of}
 use Rattle.nodes.proofs.Accepted.{NodeRow, NodeRow.is_constant, NodeRow.is_variable, NodeRow.is_field}
 use Rattle.nodes.proofs.Accepted.{NodeRow.is_element_lem, NodeRow.is_guard, NodeRow.is_dyadic, NodeRow.is_monadic}
 use Rattle.nodes.proofs.Accepted.{NodeRow.is_test, NodeRow.is_argument_lem, NodesAccepted}
-use Rattle.nodes.proofs.Accepted.{nodes_kept, constant_is, variable_is, field_is, element_is, guard_is, monadic_is}
-use Rattle.nodes.proofs.Accepted.{argument_is}
+use Rattle.nodes.proofs.Accepted.{nodes_kept, constant_is, variable_is, field_is, element_is, guard_is, argument_is}
 use Rattle.types.specs.Question.{TypesAccepted}
 use Rattle.types.proofs.Accepted.{types_kept}
 use Rattle.shapes.proofs.Accepted.{TypesKept}
@@ -148,8 +145,8 @@ narrow_there t v row given e =
 
 -- ---- a node's type from its children's, which stand in lower rows
 
-module _ {version : ℕ} (t f v n : List ℕ) (r : ℕ) (g h : ℕ → KindAnswer) (same : (k : ℕ) → k < r → g k ≡ h k) where
-  type_agree : NodeRow version t v n r
+module _ (t f v n : List ℕ) (r : ℕ) (g h : ℕ → KindAnswer) (same : (k : ℕ) → k < r → g k ≡ h k) where
+  type_agree : NodeRow t v n r
       → type_by t f v g (row_at n r).kind (row_at n r) ≡ type_by t f v h (row_at n r).kind (row_at n r)
   unfolding type_by choose field_node element_node dyadic_node monadic_node
   type_agree (is_constant z k c) = rw k
@@ -230,7 +227,7 @@ module _ {version : ℕ} (t f v n : List ℕ) (kept : NodesAccepted version t v 
     pub typed_node : NodeTyped t f v n r x
     typed_node = go (nodes_kept t v n kept r h)
       where
-        go : NodeRow version t v n r → NodeTyped t f v n r x
+        go : NodeRow t v n r → NodeTyped t f v n r x
         go (is_constant z k c) = by_constant k (constant_typed k)
         go (is_variable z k c) = by_variable k (variable_typed k)
         go (is_field z k c) = by_field k (field_typed k)
@@ -257,25 +254,7 @@ node_typed t f v n formed e r h =
 
 -- ---- a node's type is a type row
 
--- the kind that an operator of the version gives is the row of a scalar that the version has
-module _ (version : ℕ) where
-  pub dyadic_row : (op left right x : ℕ) → dyadic_kind op left right ≡ Kind x → x < scalar_rows version
-  dyadic_row op left right x e =
-      let early = (dyadic_scalar op left right x e).given_early in
-      omega (arith, three_rows version)
-
-  pub monadic_row : (op operand x : ℕ) → op ≤ monadics version → monadic_kind op operand ≡ Kind x
-      → x < scalar_rows version
-  monadic_row op operand x most e = go (dec_lt 2 op)
-    where
-      given : Operand op operand x
-      given = monadic_scalar op operand x e
-
-      go : Dec (2 < op) → x < scalar_rows version
-      go (yes h) = omega (arith, scalar_below given.given_scalar, char_rows version (omega arith))
-      go (no h) = omega (arith, given.given_early (omega arith), three_rows version)
-
-module _ {version : ℕ} (t f v n : List ℕ) (types : TypesKept t f) (scalars : scalar_rows version ≤ rows_of t)
+module _ {version : ℕ} (t f v n : List ℕ) (types : TypesKept t f) (scalars : 3 ≤ rows_of t)
     (variables : question5 t v ≡ Kept) (nodes : NodesAccepted version t v n) where
   low_node : (r x : ℕ) → r < rows_of n
       → ((k : ℕ) → k < r → (y : ℕ) → type_of t f v n k ≡ Kind y → y < rows_of t)
@@ -294,12 +273,12 @@ module _ {version : ℕ} (t f v n : List ℕ) (types : TypesKept t f) (scalars :
       rw e.element (element_row t f types e.whole whole e.array)
   low_node r x h ih (by_guard k e) = rw e.guarded (guard_is t v n nodes r h k).typed
   low_node r x h ih (by_dyadic k e) =
-      let low = dyadic_row version (row_at n r).c _ _ x e.result in
+      let low = scalar_below (dyadic_scalar (row_at n r).c _ _ x e.result).given_scalar in
       omega arith
   low_node r x h ih (by_monadic k e) =
-      let low = monadic_row version (row_at n r).c _ x (monadic_is t v n nodes r h k).most e.result in
+      let low = scalar_below (monadic_scalar (row_at n r).c _ x e.result).1 in
       omega arith
-  low_node r x h ih (by_test k e) = let zero_row = e.boolean in omega (arith, three_rows version)
+  low_node r x h ih (by_test k e) = let zero_row = e.boolean in omega arith
   low_node r x h ih (by_argument k e) = ih (row_at n r).a (argument_is t v n nodes r h k).holds.low x e
 
   low_by : (m r : ℕ) → r < m → (x : ℕ) → type_of t f v n r ≡ Kind x → x < rows_of t
@@ -310,7 +289,7 @@ module _ {version : ℕ} (t f v n : List ℕ) (types : TypesKept t f) (scalars :
       go (yes h) ih = low_node r x h ih (typed_node t f v n nodes r h type)
       go (no h) ih = no_kind (sym (type_missing t f v n r (omega arith)) ∙ type)
 
-pub type_low : {version : ℕ} (t f v n : List ℕ) → TypesAccepted t f → scalar_rows version ≤ rows_of t → question5 t v ≡ Kept
+pub type_low : {version : ℕ} (t f v n : List ℕ) → TypesAccepted t f → 3 ≤ rows_of t → question5 t v ≡ Kept
     → NodesAccepted version t v n → (r x : ℕ) → type_of t f v n r ≡ Kind x → x < rows_of t
 type_low t f v n types scalars variables nodes r x =
     low_by t f v n (types_kept t f types) scalars variables nodes (suc r) r (omega arith) x

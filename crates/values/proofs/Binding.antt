@@ -16,10 +16,6 @@ use Rattle.values.specs.contracts.Answer.{the_type as answer_type}
 pub neither : {a b c : ℕ} {X : Type 0} → (a ≡ b → ⊥) → (a ≡ c → ⊥) → OneOf (b ∷ c ∷ []) a → X
 neither p q t = absurd (⊎_elim p q t)
 
--- nor one that is none of three
-pub none_of_three : {a b c d : ℕ} {X : Type 0} → (a ≡ b → ⊥) → (a ≡ c → ⊥) → (a ≡ d → ⊥) → OneOf (b ∷ c ∷ d ∷ []) a → X
-none_of_three p q r t = absurd (⊎_elim p (λ o. neither q r o) t)
-
 -- an answer with a value goes on with it, and another is handed on
 pub bind_value : {a : Answer} {v : Value} → a ≡ As.Val v → (next : Value → Answer) → bind a next ≡ next v
 unfolding bind

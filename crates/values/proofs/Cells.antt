@@ -1,6 +1,6 @@
 -- What a cell holds: a written value reads back, and what is read was there.
 use mathlib.Core.Path.{◌≡◌, refl, sym, ap}
-use mathlib.Core.Bool.{Bool, true, false}
+use mathlib.Core.Bool.{true, false}
 use mathlib.Core.Logic.{inl, inr}
 use Prim.Native.Nat.{ℕ}
 use native.Mathlib.Omega.{arith}
@@ -9,11 +9,10 @@ use lib.Dec.{eqb}
 use lib.IntN.{ℤ, pos, negsuc}
 use Rattle.prelude.specs.Choice.{choose}
 use Rattle.prelude.proofs.Choice.{choose_cases}
-use Rattle.values.specs.Values.{BOOLEAN, INTEGER, SET, CHAR, kind_of, number_of, InRange, is_integer, is_set, is_char}
-use Rattle.values.specs.Values.{boolean_cell, integer_cell, natural_of, set_cell, char_cell, cell_of}
-use Rattle.values.specs.Values.InRange.{boolean, integer, set, char}
+use Rattle.values.specs.Values.{BOOLEAN, INTEGER, SET, kind_of, number_of, InRange, is_integer, is_set, boolean_cell}
+use Rattle.values.specs.Values.{integer_cell, set_cell, cell_of}
+use Rattle.values.specs.Values.InRange.{boolean, integer, set}
 use Rattle.values.specs.declared.Value.{Value}
-use Rattle.values.specs.declared.Value.TheVariants as Vs
 use Rattle.values.specs.declared.Answer.TheVariants as As
 
 -- a value of kind k, in its range, for which a cell holds z
@@ -53,24 +52,14 @@ held_integer z e =
       | inr h ↦ no_value h.1
     ]
 
--- a number that is the value: SET and CHAR
-held_natural : {k : ℕ} (fits : ℕ → Bool) (make : ℕ → Value)
-    → ((n : ℕ) → fits n ≡ true → Held k (pos n) (make n))
-    → (z : ℤ) {v : Value} → natural_of As.Stuck fits make z ≡ As.Val v → Held k z v
-unfolding natural_of
-held_natural fits make is (negsuc n) e = no_value e
-held_natural fits make is (pos n) e =
-    elim (choose_cases (fits n) e) [ inl h ↦ held (is n h.0) h.1 | inr h ↦ no_value h.1 ]
-
 held_set : (z : ℤ) {v : Value} → set_cell z ≡ As.Val v → Held SET z v
 unfolding set_cell kind_of number_of
-held_set =
-    held_natural is_set (λ s. Vs.Set s) (λ n fits. record { kind = refl; number = refl; range = set fits })
-
-pub held_char : (z : ℤ) {v : Value} → char_cell z ≡ As.Val v → Held CHAR z v
-unfolding char_cell kind_of number_of
-held_char =
-    held_natural is_char (λ c. Vs.Char c) (λ n fits. record { kind = refl; number = refl; range = char fits })
+held_set (negsuc n) e = no_value e
+held_set (pos n) e =
+    elim (choose_cases (is_set n) e) [
+      | inl h ↦ held (record { kind = refl; number = refl; range = set h.0 }) h.1
+      | inr h ↦ no_value h.1
+    ]
 
 -- what is read was there
 pub cell_held : (k : ℕ) (z : ℤ) {v : Value} → cell_of k z ≡ As.Val v → Held k z v
@@ -84,20 +73,15 @@ cell_held k z e =
             | inr i ↦
                 elim (choose_cases (eqb k SET) i.1) [
                   | inl j ↦ rw (eqb-true k SET j.0) (held_set z j.1)
-                  | inr j ↦
-                      elim (choose_cases (eqb k CHAR) j.1) [
-                        | inl l ↦ rw (eqb-true k CHAR l.0) (held_char z l.1)
-                        | inr l ↦ no_value l.1
-                      ]
+                  | inr j ↦ no_value j.1
                 ]
           ]
     ]
 
 -- a written value reads back
 pub cell_back : {v : Value} → InRange v → cell_of (kind_of v) (number_of v) ≡ As.Val v
-unfolding cell_of kind_of number_of boolean_cell integer_cell natural_of set_cell char_cell choose
+unfolding cell_of kind_of number_of boolean_cell integer_cell set_cell choose
 cell_back (boolean {b = true}) = refl
 cell_back (boolean {b = false}) = refl
 cell_back (integer h) = rw h
 cell_back (set h) = rw h
-cell_back (char h) = rw h

@@ -7,8 +7,8 @@ use lib.IntN.{ℤ}
 use mir.Syntax.{w32}
 use mir.Val.{SFits}
 use Rattle.prelude.specs.Choice.{choose}
-use Rattle.values.specs.Values.{BOOLEAN, INTEGER, SET, CHAR, kind_of, InRange, is_set, is_char, Gives}
-use Rattle.values.specs.Values.InRange.{boolean, integer, set, char}
+use Rattle.values.specs.Values.{BOOLEAN, INTEGER, SET, kind_of, InRange, is_set, Gives}
+use Rattle.values.specs.Values.InRange.{boolean, integer, set}
 use Rattle.values.specs.Values.Gives.{value}
 use Rattle.values.specs.declared.Value.{Value}
 use Rattle.values.specs.declared.Value.TheVariants as Vs
@@ -27,10 +27,6 @@ gives_integer z h = value refl (integer (fits_integer z h))
 pub gives_set : (s : ℕ) → s < 4294967296 → Gives SET (As.Val (Vs.Set s))
 unfolding kind_of is_set
 gives_set s h = value refl (set (lt-ltb s 4294967296 h))
-
-pub gives_char : (c : ℕ) → c < 256 → Gives CHAR (As.Val (Vs.Char c))
-unfolding kind_of is_char
-gives_char c h = value refl (char (lt-ltb c 256 h))
 
 -- one of two answers
 pub gives_one : {k : ℕ} (b : Bool) {x y : Answer} → (b ≡ true → Gives k x) → (b ≡ false → Gives k y)

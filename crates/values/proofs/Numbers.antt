@@ -13,9 +13,8 @@ use mir.Val.{SFits, Fits, to_z, of_z}
 use mir.ValLaws.{to_z-of_z}
 use Rattle.prelude.specs.Choice.{choose}
 use Rattle.prelude.proofs.Choice.{clash}
-use Rattle.values.specs.Values.{is_integer, is_set, is_char, boolean_cell, natural_of}
-use Rattle.values.specs.declared.Value.{Value}
-use Rattle.values.specs.declared.Answer.{Answer}
+use Rattle.values.specs.Values.{is_integer, is_set, boolean_cell, set_cell}
+use Rattle.values.specs.declared.Value.TheVariants as Vs
 use Rattle.values.specs.declared.Answer.TheVariants as As
 
 -- ---- a number in lo to hi, below it, above it
@@ -137,42 +136,21 @@ unfolding boolean_cell choose
 no_boolean (pos n) p q = rw (ne_eqb n 0 p, ne_eqb n 1 q)
 no_boolean (negsuc n) p q = refl
 
--- the numbers from 0 to `most`, and no others, are values of a kind
-pub record UpTo (most : ℕ) (fits : ℕ → Bool) : Type 0 where
-  pub within : (n : ℕ) → n ≤ most → fits n ≡ true
-  pub beyond : (n : ℕ) → most < n → fits n ≡ false
+pub set_neg : (z : ℤ) → lt_z z (pos 0) ≡ true → set_cell z ≡ As.Stuck
+unfolding set_cell
+set_neg (pos n) h = absurd (omega (arith, ltb-true))
+set_neg (negsuc n) h = refl
 
-pub sets_up_to : UpTo 4294967295 is_set
-unfolding is_set
-sets_up_to = record {
-  within = λ n h. lt-ltb n 4294967296 (omega arith);
-  beyond = λ n h. le-ltb n 4294967296 (omega arith);
-}
+pub set_large : (z : ℤ) → lt_z (pos 4294967295) z ≡ true → set_cell z ≡ As.Stuck
+unfolding set_cell is_set choose
+set_large (pos n) h = rw (le-ltb n 4294967296 (omega (arith, ltb-true)))
+set_large (negsuc n) h = refl
 
-pub chars_up_to : UpTo 255 is_char
-unfolding is_char
-chars_up_to = record { within = λ n h. lt-ltb n 256 (omega arith); beyond = λ n h. le-ltb n 256 (omega arith) }
+pub set_is : (z : ℤ) → lt_z z (pos 0) ≡ false → lt_z (pos 4294967295) z ≡ false → set_cell z ≡ As.Val (Vs.Set (nat_abs z))
+unfolding set_cell is_set choose
+set_is (pos n) h k = rw (lt-ltb n 4294967296 (omega (arith, ltb-false)))
+set_is (negsuc n) h k = clash h
 
--- a number as such a value, by two tests
-module _ {most : ℕ} {fits : ℕ → Bool} (range : UpTo most fits) (other : Answer) (make : ℕ → Value) where
-  pub natural_neg : (z : ℤ) → lt_z z (pos 0) ≡ true → natural_of other fits make z ≡ other
-  unfolding natural_of
-  natural_neg (pos n) h = absurd (omega (arith, ltb-true))
-  natural_neg (negsuc n) h = refl
-
-  pub natural_large : (z : ℤ) → lt_z (pos most) z ≡ true → natural_of other fits make z ≡ other
-  unfolding natural_of choose
-  natural_large (pos n) h = rw (range.beyond n (ltb-true most n h))
-  natural_large (negsuc n) h = refl
-
-  pub natural_is : (z : ℤ) → lt_z z (pos 0) ≡ false → lt_z (pos most) z ≡ false
-      → natural_of other fits make z ≡ As.Val (make (nat_abs z))
-  unfolding natural_of choose
-  natural_is (pos n) h k = rw (range.within n (ltb-false most n k))
-  natural_is (negsuc n) h k = clash h
-
--- .. and its bits
-pub natural_fits : (w : Width) (most : ℕ) → ((n : ℕ) → n ≤ most → Fits w n) → (z : ℤ) → lt_z z (pos 0) ≡ false
-    → lt_z (pos most) z ≡ false → T (non_neg z) × Fits w (nat_abs z)
-natural_fits w most small (pos n) h k = unsigned w (pos n) h (small n (ltb-false most n k))
-natural_fits w most small (negsuc n) h k = clash h
+pub set_fits : (z : ℤ) → lt_z z (pos 0) ≡ false → lt_z (pos 4294967295) z ≡ false → T (non_neg z) × Fits w32 (nat_abs z)
+set_fits (pos n) h k = unsigned w32 (pos n) h (record { fits = omega (arith, ltb-false) })
+set_fits (negsuc n) h k = clash h

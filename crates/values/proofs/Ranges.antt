@@ -4,24 +4,23 @@ use mathlib.Core.Bool.{Bool, true, false}
 use mathlib.Core.Logic.{inl, inr}
 use Prim.Native.Nat.{ℕ, zero, suc, ◌+◌, ◌*◌, ◌≤◌, ◌<◌}
 use native.Mathlib.Omega.{arith}
-use borrow.Author.Tests.{eqb-true, eqb-false, ltb-true, ltb-false, lt-ltb}
+use borrow.Author.Tests.{eqb-true, eqb-false, ltb-true, ltb-false}
 use lib.Dec.{eqb, ltb}
 use lib.IntN.{ℤ, pos, ◌-ℤ◌}
 use mir.Syntax.{w32}
 use mir.Val.{SFits}
 use Rattle.prelude.specs.Choice.{choose}
 use Rattle.prelude.proofs.Choice.{choose_cases}
-use Rattle.values.specs.Values.{BOOLEAN, INTEGER, SET, CHAR, kind_of, InRange, is_char, cell_of, boolean_cell}
-use Rattle.values.specs.Values.{natural_of, char_cell, signed_of, constant_of, trap_number, Gives}
+use Rattle.values.specs.Values.{BOOLEAN, INTEGER, SET, kind_of, InRange, cell_of, boolean_cell, signed_of}
+use Rattle.values.specs.Values.{constant_of, trap_number, Gives}
 use Rattle.values.specs.Values.Gives.{value}
 use Rattle.values.specs.declared.Value.{Value}
 use Rattle.values.specs.declared.Answer.TheVariants as As
 use Rattle.values.specs.declared.Trap.{Trap}
 use Rattle.values.specs.declared.Trap.TheVariants as Ts
 use Rattle.values.proofs.Numbers.{minus_top}
-use Rattle.values.proofs.Cells.{no_value, cell_held, held_boolean, held_char}
-use Rattle.values.proofs.Giving.{gives_boolean, gives_integer, gives_set, gives_char, gives_one, gives_kind}
-use Rattle.values.proofs.Giving.{gives_range}
+use Rattle.values.proofs.Cells.{no_value, cell_held, held_boolean}
+use Rattle.values.proofs.Giving.{gives_boolean, gives_integer, gives_set, gives_one, gives_kind, gives_range}
 
 -- ---- a cell, whatever number it holds
 
@@ -52,13 +51,7 @@ constant_gives kind b c p q e =
             | inr i ↦
                 elim (choose_cases (eqb kind SET) i.1) [
                   | inl j ↦ rw (eqb-true kind SET j.0, sym j.1) (gives_set (b * 65536 + c) (omega arith))
-                  | inr j ↦
-                      elim (choose_cases (eqb kind CHAR) j.1) [
-                        | inl l ↦
-                            let z = held_char _ l.1 in
-                            rw (eqb-true kind CHAR l.0) (value z.kind z.range)
-                        | inr l ↦ no_value l.1
-                      ]
+                  | inr j ↦ no_value j.1
                 ]
           ]
     ]
@@ -70,23 +63,19 @@ module _ (kind b c : ℕ) (p : b < 65536) (q : c < 65536) {r : Value} (e : const
   pub constant_range : InRange r
   constant_range = gives_range (constant_gives kind b c p q e)
 
--- a BOOLEAN of 0 or 1, an INTEGER, a SET and a CHAR of 0 to 255 are never stuck
-pub constant_typed : (kind b c : ℕ) → kind < 4 → (kind ≡ BOOLEAN → b * 65536 + c < 2)
-    → (kind ≡ CHAR → b * 65536 + c < 256) → b < 65536 → c < 65536 → Gives kind (constant_of kind b c)
-unfolding constant_of boolean_cell natural_of char_cell is_char choose
-constant_typed zero b c h t u p q =
+-- a BOOLEAN of 0 or 1, an INTEGER and a SET are never stuck
+pub constant_typed : (kind b c : ℕ) → kind < 3 → (kind ≡ BOOLEAN → b * 65536 + c < 2) → b < 65536 → c < 65536
+    → Gives kind (constant_of kind b c)
+unfolding constant_of boolean_cell choose
+constant_typed zero b c h t p q =
     let n = b * 65536 + c in
     let l = t refl in
     gives_one (eqb n 0) (λ e. gives_boolean false)
     (λ e. gives_one (eqb n 1) (λ f. gives_boolean true)
     (λ f. absurd (omega (arith, eqb-false n 0 e, eqb-false n 1 f))))
-constant_typed (suc zero) b c h t u p q = gives_integer _ (signed_fits (b * 65536 + c) (omega arith))
-constant_typed (suc (suc zero)) b c h t u p q = gives_set (b * 65536 + c) (omega arith)
-constant_typed (suc (suc (suc zero))) b c h t u p q =
-    let n = b * 65536 + c in
-    let l = u refl in
-    rw (lt-ltb n 256 l) (gives_char n l)
-constant_typed (suc (suc (suc (suc k)))) b c h t u p q = absurd (omega arith)
+constant_typed (suc zero) b c h t p q = gives_integer _ (signed_fits (b * 65536 + c) (omega arith))
+constant_typed (suc (suc zero)) b c h t p q = gives_set (b * 65536 + c) (omega arith)
+constant_typed (suc (suc (suc k))) b c h t p q = absurd (omega arith)
 
 -- ---- the traps, 1 to 10
 

@@ -19,23 +19,17 @@ INTEGER = 1
 abbrev pub SET : ℕ
 SET = 2
 
--- "In version 2, type row 3 is kind 5, CHAR": as the others, the kind of its values is the number of its row
-abbrev pub CHAR : ℕ
-CHAR = 3
-
 -- the scalar kinds
 pub data Scalar : ℕ → Type 0 where
   a_boolean : Scalar BOOLEAN
   an_integer : Scalar INTEGER
   a_set : Scalar SET
-  a_char : Scalar CHAR
 
 -- the kind of a value
 unfoldable pub kind_of : Value → ℕ
 kind_of (Vs.Bool b) = BOOLEAN
 kind_of (Vs.Int z) = INTEGER
 kind_of (Vs.Set s) = SET
-kind_of (Vs.Char c) = CHAR
 
 -- "INTEGER is -2147483648 to 2147483647"
 unfoldable pub is_integer : ℤ → Bool
@@ -45,20 +39,15 @@ is_integer z = choose (lt_z z (negsuc 2147483647)) false (choose (lt_z (pos 2147
 unfoldable pub is_set : ℕ → Bool
 is_set s = ltb s 4294967296
 
--- "CHAR is 0 to 255"
-unfoldable pub is_char : ℕ → Bool
-is_char c = ltb c 256
-
 -- the value is in its kind's range
 pub data InRange : Value → Type 0 where
   boolean : {b : Bool} → InRange (Vs.Bool b)
   integer : {z : ℤ} → is_integer z ≡ true → InRange (Vs.Int z)
   set : {s : ℕ} → is_set s ≡ true → InRange (Vs.Set s)
-  char : {c : ℕ} → is_char c ≡ true → InRange (Vs.Char c)
 
--- "Traps: 1 index; 2 guard; 3 record target's dynamic type is not its static one ..; 4 INTEGER overflow, or
--- CHR outside 0 to 255; 5 divisor zero; 6 range bound or element of IN outside 0 to 31; 7 frame beyond the store;
--- 8 input used up ..; 9 output full ..; 10 HALT."
+-- "Traps: 1 index; 2 guard; 3 record target's dynamic type is not its static one ..; 4 INTEGER overflow;
+-- 5 divisor zero; 6 range bound or element of IN outside 0 to 31; 7 frame beyond the store; 8 input used up ..;
+-- 9 output full ..; 10 HALT."
 unfoldable pub trap_number : Trap → ℕ
 trap_number Ts.Index = 1
 trap_number Ts.Guard = 2
@@ -76,7 +65,6 @@ unfoldable pub number_of : Value → ℤ
 number_of (Vs.Bool b) = choose b (pos 1) (pos 0)
 number_of (Vs.Int z) = z
 number_of (Vs.Set s) = pos s
-number_of (Vs.Char c) = pos c
 
 -- a cell's number as a BOOLEAN
 unfoldable pub boolean_cell : ℤ → Answer
@@ -88,18 +76,10 @@ boolean_cell (negsuc n) = As.Stuck
 unfoldable pub integer_cell : ℤ → Answer
 integer_cell z = choose (is_integer z) (As.Val (Vs.Int z)) As.Stuck
 
--- a number as a value of a kind whose values are the numbers from 0 on that `fits` takes; `other` where it is none
-unfoldable pub natural_of : Answer → (ℕ → Bool) → (ℕ → Value) → ℤ → Answer
-natural_of other fits make (pos n) = choose (fits n) (As.Val (make n)) other
-natural_of other fits make (negsuc n) = other
-
 -- a cell's number as a SET
 unfoldable pub set_cell : ℤ → Answer
-set_cell z = natural_of As.Stuck is_set (λ s. Vs.Set s) z
-
--- a cell's number as a CHAR
-unfoldable pub char_cell : ℤ → Answer
-char_cell z = natural_of As.Stuck is_char (λ c. Vs.Char c) z
+set_cell (pos n) = choose (is_set n) (As.Val (Vs.Set n)) As.Stuck
+set_cell (negsuc n) = As.Stuck
 
 -- A cell's number as a value of a kind. "Where an operand's cell lacks the needed kind or range, .., no rule applies:
 -- stuck"
@@ -107,21 +87,18 @@ unfoldable pub cell_of : ℕ → ℤ → Answer
 cell_of kind z =
     choose (eqb kind BOOLEAN) (boolean_cell z)
     (choose (eqb kind INTEGER) (integer_cell z)
-    (choose (eqb kind SET) (set_cell z)
-    (choose (eqb kind CHAR) (char_cell z) As.Stuck)))
+    (choose (eqb kind SET) (set_cell z) As.Stuck))
 
 -- 32 bits in two's complement
 unfoldable pub signed_of : ℕ → ℤ
 signed_of n = choose (ltb n 2147483648) (pos n) (pos n -ℤ pos 4294967296)
 
--- "0 constant: a type (0 to 2, in version 2 also 3); b × 65,536 + c is the value, two's complement for INTEGER, 0 or 1
--- for BOOLEAN, 0 to 255 for CHAR."
+-- "0 constant: a type (0 to 2); b × 65,536 + c is the value, two's complement for INTEGER, 0 or 1 for BOOLEAN."
 unfoldable pub constant_of : ℕ → ℕ → ℕ → Answer
 constant_of kind b c =
     choose (eqb kind BOOLEAN) (boolean_cell (pos (b * 65536 + c)))
     (choose (eqb kind INTEGER) (As.Val (Vs.Int (signed_of (b * 65536 + c))))
-    (choose (eqb kind SET) (As.Val (Vs.Set (b * 65536 + c)))
-    (choose (eqb kind CHAR) (char_cell (pos (b * 65536 + c))) As.Stuck)))
+    (choose (eqb kind SET) (As.Val (Vs.Set (b * 65536 + c))) As.Stuck))
 
 -- ---- what follows from a value of one kind; `other` where it is of another
 
@@ -129,25 +106,16 @@ unfoldable pub as_boolean : {X : Type 0} → X → Value → (Bool → X) → X
 as_boolean other (Vs.Bool b) next = next b
 as_boolean other (Vs.Int z) next = other
 as_boolean other (Vs.Set s) next = other
-as_boolean other (Vs.Char c) next = other
 
 unfoldable pub as_integer : {X : Type 0} → X → Value → (ℤ → X) → X
 as_integer other (Vs.Bool b) next = other
 as_integer other (Vs.Int z) next = next z
 as_integer other (Vs.Set s) next = other
-as_integer other (Vs.Char c) next = other
 
 unfoldable pub as_set : {X : Type 0} → X → Value → (ℕ → X) → X
 as_set other (Vs.Bool b) next = other
 as_set other (Vs.Int z) next = other
 as_set other (Vs.Set s) next = next s
-as_set other (Vs.Char c) next = other
-
-unfoldable pub as_char : {X : Type 0} → X → Value → (ℕ → X) → X
-as_char other (Vs.Bool b) next = other
-as_char other (Vs.Int z) next = other
-as_char other (Vs.Set s) next = other
-as_char other (Vs.Char c) next = next c
 
 -- ---- answers
 

@@ -1,16 +1,14 @@
 // Values of the scalar kinds: how a cell and a constant hold them.
 ghost use Rattle.std.specs.Prelude.{◌≡◌};
-ghost use Rattle.values.specs.Values.{trap_number, number_of, boolean_cell, integer_cell, set_cell, char_cell};
-ghost use Rattle.values.specs.Values.{is_integer, cell_of, signed_of, constant_of};
+ghost use Rattle.values.specs.Values.{trap_number, number_of, boolean_cell, integer_cell, set_cell, cell_of};
+ghost use Rattle.values.specs.Values.{is_integer, signed_of, constant_of};
 
-// A value of a scalar kind. A CHAR has 32 bits, as a SET has: an answer is copied by its pieces, and a byte would be one
-// more.
+// A value of a scalar kind.
 #[derive(Drop)]
 pub enum Value {
     Bool(bool),
     Int(i32),
     Set(u32),
-    Char(u32),
 }
 
 // Why a step ended early, in document 01's order.
@@ -69,7 +67,6 @@ pub fn number_of(v: Value) -> i64
         }
         Value::Int(z) => z as i64,
         Value::Set(s) => s as i64,
-        Value::Char(c) => c as i64,
     }
 }
 
@@ -121,35 +118,15 @@ fn set_cell(z: i64) -> Answer
     Answer::Val(Value::Set(s))
 }
 
-fn char_cell(z: i64) -> Answer
-    ensures { result ≡ char_cell z }
-{
-    if z < 0 {
-        return Answer::Stuck;
-    }
-    if 255 < z {
-        return Answer::Stuck;
-    }
-    let c = z as u32;
-    Answer::Val(Value::Char(c))
-}
-
-// A cell's number as a value of a kind: 0 BOOLEAN, 1 INTEGER, 2 SET, 3 CHAR. By halves, here and below, since a match of
-// four is compiled to a jump through a table.
+// A cell's number as a value of a kind: 0 BOOLEAN, 1 INTEGER, 2 SET.
 pub fn cell(kind: u16, z: i64) -> Answer
     ensures { result ≡ cell_of kind z }
 {
-    if kind < 2 {
-        match kind {
-            0 => boolean_cell(z),
-            _ => integer_cell(z),
-        }
-    } else {
-        match kind {
-            2 => set_cell(z),
-            3 => char_cell(z),
-            _ => Answer::Stuck,
-        }
+    match kind {
+        0 => boolean_cell(z),
+        1 => integer_cell(z),
+        2 => set_cell(z),
+        _ => Answer::Stuck,
     }
 }
 
@@ -168,16 +145,10 @@ pub fn constant(kind: u16, b: u16, c: u16) -> Answer
     ensures { result ≡ constant_of kind b c }
 {
     let bits = (b as u32) * 65536 + (c as u32);
-    if kind < 2 {
-        match kind {
-            0 => boolean_cell(bits as i64),
-            _ => Answer::Val(Value::Int(signed_of(bits))),
-        }
-    } else {
-        match kind {
-            2 => Answer::Val(Value::Set(bits)),
-            3 => char_cell(bits as i64),
-            _ => Answer::Stuck,
-        }
+    match kind {
+        0 => boolean_cell(bits as i64),
+        1 => Answer::Val(Value::Int(signed_of(bits))),
+        2 => Answer::Val(Value::Set(bits)),
+        _ => Answer::Stuck,
     }
 }

@@ -81,9 +81,9 @@ pub const RUN_STACK: usize = 483_328;
 /// ```
 /// use door::{Question, Refusal};
 ///
-/// let refusal = door::check(b"\x03").unwrap_err();
+/// let refusal = door::check(b"\x02").unwrap_err();
 /// assert_eq!(refusal, Refusal { question: Question::Version, row: 0 });
-/// assert_eq!(refusal.to_string(), "refusal 1: there is no first byte, or it is not 1 or 2");
+/// assert_eq!(refusal.to_string(), "refusal 1: there is no first byte, or it is not 1");
 /// ```
 ///
 /// `{:?}` prints the same words as `{}`, so that a `main` that returns it says the reason.
@@ -164,7 +164,7 @@ impl Error for Refusal {}
 #[derive(Clone, Copy, Debug, PartialEq, Eq, PartialOrd, Ord, Hash)]
 #[non_exhaustive]
 pub enum Question {
-    /// There is no first byte, or it is not 1 or 2.
+    /// There is no first byte, or it is not 1.
     Version = 1,
     /// Bytes 1 to 4 are missing, or are not the image's length.
     Length,
@@ -233,7 +233,7 @@ impl Question {
     /// What is wrong where it is answered "no", in a few words.
     pub fn reason(&self) -> &'static str {
         match self {
-            Question::Version => "there is no first byte, or it is not 1 or 2",
+            Question::Version => "there is no first byte, or it is not 1",
             Question::Length => "bytes 1 to 4 are missing, or are not the image's length",
             Question::Tables => "a count is out of range, or the tables do not fill the image",
             Question::Type => "a type row, or an own field of a record, breaks its rule",
@@ -283,7 +283,7 @@ pub enum Trap {
     Guard,
     /// A record assigned to one of another dynamic type.
     Target,
-    /// An INTEGER beyond 32 bits, also by -2147483648 DIV -1; or CHR outside 0 to 255.
+    /// An INTEGER beyond 32 bits, also by -2147483648 DIV -1.
     Overflow,
     /// A divisor that is zero.
     Divisor,
@@ -347,7 +347,7 @@ impl fmt::Display for Trap {
             Trap::Index => "an index outside its array",
             Trap::Guard => "a guard that does not hold",
             Trap::Target => "a record assigned to one of another dynamic type",
-            Trap::Overflow => "an INTEGER beyond 32 bits, or CHR outside 0 to 255",
+            Trap::Overflow => "an INTEGER beyond 32 bits",
             Trap::Divisor => "a divisor that is zero",
             Trap::Bound => "a set's element outside 0 to 31",
             Trap::Frame => "a call whose frame goes beyond the store",
@@ -669,7 +669,7 @@ pub fn check_number(image: &[u8]) -> u32 {
 /// The run's numbers as firmware gets them. [`run`] gives them names.
 ///
 /// ```
-/// let numbers = door::run_numbers(&[3], &[], &mut [], &mut [], 100);
+/// let numbers = door::run_numbers(&[2], &[], &mut [], &mut [], 100);
 /// assert_eq!(numbers, door::Numbers { refusal: 1, ..door::Numbers::default() });
 /// ```
 pub fn run_numbers(image: &[u8], input: &[i32], store: &mut [i64], output: &mut [i32], steps: u32) -> Numbers {

@@ -19,7 +19,7 @@ fn run(name: &str) -> Result<Report, Refusal> {
 #[test]
 fn each_refusal_of_the_check() {
     let refused = [
-        ("doorrun/00013.img", Question::Version, 0, None, "there is no first byte, or it is not 1 or 2"),
+        ("doorrun/00013.img", Question::Version, 0, None, "there is no first byte, or it is not 1"),
         ("doorrun/00015.img", Question::Length, 0, None, "bytes 1 to 4 are missing, or are not the image's length"),
         (
             "doorrun/00045.img",
@@ -136,25 +136,6 @@ fn a_negative_divisor() {
         let mut output = [7; 3];
         let report = door::run(&image("input/quotient-1.img"), &input, &mut [0; 8], &mut output, STEPS);
         let got = report.map(|report| (report.outcome, report.row, output));
-        assert_eq!(got, Ok(expected), "{input:?}");
-    }
-}
-
-/// Runs of examples/door/names.lst, an image of version 2: keys become characters by CHR. It needs 37 cells of globals, 3
-/// of procedure 0, and then 8 of ReadName or 19 of Find and Compare.
-#[test]
-fn characters() {
-    let trapped = |row| (Outcome::Trapped(Trap::Overflow), row, 48, [7; 5]);
-    let runs: [(&[i32], _); 4] = [
-        (&[69, 86, 69, 13, 13], (Outcome::Finished, 11, 59, [1234, 69, 86, 69, 7])),
-        (&[66, 79, 66, 13, 13], (Outcome::Finished, 11, 59, [0, 7, 7, 7, 7])),
-        (&[69, 256], trapped(26)),
-        (&[-1], trapped(19)),
-    ];
-    for (input, expected) in runs {
-        let mut output = [7; 5];
-        let report = door::run(&image("input/names-1.img"), input, &mut [0; 64], &mut output, STEPS);
-        let got = report.map(|report| (report.outcome, report.row, report.mark, output));
         assert_eq!(got, Ok(expected), "{input:?}");
     }
 }

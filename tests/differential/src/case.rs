@@ -64,7 +64,7 @@ impl Case {
         match compare::check(&self.image)? {
             Ok(program) => self.compare_runs(&program, counts, watcher),
             Err(fault) => {
-                counts.refused(&self.image, &fault);
+                counts.rule(fault.rule);
                 if self.good {
                     return Err(format!("a generated image is refused by {} at {}", fault.refusal, fault.row));
                 }

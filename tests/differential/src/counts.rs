@@ -1,19 +1,15 @@
 //! What the images and runs reached, and how often.
 
-use crate::characters::{self, CHR};
 use crate::compare::After;
 use crate::divisions::{self, DIV, MOD};
-use crate::evaluated;
 use crate::frames::{Given, Sight};
 use crate::traps::{self, Origin};
 use listing::SCALARS;
 use model::program::{Program, CALL, DYADIC, ELEMENT, GUARD, MONADIC};
-use model::types::CHAR;
 use model::{rules, Fault, Machine};
 
 #[derive(Clone, Copy, Debug, PartialEq, Eq)]
 pub enum Group {
-    Version,
     Refusal,
     Outcome,
     Steps,
@@ -25,12 +21,9 @@ pub enum Group {
     Statement,
     Executed,
     Division,
-    Character,
-    Declared,
     Parameter,
     Extension,
     Rule,
-    CharacterRefusal,
     ContinuedRefusal,
     Cut,
     Foreign,
@@ -38,7 +31,6 @@ pub enum Group {
     Frames,
     Names,
     State,
-    CharacterCell,
     Mark,
     ContinuedMark,
     EarlierMark,
@@ -47,8 +39,7 @@ pub enum Group {
     ContinuedShorter,
 }
 
-const GROUPS: [(Group, &str); 32] = [
-    (Group::Version, "accepted images by version"),
+const GROUPS: [(Group, &str); 27] = [
     (Group::Refusal, "refusals of runs"),
     (Group::Outcome, "outcomes of runs"),
     (Group::Steps, "unrefused runs by their steps"),
@@ -60,12 +51,9 @@ const GROUPS: [(Group, &str); 32] = [
     (Group::Statement, "statements in accepted images"),
     (Group::Executed, "statements executed, in the first steps of some runs"),
     (Group::Division, "divisions in these statements"),
-    (Group::Character, "CHARs in these statements"),
-    (Group::Declared, "declared as CHAR"),
     (Group::Parameter, "parameters"),
     (Group::Extension, "extensions of a record"),
     (Group::Rule, "rules broken, of the model's list"),
-    (Group::CharacterRefusal, "refusals for what one version alone has"),
     (Group::ContinuedRefusal, "refusals of continuations"),
     (Group::Cut, "continuations of runs, as they were left"),
     (Group::Foreign, "continuations of states that no run left"),
@@ -73,7 +61,6 @@ const GROUPS: [(Group, &str); 32] = [
     (Group::Frames, "frames of continued states"),
     (Group::Names, "what VAR parameters name in continued states"),
     (Group::State, "refusals by question 14, by the model's reason"),
-    (Group::CharacterCell, "CHAR cells refused, by their number"),
     (Group::Mark, "marks of runs"),
     (Group::ContinuedMark, "marks of continuations"),
     (Group::EarlierMark, "earlier marks that question 14 passed"),
@@ -92,24 +79,23 @@ const DYADIC_OPERATORS: [(&str, &[usize]); 16] = [
     ("DIV", &[1]),
     ("MOD", &[1]),
     ("/", &[2]),
-    ("=", &[0, 1, 2, 3]),
-    ("#", &[0, 1, 2, 3]),
-    ("<", &[1, 3]),
-    ("<=", &[1, 3]),
-    (">", &[1, 3]),
-    (">=", &[1, 3]),
+    ("=", &[0, 1, 2]),
+    ("#", &[0, 1, 2]),
+    ("<", &[1]),
+    ("<=", &[1]),
+    (">", &[1]),
+    (">=", &[1]),
     ("&", &[0]),
     ("OR", &[0]),
     ("IN", &[1]),
     ("..", &[1]),
 ];
-const MONADIC_OPERATORS: [(&str, &[usize]); 4] = [("-", &[1, 2]), ("~", &[0]), ("ORD", &[3]), ("CHR", &[1])];
+const MONADIC_OPERATORS: [(&str, &[usize]); 2] = [("-", &[1, 2]), ("~", &[0])];
 /// Nodes that can trap, by kind, operator and trap.
-const TRAPPING: [(&str, u8, u16, u32); 12] = [
+const TRAPPING: [(&str, u8, u16, u32); 11] = [
     ("element", ELEMENT, 0, 1),
     ("guard", GUARD, 0, 2),
     ("monadic -", MONADIC, 1, 4),
-    ("CHR", MONADIC, CHR, 4),
     ("+", DYADIC, 1, 4),
     ("-", DYADIC, 2, 4),
     ("*", DYADIC, 3, 4),
@@ -130,8 +116,6 @@ const NAMES: [&str; 6] = [
     "one without cells at its frame's end",
     "one without cells at the end of the globals",
 ];
-/// What can be of type CHAR: variables by their kinds, elements, fields.
-const DECLARED: [&str; 6] = ["a global", "a local", "a value parameter", "a VAR parameter", "elements", "a field"];
 const FORMS: [&str; 3] = ["scalar", "array", "record"];
 /// How a mark came about, each counted where it applies.
 const BY_TRAPPED_CALL: &str = "raised at last by a call that trapped in an argument";
@@ -141,7 +125,6 @@ const BY_FAILED_CALL: &str = "with a call that failed the store check";
 fn names(group: Group) -> Vec<Option<String>> {
     let all = |names: &[&str]| names.iter().map(|name| Some(name.to_string())).collect();
     match group {
-        Group::Version => all(&["1", "2"]),
         Group::Refusal => (0..=13).map(|number| Some(number.to_string())).collect(),
         Group::Outcome => all(&["steps used up", "finished", "trapped"]),
         Group::Steps => all(&["0", "1 to 9", "10 to 99", "100 to 999", "1,000 and more"]),
@@ -155,22 +138,18 @@ fn names(group: Group) -> Vec<Option<String>> {
             let of = |operator: &str| divisions::NAMES.map(|name| Some(format!("{operator} {name}")));
             [of("DIV"), of("MOD")].concat()
         }
-        Group::Character => all(&characters::NAMES),
-        Group::Declared => all(&DECLARED),
         Group::Parameter => {
             let of = |kind: &str| FORMS.map(|form| Some(format!("{kind} {form}")));
             [of("value"), of("VAR")].concat()
         }
         Group::Extension => all(&["assigned", "passed by value", "passed to VAR"]),
         Group::Rule => rules::ALL.iter().map(|rule| Some(format!("{}: {}", rule.question, rule.words))).collect(),
-        Group::CharacterRefusal => all(&characters::REFUSALS.map(|(name, ..)| name)),
         Group::ContinuedRefusal => (0..=14).map(|number| Some(number.to_string())).collect(),
         Group::Cut | Group::Foreign => all(&["steps used up", "finished", "trapped"]),
         Group::Damaged => all(&["steps used up", "finished", "trapped", "refused"]),
         Group::Frames => all(&["1", "2", "3", "4 and more"]),
         Group::Names => all(&NAMES),
         Group::State => rules::STATE.iter().map(|rule| Some(rule.words.to_string())).collect(),
-        Group::CharacterCell => characters::CELLS.iter().map(|number| Some(number.to_string())).collect(),
         Group::Mark => all(&["G + F0", "above that", "above top", BY_TRAPPED_CALL, BY_FAILED_CALL]),
         Group::ContinuedMark => all(&["kept", "raised", "above top", BY_TRAPPED_CALL, BY_FAILED_CALL]),
         Group::EarlierMark => all(&["top", "above top", "the store's length", "below that"]),
@@ -180,10 +159,10 @@ fn names(group: Group) -> Vec<Option<String>> {
     }
 }
 
-/// Operator o, counted from 1, with operands of scalar type t is number 4 * (o - 1) + t.
+/// Operator o, counted from 1, with operands of kind k is number 3 * (o - 1) + k.
 fn operators(list: &[(&str, &[usize])]) -> Vec<Option<String>> {
     let of = |(name, kinds): &(&str, &[usize])| {
-        [0, 1, 2, 3].map(|kind| kinds.contains(&kind).then(|| format!("{name} {}", SCALARS[kind])))
+        [0, 1, 2].map(|kind| kinds.contains(&kind).then(|| format!("{name} {}", SCALARS[kind])))
     };
     list.iter().flat_map(of).collect()
 }
@@ -248,25 +227,19 @@ impl Counts {
         }
     }
 
-    /// The statement that a machine comes to next, with its divisions and CHARs.
+    /// The statement that a machine comes to next, and the divisions in it.
     pub fn executed(&mut self, program: &Program, machine: &Machine) {
         self.add(Group::Executed, program.statements[machine.state.row].kind as usize);
-        for n in evaluated::nodes(program, machine) {
-            self.add_each(Group::Character, &characters::is(program, machine, n));
-            let Some(division) = divisions::of(program, machine, n) else { continue };
+        for division in divisions::next(program, machine) {
             let first = if division.operator == DIV { 0 } else { divisions::NAMES.len() };
             let is = division.is();
             (0..is.len()).filter(|i| is[*i]).for_each(|i| self.add(Group::Division, first + i));
         }
     }
 
-    /// An image that the check refuses.
-    pub fn refused(&mut self, image: &[u8], fault: &Fault) {
-        let number = rules::ALL.iter().position(|rule| *rule == fault.rule);
+    pub fn rule(&mut self, broken: &'static rules::Rule) {
+        let number = rules::ALL.iter().position(|rule| *rule == broken);
         self.add(Group::Rule, number.expect("a rule of the list"));
-        if let Some(number) = characters::refused(image, fault) {
-            self.add(Group::CharacterRefusal, number);
-        }
     }
 
     /// A continuation of an accepted image, in its group.
@@ -289,9 +262,6 @@ impl Counts {
         if fault.refusal == 14 {
             let number = rules::STATE.iter().position(|rule| *rule == fault.rule);
             self.add(Group::State, number.expect("a rule of the list"));
-        }
-        if let Some(number) = characters::refused_cell(fault) {
-            self.add(Group::CharacterCell, number);
         }
     }
 
@@ -327,12 +297,11 @@ impl Counts {
 
     /// What an accepted image has.
     pub fn survey(&mut self, program: &Program) {
-        self.add(Group::Version, usize::from(program.version) - 1);
         for node in &program.nodes {
             self.add(Group::Node, node.kind as usize);
             match node.kind {
-                5 => self.add(Group::Dyadic, 4 * (node.c() - 1) + program.type_of(node.a())),
-                6 => self.add(Group::Monadic, 4 * (node.c() - 1) + program.type_of(node.a())),
+                5 => self.add(Group::Dyadic, 3 * (node.c() - 1) + program.type_of(node.a())),
+                6 => self.add(Group::Monadic, 3 * (node.c() - 1) + program.type_of(node.a())),
                 _ => {}
             }
         }
@@ -349,21 +318,6 @@ impl Counts {
             let form = [program.is_scalar(variable.a()), program.is_array(variable.a()), true];
             let form = form.iter().position(|is| *is).expect("the last one is");
             self.add(Group::Parameter, 3 * (variable.kind as usize - 2) + form);
-        }
-        if program.is_scalar(CHAR) {
-            self.survey_chars(program);
-        }
-    }
-
-    /// What an accepted image of version 2 declares as CHAR.
-    fn survey_chars(&mut self, program: &Program) {
-        for variable in program.variables.iter().filter(|variable| variable.a() == CHAR) {
-            self.add(Group::Declared, variable.kind as usize);
-        }
-        for t in 0..program.types.len() {
-            let elements = program.is_array(t) && program.types[t].a() == CHAR;
-            let field = program.fields_of(t).iter().any(|field| field.t == CHAR);
-            self.add_each(Group::Declared, &[false, false, false, false, elements, field]);
         }
     }
 
@@ -401,7 +355,7 @@ impl Counts {
         for (group, title) in GROUPS {
             lines.push(format!("{title}:"));
             let counted = self.group(group);
-            if matches!(group, Group::Rule | Group::CharacterRefusal | Group::State) {
+            if group == Group::Rule || group == Group::State {
                 lines.extend(counted.iter().map(|(name, count)| format!("  {count:>9}  {name}")));
             } else {
                 let parts: Vec<String> = counted.iter().map(|(name, count)| format!("{name} {count}")).collect();

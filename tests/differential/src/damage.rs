@@ -268,13 +268,12 @@ impl Damage<'_, '_> {
         let cells = self.sight.scalars(&[variable]);
         let Some((cell, kind)) = self.random.any(&cells) else { return self.row() };
         let old = self.cell(cell);
-        let edges: &[i64] = match kind {
-            Kind::Boolean => &[0, 1, 2, -1],
-            Kind::Integer => &[i32::MIN as i64, i32::MAX as i64, 1 << 31, -(1 << 31) - 1],
-            Kind::Char => &[0, 255, 256, -1, -128, (1 << 32) + 65],
-            _ => &[0, u32::MAX as i64, 1 << 32, -1],
+        let edges = match kind {
+            Kind::Boolean => [0, 1, 2, -1],
+            Kind::Integer => [i32::MIN.into(), i32::MAX.into(), (1 << 31), -(1 << 31) - 1],
+            _ => [0, u32::MAX.into(), 1 << 32, -1],
         };
-        let new = if self.random.chance(700) { *self.random.pick(edges) } else { self.near(old) };
+        let new = if self.random.chance(700) { *self.random.pick(&edges) } else { self.near(old) };
         self.put(cell, new);
     }
 

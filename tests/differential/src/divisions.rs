@@ -1,11 +1,13 @@
-//! What a division is, by the model.
+//! The divisions that a statement comes to: the model evaluates its nodes again.
 
-use model::operators::Value;
-use model::program::{Program, DYADIC};
+use model::operators::{Stop, Value};
+use model::program::{Program, CALL, DYADIC};
 use model::Machine;
 
 pub const DIV: u16 = 4;
 pub const MOD: u16 = 5;
+const AND: u16 = 13;
+const OR: u16 = 14;
 
 /// What a division can be, each counted where it applies.
 pub const NAMES: [&str; 10] = [
@@ -48,12 +50,39 @@ impl Division {
     }
 }
 
-/// The division that the node is, where its operands do not trap.
-pub fn of(program: &Program, machine: &Machine, n: usize) -> Option<Division> {
-    let row = program.nodes[n];
-    let values = [row.a(), row.b()].map(|n| machine.value(n));
-    match (row.kind, row.c, values) {
-        (DYADIC, DIV | MOD, [Ok(Value::Integer(x)), Ok(Value::Integer(y))]) => Some(Division { operator: row.c, x, y }),
-        _ => None,
+/// Those of the statement that the machine comes to next, up to the first trap in an operand.
+pub fn next(program: &Program, machine: &Machine) -> Vec<Division> {
+    let statement = program.statements[machine.state.row];
+    let mut found = vec![];
+    if statement.kind == CALL && machine.state.top + program.frame(statement.a()) > machine.state.cells.len() {
+        return found;
     }
+    for n in program.named_by(machine.state.row) {
+        if !visit(program, machine, n, &mut found) {
+            break;
+        }
+    }
+    found
+}
+
+/// Adds the divisions in the node; whether it does not trap.
+fn visit(program: &Program, machine: &Machine, n: usize, found: &mut Vec<Division>) -> bool {
+    let row = program.nodes[n];
+    for (i, child) in program.children(n).enumerate() {
+        let decided = i == 1 && row.kind == DYADIC && decides(row.c, machine.value(row.a()).ok());
+        if !decided && !visit(program, machine, child, found) {
+            return false;
+        }
+    }
+    if row.kind == DYADIC && matches!(row.c, DIV | MOD) {
+        if let [Ok(Value::Integer(x)), Ok(Value::Integer(y))] = [row.a(), row.b()].map(|n| machine.value(n)) {
+            found.push(Division { operator: row.c, x, y });
+        }
+    }
+    !matches!(machine.value(n), Err(Stop::Trap { .. }))
+}
+
+/// "& and OR skip the right one when the left decides."
+fn decides(operator: u16, left: Option<Value>) -> bool {
+    matches!((operator, left), (AND, Some(Value::Boolean(false))) | (OR, Some(Value::Boolean(true))))
 }

@@ -132,8 +132,6 @@ fn some_value(random: &mut Random, kind: Kind) -> i64 {
         (Kind::Boolean, way) => (way % 2) as i64,
         (Kind::Integer, 0) => *random.pick(&[i32::MIN, i32::MAX]) as i64,
         (Kind::Integer, 1) => i64::from(random.next() as i32),
-        (Kind::Char, 0) => *random.pick(&[0, 127, 128, 255]),
-        (Kind::Char, _) => random.below(256) as i64,
         (_, 0) => *random.pick(&[0, u32::MAX as i64]),
         (_, 1) => i64::from(random.next() as u32),
         _ => random.below(12) as i64,

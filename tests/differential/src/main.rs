@@ -11,12 +11,10 @@
 
 mod case;
 mod cases;
-mod characters;
 mod compare;
 mod counts;
 mod damage;
 mod divisions;
-mod evaluated;
 mod foreign;
 mod frames;
 mod generate;

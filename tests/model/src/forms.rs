@@ -4,7 +4,7 @@
 use crate::image::Row;
 use crate::program::*;
 use crate::rules::{self, Rule};
-use crate::types::{BOOLEAN, CHAR};
+use crate::types::{BOOLEAN, SET};
 use crate::words::{counted, node_kind, statement_kind, variable_kind};
 use crate::{ask, Fault};
 
@@ -90,7 +90,7 @@ fn node_form(program: &Program, n: usize, row: &Row) -> Result<(), Fault> {
     ask(row.zero == 0, &rules::NODE_ZERO_BYTE, n, || format!("node {n} has the second byte {}", row.zero))?;
     ask_unused(node_unused(row), &rules::NODE_UNUSED, n, row, || format!("node {n} of kind {}", node_kind(row.kind)))?;
     match row.kind {
-        CONSTANT => constant_form(program, n, row)?,
+        CONSTANT => constant_form(n, row)?,
         VARIABLE => ask_variable(program, n, row)?,
         GUARD | TYPE_TEST => {
             ask_variable(program, n, row)?;
@@ -109,7 +109,7 @@ fn node_form(program: &Program, n: usize, row: &Row) -> Result<(), Fault> {
         DYADIC => ask((1..=16).contains(&row.c), &rules::DYADIC_OPERATOR, n, || {
             format!("node {n} has the dyadic operator {}", row.c)
         }),
-        MONADIC => ask((1..=monadic_operators(program)).contains(&row.c), &rules::MONADIC_OPERATOR, n, || {
+        MONADIC => ask((1..=2).contains(&row.c), &rules::MONADIC_OPERATOR, n, || {
             format!("node {n} has the monadic operator {}", row.c)
         }),
         _ => Ok(()),
@@ -136,27 +136,12 @@ fn ask_unused(
     ask(unused == [0, 0, 0], rule, at, || format!("{} has a {}, b {}, c {}", what(), row.a, row.b, row.c))
 }
 
-/// "0 constant: a type (0 to 2, in version 2 also 3); b × 65,536 + c is the value, two's complement for INTEGER, 0 or 1
-/// for BOOLEAN, 0 to 255 for CHAR."
-fn constant_form(program: &Program, n: usize, row: &Row) -> Result<(), Fault> {
-    let t = row.a();
-    ask(program.is_scalar(t), &rules::CONSTANT_TYPE, n, || format!("node {n} is a constant of type {t}"))?;
-    let (most, rule) = match t {
-        BOOLEAN => (1, &rules::BOOLEAN_CONSTANT),
-        CHAR => (255, &rules::CHAR_CONSTANT),
-        _ => return Ok(()),
-    };
-    ask(row.b == 0 && row.c <= most, rule, n, || {
-        format!("node {n} is a constant of type {} with b {}, c {}", program.type_row(t), row.b, row.c)
+/// "0 constant: a type (0 to 2); b × 65,536 + c is the value, two's complement for INTEGER, 0 or 1 for BOOLEAN."
+fn constant_form(n: usize, row: &Row) -> Result<(), Fault> {
+    ask(row.a() <= SET, &rules::CONSTANT_TYPE, n, || format!("node {n} is a constant of type {}", row.a))?;
+    ask(row.a() != BOOLEAN || (row.b == 0 && row.c <= 1), &rules::BOOLEAN_CONSTANT, n, || {
+        format!("node {n} is a BOOLEAN constant with b {}, c {}", row.b, row.c)
     })
-}
-
-/// "6 monadic a, operator c: 1 −, 2 ~, in version 2 also 3 ORD, 4 CHR." How many there are.
-fn monadic_operators(program: &Program) -> u16 {
-    match program.version {
-        1 => 2,
-        _ => 4,
-    }
 }
 
 fn ask_variable(program: &Program, n: usize, row: &Row) -> Result<(), Fault> {

@@ -1,7 +1,6 @@
 //! The image: bytes, rows, six tables. Questions 1 to 3.
 
 use crate::rules::{self, Rule};
-use crate::types::scalar_types;
 use crate::words::counted;
 use crate::{ask, Fault};
 use std::ops::RangeInclusive;
@@ -37,11 +36,9 @@ impl Row {
     }
 }
 
-/// "Byte 0 is the version, 1 or 2. .. Then the six tables follow one another". Only questions 1 to 3 have been asked of
-/// them.
+/// "Then the six tables follow one another". Only questions 1 to 3 have been asked of them.
 #[derive(Clone, Debug, Default, PartialEq, Eq)]
 pub struct Tables {
-    pub version: u8,
     pub types: Vec<Row>,
     pub fields: Vec<Row>,
     pub variables: Vec<Row>,
@@ -54,13 +51,13 @@ pub struct Tables {
 pub fn tables(image: &[u8]) -> Result<Tables, Fault> {
     question_1(image)?;
     question_2(image)?;
-    question_3(image[0], &image[5..])
+    question_3(&image[5..])
 }
 
-/// "Is there a first byte, and is it 1 or 2?"
+/// "Is there a first byte, and is it 1?"
 fn question_1(image: &[u8]) -> Result<(), Fault> {
     ask(!image.is_empty(), &rules::FIRST_BYTE, 0, || "the image has no byte".into())?;
-    ask(matches!(image[0], 1 | 2), &rules::VERSION, 0, || format!("byte 0 is {}", image[0]))
+    ask(image[0] == 1, &rules::VERSION, 0, || format!("byte 0 is {}", image[0]))
 }
 
 /// "Are bytes 1 to 4 present, equal to the image's length?"
@@ -73,10 +70,9 @@ fn question_2(image: &[u8]) -> Result<(), Fault> {
 }
 
 /// "Are the counts in range, and do the tables fill the image exactly?" `rest` is the image from byte 5 on.
-fn question_3(version: u8, mut rest: &[u8]) -> Result<Tables, Fault> {
+fn question_3(mut rest: &[u8]) -> Result<Tables, Fault> {
     let tables = Tables {
-        version,
-        types: table(&mut rest, "type", scalar_types(version)..=64, &rules::TYPE_COUNT)?,
+        types: table(&mut rest, "type", 3..=64, &rules::TYPE_COUNT)?,
         fields: table(&mut rest, "field", 0..=256, &rules::FIELD_COUNT)?,
         variables: table(&mut rest, "variable", 0..=256, &rules::VARIABLE_COUNT)?,
         procedures: table(&mut rest, "procedure", 1..=64, &rules::PROCEDURE_COUNT)?,

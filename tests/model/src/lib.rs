@@ -1,7 +1,7 @@
 //! Document 01 a second time, written from the paper alone: the check, the tagged machine, and what a sound state is;
-//! and of document 02 the first six requests: to continue a run, IN's trap, the mark, negative divisors and characters;
-//! the fourth changes no answer. It follows the papers' order and words, and prefers the direct way to the fast one. It
-//! knows nothing of the proved crates; where a paper is open it takes the readings of `docs/DECISIONS.md`.
+//! and of document 02 the first five requests: to continue a run, IN's trap, the mark and negative divisors; the fourth
+//! changes no answer. It follows the papers' order and words, and prefers the direct way to the fast one. It knows
+//! nothing of the proved crates; where a paper is open it takes the readings of `docs/DECISIONS.md`.
 //!
 //! | module | document 01 |
 //! |---|---|
@@ -10,7 +10,7 @@
 //! | `program` | What an accepted image means: bodies, places of variables, types of nodes |
 //! | `forms` | Variables, procedures, nodes, statements; questions 5 to 9 |
 //! | `typing` | Type rules; questions 10 and 11 |
-//! | `operators` | Values, operators, traps; document 02, requests 2, 5, 6: IN's trap, negative divisors, characters |
+//! | `operators` | Values, operators, traps; document 02, requests 2 and 5: IN's trap, negative divisors |
 //! | `machine` | Tagged machine: store, evaluation, statements; document 02, request 3: the mark |
 //! | `numbers` | What a run returns, as `rust/door` has it |
 //! | `sound` | Sound, and the kinds that places give |

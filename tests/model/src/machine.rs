@@ -29,14 +29,13 @@ impl Cell {
     }
 }
 
-/// "INTEGER is −2147483648 to 2147483647; SET has bit i for element i, 0 to 31; CHAR is 0 to 255; FALSE is 0." Links,
-/// addresses and types are numbers of 16 bits.
+/// "INTEGER is −2147483648 to 2147483647; SET has bit i for element i, 0 to 31; FALSE is 0." Links, addresses and types
+/// are numbers of 16 bits.
 pub(crate) fn range(kind: Kind) -> Range<i64> {
     match kind {
         Kind::Boolean => 0..2,
         Kind::Integer => -(1 << 31)..1 << 31,
         Kind::Set => 0..1 << 32,
-        Kind::Char => 0..256,
         Kind::Link | Kind::Address | Kind::Type => 0..1 << 16,
     }
 }

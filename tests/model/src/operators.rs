@@ -2,7 +2,7 @@
 
 use crate::image::Row;
 use crate::machine::Cell;
-use crate::types::{scalar_kind, Kind};
+use crate::types::{Kind, BOOLEAN, INTEGER};
 
 /// "Traps: 1 index; 2 guard; .. 10 HALT."
 pub mod trap {
@@ -43,7 +43,6 @@ pub enum Value {
     Boolean(bool),
     Integer(i32),
     Set(u32),
-    Char(u8),
 }
 
 impl Value {
@@ -52,7 +51,6 @@ impl Value {
             Value::Boolean(x) => Cell::new(Kind::Boolean, i64::from(x)),
             Value::Integer(x) => Cell::new(Kind::Integer, i64::from(x)),
             Value::Set(x) => Cell::new(Kind::Set, i64::from(x)),
-            Value::Char(x) => Cell::new(Kind::Char, i64::from(x)),
         }
     }
 
@@ -62,21 +60,25 @@ impl Value {
             Kind::Boolean => Ok(Value::Boolean(number != 0)),
             Kind::Integer => Ok(Value::Integer(number as i32)),
             Kind::Set => Ok(Value::Set(number as u32)),
-            Kind::Char => Ok(Value::Char(number as u8)),
             _ => stuck(|| format!("no value is of kind {kind:?}")),
         }
     }
 }
 
-/// "0 constant: a type ..; b × 65,536 + c is the value, two's complement for INTEGER".
+/// "0 constant: a type (0 to 2); b × 65,536 + c is the value, two's complement for INTEGER".
 pub(crate) fn constant(node: &Row) -> Answer<Value> {
-    Value::of(scalar_kind(node.a()), i64::from(node.b) << 16 | i64::from(node.c))
+    let number = u32::from(node.b) << 16 | u32::from(node.c);
+    match node.a() {
+        BOOLEAN => Ok(Value::Boolean(number == 1)),
+        INTEGER => Ok(Value::Integer(number as i32)),
+        _ => Ok(Value::Set(number)),
+    }
 }
 
 /// "5 dyadic a, b, operator c: 1 +, 2 −, 3 *, 4 DIV, 5 MOD, 6 /, 7 =, 8 #, 9 <, 10 <=, 11 >, 12 >=, 13 &, 14 OR, 15 IN,
 /// 16 range."
 pub(crate) fn dyadic(operator: u16, x: Value, y: Value) -> Answer<Value> {
-    use Value::{Boolean, Char, Integer, Set};
+    use Value::{Boolean, Integer, Set};
     match (operator, x, y) {
         (1, Integer(x), Integer(y)) => in_range(i64::from(x) + i64::from(y)),
         (2, Integer(x), Integer(y)) => in_range(i64::from(x) - i64::from(y)),
@@ -91,10 +93,13 @@ pub(crate) fn dyadic(operator: u16, x: Value, y: Value) -> Answer<Value> {
         (2, Set(x), Set(y)) => Ok(Set(x & !y)),
         (3, Set(x), Set(y)) => Ok(Set(x & y)),
         (6, Set(x), Set(y)) => Ok(Set(x ^ y)),
-        // "7, 8 take two of one scalar type"
-        (7 | 8, x, y) if x.cell().kind == y.cell().kind => Ok(Boolean((x == y) == (operator == 7))),
-        (9..=12, Integer(x), Integer(y)) => Ok(Boolean(ordered(operator, x, y))),
-        (9..=12, Char(x), Char(y)) => Ok(Boolean(ordered(operator, x, y))),
+        (7 | 8, Boolean(x), Boolean(y)) => Ok(Boolean((x == y) == (operator == 7))),
+        (7 | 8, Integer(x), Integer(y)) => Ok(Boolean((x == y) == (operator == 7))),
+        (7 | 8, Set(x), Set(y)) => Ok(Boolean((x == y) == (operator == 7))),
+        (9, Integer(x), Integer(y)) => Ok(Boolean(x < y)),
+        (10, Integer(x), Integer(y)) => Ok(Boolean(x <= y)),
+        (11, Integer(x), Integer(y)) => Ok(Boolean(x > y)),
+        (12, Integer(x), Integer(y)) => Ok(Boolean(x >= y)),
         (13, Boolean(x), Boolean(y)) => Ok(Boolean(x && y)),
         (14, Boolean(x), Boolean(y)) => Ok(Boolean(x || y)),
         // "IN with an element outside 0 to 31 now gives trap 6, after both operands are found."
@@ -104,26 +109,13 @@ pub(crate) fn dyadic(operator: u16, x: Value, y: Value) -> Answer<Value> {
     }
 }
 
-/// "6 monadic a, operator c: 1 −, 2 ~, in version 2 also 3 ORD, 4 CHR." "ORD gives its CHAR's number; CHR gives the
-/// CHAR of that number, with trap 4 outside 0 to 255."
+/// "6 monadic a, operator c: 1 −, 2 ~."
 pub(crate) fn monadic(operator: u16, x: Value) -> Answer<Value> {
     match (operator, x) {
         (1, Value::Integer(x)) => in_range(-i64::from(x)),
         (1, Value::Set(x)) => Ok(Value::Set(!x)),
         (2, Value::Boolean(x)) => Ok(Value::Boolean(!x)),
-        (3, Value::Char(x)) => Ok(Value::Integer(i32::from(x))),
-        (4, Value::Integer(x)) => u8::try_from(x).map_or_else(|_| trapped(trap::OVERFLOW), |x| Ok(Value::Char(x))),
         _ => stuck(|| format!("no rule for monadic operator {operator} on {x:?}")),
-    }
-}
-
-/// "9 <, 10 <=, 11 >, 12 >="
-fn ordered<T: Ord>(operator: u16, x: T, y: T) -> bool {
-    match operator {
-        9 => x < y,
-        10 => x <= y,
-        11 => x > y,
-        _ => x >= y,
     }
 }
 

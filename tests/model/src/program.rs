@@ -37,7 +37,6 @@ pub const LINKS: usize = 3;
 /// An image that the check accepts: its tables, and what follows from them. Each row that it is asked about exists.
 #[derive(Clone, Debug)]
 pub struct Program {
-    pub version: u8,
     pub types: Vec<Row>,
     pub fields: Vec<Row>,
     pub variables: Vec<Row>,
@@ -60,9 +59,8 @@ pub struct Program {
 
 impl Program {
     pub(crate) fn new(tables: Tables) -> Program {
-        let Tables { version, types, fields, variables, procedures, nodes, statements } = tables;
+        let Tables { types, fields, variables, procedures, nodes, statements } = tables;
         Program {
-            version,
             types,
             fields,
             variables,

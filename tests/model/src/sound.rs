@@ -262,7 +262,6 @@ fn cell(state: &State, address: usize, kind: Kind) -> Result<i64, Fault> {
         Kind::Boolean => &rules::BOOLEAN_RANGE,
         Kind::Integer => &rules::INTEGER_RANGE,
         Kind::Set => &rules::SET_RANGE,
-        Kind::Char => &rules::CHAR_RANGE,
         Kind::Link => &rules::LINK_RANGE,
         Kind::Address => &rules::ADDRESS_RANGE,
         Kind::Type => &rules::TYPE_RANGE,

@@ -2,43 +2,24 @@
 
 use crate::image::Row;
 use crate::program::Program;
-use crate::words::counted;
+use crate::words::{counted, type_row};
 use crate::{ask, rules, Fault};
 
-/// The scalar types' rows.
+/// The scalar types' rows, and their kinds.
 pub const BOOLEAN: usize = 0;
 pub const INTEGER: usize = 1;
 pub const SET: usize = 2;
-pub const CHAR: usize = 3;
-
-/// "Rows 0, 1, 2 are kinds 0 BOOLEAN, 1 INTEGER, 2 SET. In version 2, type row 3 is kind 5, CHAR": of each scalar type
-/// its row's kind and its cell's.
-const SCALARS: [(u8, Kind); 4] = [(0, Kind::Boolean), (1, Kind::Integer), (2, Kind::Set), (5, Kind::Char)];
-
-/// How many scalar types a version has. They are the first rows: "types (3 to 64, in version 2 at least 4)".
-pub(crate) fn scalar_types(version: u8) -> usize {
-    match version {
-        1 => CHAR,
-        _ => SCALARS.len(),
-    }
-}
-
-/// The kind of a scalar type's cell.
-pub(crate) fn scalar_kind(t: usize) -> Kind {
-    SCALARS[t].1
-}
 
 /// Kinds of later type rows.
 pub const ARRAY: u8 = 3;
 pub const RECORD: u8 = 4;
 
-/// "A cell is a kind (BOOLEAN, INTEGER, SET, CHAR, link, address, type) and a number".
+/// "A cell is a kind (BOOLEAN, INTEGER, SET, link, address, type) and a number".
 #[derive(Clone, Copy, Debug, PartialEq, Eq)]
 pub enum Kind {
     Boolean,
     Integer,
     Set,
-    Char,
     Link,
     Address,
     Type,
@@ -76,7 +57,7 @@ impl Program {
     }
 
     pub fn is_scalar(&self, t: usize) -> bool {
-        t < scalar_types(self.version)
+        t <= SET
     }
 
     pub fn is_array(&self, t: usize) -> bool {
@@ -107,10 +88,10 @@ pub(crate) fn question_4(program: &mut Program) -> Result<(), Fault> {
     for t in 0..program.types.len() {
         let row = program.types[t];
         ask(row.zero == 0, &rules::TYPE_ZERO_BYTE, t, || format!("type {t} has the second byte {}", row.zero))?;
-        let shape = match row.kind {
-            _ if program.is_scalar(t) => scalar(t, &row)?,
-            ARRAY => array(program, t, &row)?,
-            RECORD => record(program, t, &row, &mut unused_field)?,
+        let shape = match (t, row.kind) {
+            (BOOLEAN..=SET, _) => scalar(t, &row)?,
+            (_, ARRAY) => array(program, t, &row)?,
+            (_, RECORD) => record(program, t, &row, &mut unused_field)?,
             _ => return ask(false, &rules::LATER_TYPE, t, || format!("type {t} is of kind {}", row.kind)),
         };
         program.shapes.push(shape);
@@ -121,18 +102,18 @@ pub(crate) fn question_4(program: &mut Program) -> Result<(), Fault> {
     })
 }
 
-/// "A number without a use below is 0." A scalar type's row has its kind, and no use for its numbers.
+/// "Rows 0, 1, 2 are kinds 0 BOOLEAN, 1 INTEGER, 2 SET."
 fn scalar(t: usize, row: &Row) -> Result<Shape, Fault> {
-    let (kind, of_cell) = SCALARS[t];
-    let (of_kind, unused) = match t {
-        CHAR => (&rules::CHAR_ROW, &rules::CHAR_UNUSED),
-        _ => (&rules::SCALAR_ROW, &rules::SCALAR_UNUSED),
-    };
-    ask(row.kind == kind, of_kind, t, || format!("type {t} is of kind {}", row.kind))?;
-    ask((row.a, row.b, row.c) == (0, 0, 0), unused, t, || {
+    ask(usize::from(row.kind) == t, &rules::SCALAR_ROW, t, || format!("type {t} is of kind {}", row.kind))?;
+    ask((row.a, row.b, row.c) == (0, 0, 0), &rules::SCALAR_UNUSED, t, || {
         format!("type {t} has a {}, b {}, c {}", row.a, row.b, row.c)
     })?;
-    Ok(Shape { size: 1, layout: vec![of_cell], fields: Vec::new() })
+    let kind = match t {
+        BOOLEAN => Kind::Boolean,
+        INTEGER => Kind::Integer,
+        _ => Kind::Set,
+    };
+    Ok(Shape { size: 1, layout: vec![kind], fields: Vec::new() })
 }
 
 /// "kind 3, array (a element type, b length 1 to 4,096)"; "element and field types stand in lower rows".
@@ -152,7 +133,7 @@ fn record(program: &Program, t: usize, row: &Row, unused_field: &mut usize) -> R
     if let Some(base) = row.a().checked_sub(1) {
         ask(base < t, &rules::BASE_LOWER, t, || format!("type {t} has base {base}"))?;
         ask(program.is_record(base), &rules::BASE_RECORD, t, || {
-            format!("type {t} has base {}, which is no record", program.type_row(base))
+            format!("type {t} has base {}, which is no record", type_row(base))
         })?;
         shape = program.shapes[base].clone();
     }

@@ -2,8 +2,8 @@
 
 use crate::image::Row;
 use crate::program::*;
-use crate::types::{BOOLEAN, CHAR, INTEGER, SET};
-use crate::words::{counted, dyadic_operator, monadic_operator, node_kind, variable_kind};
+use crate::types::{BOOLEAN, INTEGER, SET};
+use crate::words::{counted, dyadic_operator, monadic_operator, node_kind, type_row, variable_kind};
 use crate::{ask, rules, Fault};
 
 /// "Has each node a type?"
@@ -34,7 +34,7 @@ fn node_type(program: &Program, n: usize, row: &Row) -> Result<usize, Fault> {
 fn field_type(program: &Program, n: usize, row: &Row) -> Result<usize, Fault> {
     let of = program.type_of(row.a());
     ask(program.is_record(of), &rules::FIELD_OF_RECORD, n, || {
-        format!("node {n} is a field of node {}, whose type {} is no record", row.a, program.type_row(of))
+        format!("node {n} is a field of node {}, whose type {} is no record", row.a, type_row(of))
     })?;
     let fields = program.fields_of(of);
     ask(row.b() < fields.len(), &rules::FIELD_EXISTS, n, || {
@@ -47,10 +47,10 @@ fn field_type(program: &Program, n: usize, row: &Row) -> Result<usize, Fault> {
 fn element_type(program: &Program, n: usize, row: &Row) -> Result<usize, Fault> {
     let (of, index) = (program.type_of(row.a()), program.type_of(row.b()));
     ask(program.is_array(of), &rules::ELEMENT_OF_ARRAY, n, || {
-        format!("node {n} is an element of node {}, whose type {} is no array", row.a, program.type_row(of))
+        format!("node {n} is an element of node {}, whose type {} is no array", row.a, type_row(of))
     })?;
     ask(index == INTEGER, &rules::INDEX_INTEGER, n, || {
-        format!("node {n} has the index node {}, whose type is {}", row.b, program.type_row(index))
+        format!("node {n} has the index node {}, whose type is {}", row.b, type_row(index))
     })?;
     Ok(program.types[of].a())
 }
@@ -62,53 +62,49 @@ fn ask_guarded(program: &Program, n: usize, row: &Row) -> Result<(), Fault> {
         format!("node {n} names variable {}, which is of kind {}", row.a, variable_kind(variable.kind))
     })?;
     ask(program.is_record(variable.a()), &rules::GUARDED_RECORD, n, || {
-        format!("node {n} names variable {}, whose type {} is no record", row.a, program.type_row(variable.a()))
+        format!("node {n} names variable {}, whose type {} is no record", row.a, type_row(variable.a()))
     })?;
     ask(program.extends(row.b(), variable.a()), &rules::GUARD_EXTENDS, n, || {
-        let named = program.type_row(row.b());
+        let named = type_row(row.b());
         format!("node {n} names type {named}, which does not extend variable {}'s type {}", row.a, variable.a)
     })
 }
 
-/// "Operators 1 to 5 take INTEGER; 1, 2, 3, 6 also SET .. 7, 8 take two of one scalar type; 9 to 12 two INTEGERs or
-/// two CHARs; 13, 14, ~ BOOLEAN. IN takes INTEGER, SET; range takes INTEGER twice and yields SET."
+/// "Operators 1 to 5 take INTEGER; 1, 2, 3, 6 also SET .. 7, 8 take two of one scalar type; 9 to 12 INTEGER; 13, 14, ~
+/// BOOLEAN. IN takes INTEGER, SET; range takes INTEGER twice and yields SET."
 fn dyadic_type(program: &Program, n: usize, row: &Row) -> Result<usize, Fault> {
     let (x, y) = (program.type_of(row.a()), program.type_of(row.b()));
     let integers = (x, y) == (INTEGER, INTEGER);
     let sets = (x, y) == (SET, SET);
-    let chars = (x, y) == (CHAR, CHAR) && program.is_scalar(CHAR);
     let (good, rule, yields) = match row.c {
         1..=3 => (integers || sets, &rules::PLUS_MINUS_TIMES, x),
         4 | 5 => (integers, &rules::DIV_MOD, INTEGER),
         6 => (sets, &rules::SLASH, SET),
         7 | 8 => (x == y && program.is_scalar(x), &rules::EQUALITY, BOOLEAN),
-        9..=12 => (integers || chars, &rules::ORDER, BOOLEAN),
+        9..=12 => (integers, &rules::ORDER, BOOLEAN),
         13 | 14 => ((x, y) == (BOOLEAN, BOOLEAN), &rules::AND_OR, BOOLEAN),
         15 => ((x, y) == (INTEGER, SET), &rules::IN, BOOLEAN),
         _ => (integers, &rules::RANGE, SET),
     };
     ask(good, rule, n, || {
-        let (operator, x, y) = (dyadic_operator(row.c), program.type_row(x), program.type_row(y));
+        let (operator, x, y) = (dyadic_operator(row.c), type_row(x), type_row(y));
         format!("node {n} has operator {operator} with operands of types {x} and {y}")
     })?;
     Ok(yields)
 }
 
-/// "Monadic − takes INTEGER or SET (complement). ORD takes CHAR and yields INTEGER; CHR takes INTEGER and yields CHAR",
-/// "~ BOOLEAN". Where there are ORD and CHR, type row 3 is CHAR.
+/// "Monadic − takes INTEGER or SET (complement)", "~ BOOLEAN".
 fn monadic_type(program: &Program, n: usize, row: &Row) -> Result<usize, Fault> {
     let x = program.type_of(row.a());
-    let (good, rule, yields) = match row.c {
-        1 => (x == INTEGER || x == SET, &rules::MONADIC_MINUS, x),
-        2 => (x == BOOLEAN, &rules::NOT, BOOLEAN),
-        3 => (x == CHAR, &rules::ORD, INTEGER),
-        _ => (x == INTEGER, &rules::CHR, CHAR),
+    let (good, rule) = match row.c {
+        1 => (x == INTEGER || x == SET, &rules::MONADIC_MINUS),
+        _ => (x == BOOLEAN, &rules::NOT),
     };
     ask(good, rule, n, || {
-        let (operator, x) = (monadic_operator(row.c), program.type_row(x));
+        let (operator, x) = (monadic_operator(row.c), type_row(x));
         format!("node {n} has monadic operator {operator} with an operand of type {x}")
     })?;
-    Ok(yields)
+    Ok(x)
 }
 
 /// "Does each statement keep its type and variable rules?"
@@ -150,7 +146,7 @@ fn ask_own_variables(program: &Program, s: usize) -> Result<(), Fault> {
 fn ask_assignment(program: &Program, s: usize, row: &Row) -> Result<(), Fault> {
     let (target, source) = (program.type_of(row.a()), program.type_of(row.b()));
     ask(program.extends(source, target), &rules::ASSIGNED_TYPE, s, || {
-        format!("statement {s} assigns type {} to type {}", program.type_row(source), program.type_row(target))
+        format!("statement {s} assigns type {} to type {}", type_row(source), type_row(target))
     })
 }
 
@@ -166,7 +162,7 @@ fn ask_arguments(program: &Program, s: usize, row: &Row) -> Result<(), Fault> {
         let rule = if by_var { &rules::VAR_ARGUMENT_TYPE } else { &rules::VALUE_ARGUMENT_TYPE };
         let t = program.type_of(n);
         ask(program.extends(t, parameter.a()), rule, s, || {
-            let (t, needed) = (program.type_row(t), program.type_row(parameter.a()));
+            let (t, needed) = (type_row(t), type_row(parameter.a()));
             format!("statement {s} passes node {held} of type {t} to variable {v}, a parameter of type {needed}")
         })?;
     }
@@ -176,7 +172,7 @@ fn ask_arguments(program: &Program, s: usize, row: &Row) -> Result<(), Fault> {
 /// "Condition BOOLEAN; read and write INTEGER".
 fn ask_type(program: &Program, s: usize, row: &Row, needed: usize, rule: &'static rules::Rule) -> Result<(), Fault> {
     let t = program.type_of(row.a());
-    ask(t == needed, rule, s, || format!("statement {s} has node {} of type {}", row.a, program.type_row(t)))
+    ask(t == needed, rule, s, || format!("statement {s} has node {} of type {}", row.a, type_row(t)))
 }
 
 /// "HALT an INTEGER node of kind 0."

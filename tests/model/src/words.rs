@@ -1,14 +1,12 @@
 //! Numbers with their names, and counts: the words of a fault's detail.
 
-use crate::program::Program;
-
-const SCALARS: [&str; 4] = ["BOOLEAN", "INTEGER", "SET", "CHAR"];
+const SCALARS: [&str; 3] = ["BOOLEAN", "INTEGER", "SET"];
 const VARIABLES: [&str; 4] = ["global", "local", "value parameter", "VAR parameter"];
 const NODES: [&str; 9] =
     ["constant", "variable", "field", "element", "guard", "dyadic", "monadic", "type test", "argument"];
 const STATEMENTS: [&str; 8] = ["assign", "call", "jump if FALSE", "jump", "RETURN", "read", "write", "HALT"];
 const DYADIC: [&str; 16] = ["+", "-", "*", "DIV", "MOD", "/", "=", "#", "<", "<=", ">", ">=", "&", "OR", "IN", ".."];
-const MONADIC: [&str; 4] = ["-", "~", "ORD", "CHR"];
+const MONADIC: [&str; 2] = ["-", "~"];
 
 /// "1 row", "2 rows".
 pub fn counted(count: usize, noun: &str) -> String {
@@ -20,11 +18,8 @@ fn named(number: usize, name: Option<&&str>) -> String {
     name.map_or_else(|| number.to_string(), |name| format!("{number} ({name})"))
 }
 
-impl Program {
-    /// A type row, with its name where it is a scalar type.
-    pub(crate) fn type_row(&self, t: usize) -> String {
-        named(t, SCALARS.get(t).filter(|_| self.is_scalar(t)))
-    }
+pub(crate) fn type_row(row: usize) -> String {
+    named(row, SCALARS.get(row))
 }
 
 pub(crate) fn variable_kind(kind: u8) -> String {

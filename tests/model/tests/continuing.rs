@@ -500,9 +500,9 @@ fn each_reason_is_reported() {
         let fault = answer.unwrap_err();
         assert_eq!((fault.rule, fault.refusal, fault.row), (*rule, 14, 0), "{}", fault.detail);
     }
-    // The program has no VAR parameter but of records, and no CHAR.
+    // The program has no VAR parameter but of records.
     let rest = rules::STATE.iter().filter(|rule| !REASONS.iter().any(|(reported, _)| reported == *rule));
-    assert_eq!(rest.collect::<Vec<_>>(), [&&rules::CHAR_RANGE, &&rules::TYPE_SAME]);
+    assert_eq!(rest.collect::<Vec<_>>(), [&&rules::TYPE_SAME]);
 }
 
 /// The numbers of a state whose steps are used up.

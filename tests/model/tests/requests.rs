@@ -127,7 +127,7 @@ fn cases(file: &Path) -> usize {
     let mut calls = 0;
     for (i, line) in lines.iter().enumerate() {
         match line.split_once(' ').unwrap_or((line, "")) {
-            ("level", level) => assert_eq!(level, "6"),
+            ("level", level) => assert_eq!(level, "5"),
             ("image", hex) => image = bytes(hex),
             ("case", name) => {
                 let outside = |line: &&&str| !line.starts_with("case ") && !line.starts_with("image");

@@ -1,13 +1,10 @@
 //! Each rule is the one that some image breaks: one mistake in a good program, and the rule and row reported for it.
 
 mod common;
-#[path = "common/version_2.rs"]
-mod version_2;
 
 use common::{draft, image, row};
 use model::rules::{self, Rule};
 use model::{check, Row, Tables};
-use version_2::draft_2;
 
 /// A program with rows of every kind.
 fn good() -> Tables {
@@ -74,27 +71,6 @@ fn procedure_1(tables: &mut Tables) {
     ]);
 }
 
-/// A program of version 2: global 0 is a CHAR, 1 an INTEGER, 2 of type 4, an array of 5 CHARs.
-fn characters() -> Tables {
-    let mut tables = draft_2(vec![row(0, 0, 2, 0), row(0, 3, 7, 0), row(2, 10, 3, 0), row(4, 0, 0, 0)]);
-    tables.types.push(row(3, 3, 5, 0));
-    tables.variables.extend([row(0, 3, 0, 0), row(0, 1, 0, 0), row(0, 4, 0, 0)]);
-    tables.nodes.extend([
-        row(1, 0, 0, 0),  // 0 variable 0
-        row(1, 1, 0, 0),  // 1 variable 1
-        row(6, 1, 0, 4),  // 2 CHR
-        row(1, 1, 0, 0),  // 3 variable 1
-        row(1, 2, 0, 0),  // 4 variable 2
-        row(0, 1, 0, 4),  // 5 the INTEGER 4
-        row(3, 4, 5, 0),  // 6 element of 4 at 5
-        row(6, 6, 0, 3),  // 7 ORD
-        row(1, 0, 0, 0),  // 8 variable 0
-        row(0, 3, 0, 65), // 9 the CHAR 65
-        row(5, 8, 9, 9),  // 10 dyadic <
-    ]);
-    tables
-}
-
 const TRUE: Row = Row { kind: 0, zero: 0, a: 0, b: 0, c: 1 };
 
 /// Rules of questions 1 to 3: what is done to the good program's bytes. The row is 0.
@@ -102,7 +78,7 @@ type Damage = (&'static Rule, fn(&mut Vec<u8>));
 
 const BYTES: &[Damage] = &[
     (&rules::FIRST_BYTE, |image| image.clear()),
-    (&rules::VERSION, |image| image[0] = 3),
+    (&rules::VERSION, |image| image[0] = 2),
     (&rules::LENGTH_PRESENT, |image| image.truncate(4)),
     (&rules::LENGTH, |image| image.truncate(100)),
     (&rules::COUNT_PRESENT, |image| recount(image, 6)),
@@ -133,7 +109,6 @@ const TYPES: &[Mistake] = &[
     (&rules::SCALAR_ROW, 1, |t| t.types[1].kind = 2),
     (&rules::SCALAR_UNUSED, 2, |t| t.types[2].c = 1),
     (&rules::LATER_TYPE, 6, |t| t.types[6].kind = 0),
-    (&rules::LATER_TYPE, 3, |t| t.types[3] = row(5, 0, 0, 0)),
     (&rules::ARRAY_UNUSED, 5, |t| t.types[5].c = 1),
     (&rules::ELEMENT_TYPE, 5, |t| t.types[5].a = 5),
     (&rules::ARRAY_LENGTH, 5, |t| t.types[5].b = 0),
@@ -181,8 +156,6 @@ const NODES: &[Mistake] = &[
     (&rules::PART_OF_DESIGNATOR, 6, |t| t.nodes[6].a = 5),
     (&rules::DYADIC_OPERATOR, 21, |t| t.nodes[21].c = 17),
     (&rules::MONADIC_OPERATOR, 19, |t| t.nodes[19].c = 0),
-    (&rules::MONADIC_OPERATOR, 19, |t| t.nodes[19].c = 3),
-    (&rules::MONADIC_OPERATOR, 19, |t| t.nodes[19].c = 4),
     (&rules::NAMED_NEVER, 22, |t| t.nodes.push(TRUE)),
     (&rules::NAMED_TWICE, 18, |t| t.nodes[21].a = 18),
 ];
@@ -233,27 +206,6 @@ const TYPE_RULES: &[Mistake] = &[
     (&rules::HALT_TYPE, 5, |t| t.nodes[12].a = 2),
 ];
 
-/// In the program of version 2.
-const CHARACTERS: &[Mistake] = &[
-    (&rules::TYPE_COUNT, 0, |t| t.types.truncate(3)),
-    (&rules::CHAR_ROW, 3, |t| t.types[3] = row(3, 1, 5, 0)),
-    (&rules::CHAR_ROW, 3, |t| t.types[3] = row(4, 0, 0, 0)),
-    (&rules::CHAR_UNUSED, 3, |t| t.types[3].b = 1),
-    (&rules::TYPE_ZERO_BYTE, 3, |t| t.types[3].zero = 1),
-    (&rules::LATER_TYPE, 4, |t| t.types[4] = row(5, 0, 0, 0)),
-    (&rules::BASE_RECORD, 4, |t| t.types[4] = row(4, 4, 0, 0)),
-    (&rules::CONSTANT_TYPE, 9, |t| t.nodes[9].a = 4),
-    (&rules::CHAR_CONSTANT, 9, |t| t.nodes[9].c = 256),
-    (&rules::CHAR_CONSTANT, 9, |t| t.nodes[9].b = 1),
-    (&rules::MONADIC_OPERATOR, 7, |t| t.nodes[7].c = 5),
-    (&rules::INDEX_INTEGER, 6, |t| t.nodes[5] = row(0, 3, 0, 4)),
-    (&rules::EQUALITY, 10, |t| (t.nodes[9].a, t.nodes[10].c) = (1, 7)),
-    (&rules::ORDER, 10, |t| t.nodes[9].a = 1),
-    (&rules::ORD, 7, |t| t.types[4].a = 1),
-    (&rules::CHR, 2, |t| t.nodes[1].a = 0),
-    (&rules::ASSIGNED_TYPE, 0, |t| t.nodes[0].a = 1),
-];
-
 /// Every mistake as an image, with the rule and the row that it stands for.
 fn mistakes() -> Vec<(&'static Rule, u32, Vec<u8>)> {
     let mut all = Vec::new();
@@ -262,10 +214,8 @@ fn mistakes() -> Vec<(&'static Rule, u32, Vec<u8>)> {
         damage(&mut bytes);
         all.push((*rule, 0, bytes));
     }
-    let mistakes = [COUNTS, TYPES, VARIABLES_AND_PROCEDURES, NODES, STATEMENTS, TYPE_RULES].concat();
-    let in_good = mistakes.into_iter().map(|mistake| (mistake, good()));
-    let in_characters = CHARACTERS.iter().map(|mistake| (*mistake, characters()));
-    for ((rule, row, mistake), mut tables) in in_good.chain(in_characters) {
+    for (rule, row, mistake) in [COUNTS, TYPES, VARIABLES_AND_PROCEDURES, NODES, STATEMENTS, TYPE_RULES].concat() {
+        let mut tables = good();
         mistake(&mut tables);
         all.push((rule, row, image(&tables)));
     }
@@ -280,14 +230,6 @@ fn the_good_program_is_accepted_and_runs() {
     assert_eq!((answer.refusal, answer.outcome, answer.row, answer.steps), (0, 0, 12, 100));
     assert_eq!((answer.read, answer.written), (1, 1));
     assert_eq!(store[..8], [7, 0, 0, 9 * 65536 + 9, 0, 0, 0, 11]);
-}
-
-#[test]
-fn the_characters_are_accepted_and_run() {
-    let mut store = [-1; 10];
-    let answer = model::run(&image(&characters()), &[], &mut store, &mut [], 100).unwrap();
-    assert_eq!((answer.refusal, answer.outcome, answer.row, answer.steps), (0, 1, 3, 4));
-    assert_eq!(store, [0; 10]);
 }
 
 #[test]
@@ -307,8 +249,6 @@ fn details_name_what_they_number() {
         (&rules::BODY_END, "statement 11 is the last of its body and of kind 1 (call)"),
         (&rules::GUARDED_PARAMETER, "node 14 names variable 2, which is of kind 0 (global)"),
         (&rules::ORDER, "node 21 has operator 12 (>=) with operands of types 1 (INTEGER) and 0 (BOOLEAN)"),
-        (&rules::CHAR_CONSTANT, "node 9 is a constant of type 3 (CHAR) with b 0, c 256"),
-        (&rules::ORD, "node 7 has monadic operator 3 (ORD) with an operand of type 1 (INTEGER)"),
         (&rules::NOT, "node 19 has monadic operator 2 (~) with an operand of type 1 (INTEGER)"),
     ];
     for (rule, detail) in details {
@@ -331,22 +271,20 @@ fn rules_stand_in_the_order_of_the_questions() {
 }
 
 fn table(tables: &mut Tables, at: usize) -> &mut Vec<Row> {
-    let Tables { types, fields, variables, procedures, nodes, statements, .. } = tables;
+    let Tables { types, fields, variables, procedures, nodes, statements } = tables;
     [types, fields, variables, procedures, nodes, statements].into_iter().nth(at).unwrap()
 }
 
 #[test]
 fn counts_at_their_ends() {
-    for (program, least_types) in [(good(), 3), (characters(), 4)] {
-        let counts = [(least_types, 64), (0usize, 256), (0, 256), (1, 64), (0, 2048), (1, 1024)];
-        for (at, (least, most)) in counts.into_iter().enumerate() {
-            for count in [least, most, most + 1].into_iter().chain(least.checked_sub(1)) {
-                let mut tables = program.clone();
-                table(&mut tables, at).resize(count, row(0, 0, 0, 0));
-                let expected = if (least..=most).contains(&count) { Ok(tables.clone()) } else { Err(3) };
-                let answer = model::tables(&image(&tables)).map_err(|fault| fault.refusal);
-                assert_eq!(answer, expected, "table {at}, {count} rows");
-            }
+    let counts = [(3usize, 64), (0, 256), (0, 256), (1, 64), (0, 2048), (1, 1024)];
+    for (at, (least, most)) in counts.into_iter().enumerate() {
+        for count in [least, most, most + 1].into_iter().chain(least.checked_sub(1)) {
+            let mut tables = good();
+            table(&mut tables, at).resize(count, row(0, 0, 0, 0));
+            let expected = if (least..=most).contains(&count) { Ok(tables.clone()) } else { Err(3) };
+            let answer = model::tables(&image(&tables)).map_err(|fault| fault.refusal);
+            assert_eq!(answer, expected, "table {at}, {count} rows");
         }
     }
 }
@@ -354,7 +292,7 @@ fn counts_at_their_ends() {
 /// The numbers that a row of a table has no use for, by its kind.
 fn unused(table: usize, kind: u8) -> &'static str {
     match (table, kind) {
-        (0, 0..=2 | 5) => "abc",
+        (0, 0..=2) => "abc",
         (0, 3) => "c",
         (1 | 2, _) => "bc",
         (4, 1 | 8) => "bc",
@@ -379,11 +317,11 @@ fn set(row: &mut Row, number: char) {
 
 #[test]
 fn zero_bytes_and_unused_numbers_are_0() {
-    for (at, question, program) in (0..12).map(|i| (i % 6, [4, 4, 5, 6, 7, 8][i % 6], [good, characters][i / 6])) {
-        for r in 0..table(&mut program(), at).len() {
-            let kind = table(&mut program(), at)[r].kind;
+    for (at, question) in [4, 4, 5, 6, 7, 8].into_iter().enumerate() {
+        for r in 0..table(&mut good(), at).len() {
+            let kind = table(&mut good(), at)[r].kind;
             for number in unused(at, kind).chars().chain(['0']) {
-                let mut tables = program();
+                let mut tables = good();
                 set(&mut table(&mut tables, at)[r], number);
                 let fault = check(&image(&tables)).unwrap_err();
                 // a field's faults are those of the record that claims it: fields 0 and 1 are those of types 3 and 4
@@ -394,32 +332,29 @@ fn zero_bytes_and_unused_numbers_are_0() {
     }
 }
 
-/// What the check answers of `z := operand`: globals of types BOOLEAN, INTEGER, SET, in version 2 CHAR, a record, an
-/// array; z of type `target`. The operands are nodes 0 and 1, or node 0 alone.
-fn operator(version: u8, operands: &[u16], operation: Row, target: u16) -> (u32, u32) {
+/// What the check answers of `z := operand`: globals 0 to 4 of types BOOLEAN, INTEGER, SET, a record, an array; z of
+/// type `target`. The operands are nodes 0 and 1, or node 0 alone.
+fn operator(operands: &[u16], operation: Row, target: u16) -> (u32, u32) {
     let n = operands.len() as u16;
-    let make = if version == 1 { draft } else { draft_2 };
-    let mut tables = make(vec![row(0, n + 1, n, 0), row(4, 0, 0, 0)]);
+    let mut tables = draft(vec![row(0, n + 1, n, 0), row(4, 0, 0, 0)]);
     tables.types.extend([row(4, 0, 0, 0), row(3, 1, 2, 0)]);
-    tables.variables.extend((0..tables.types.len() as u16).map(|t| row(0, t, 0, 0)));
+    tables.variables.extend((0..5).map(|t| row(0, t, 0, 0)));
     tables.nodes.extend(operands.iter().map(|v| row(1, *v, 0, 0)));
     tables.nodes.extend([operation, row(1, target, 0, 0)]);
     check(&image(&tables)).map_or_else(|fault| (fault.refusal, fault.row), |_| (0, 0))
 }
 
-const B: u16 = 0;
-const I: u16 = 1;
-const S: u16 = 2;
-const C: u16 = 3;
-
 /// Of each operator the types that it takes and the one that it yields.
 fn yields(operator: u16, x: u16, y: u16) -> Option<u16> {
+    const B: u16 = 0;
+    const I: u16 = 1;
+    const S: u16 = 2;
     let takes: &[(u16, u16, u16)] = match operator {
         1..=3 => &[(I, I, I), (S, S, S)],
         4 | 5 => &[(I, I, I)],
         6 => &[(S, S, S)],
-        7 | 8 => &[(B, B, B), (I, I, B), (S, S, B), (C, C, B)],
-        9..=12 => &[(I, I, B), (C, C, B)],
+        7 | 8 => &[(B, B, B), (I, I, B), (S, S, B)],
+        9..=12 => &[(I, I, B)],
         13 | 14 => &[(B, B, B)],
         15 => &[(I, S, B)],
         _ => &[(I, I, S)],
@@ -427,42 +362,24 @@ fn yields(operator: u16, x: u16, y: u16) -> Option<u16> {
     takes.iter().find(|taken| (taken.0, taken.1) == (x, y)).map(|taken| taken.2)
 }
 
-/// Every answer where the types are x, y and the target's: node `n` has no type, or the target another one.
-fn expected(yields: Option<u16>, target: u16, n: u32) -> (u32, u32) {
-    match yields {
-        None => (10, n),
-        Some(t) if t == target => (0, 0),
-        Some(_) => (11, 0),
-    }
-}
-
-/// In version 1 type 3 is the record.
 #[test]
 fn operators_take_and_yield_their_types() {
-    for (version, types) in [(1, 5), (2, 6)] {
-        for (x, y, target) in (0..types * types * types).map(|i| (i / types / types, i / types % types, i % types)) {
-            for c in 1..=16 {
-                let yields = yields(c, x, y).filter(|_| version == 2 || x != C);
-                let answer = operator(version, &[x, y], row(5, 0, 1, c), target);
-                assert_eq!(answer, expected(yields, target, 2), "version {version}: {x} {c} {y}");
-            }
+    for c in 1..=16 {
+        for (x, y, target) in (0..125).map(|i| (i / 25, i / 5 % 5, i % 5)) {
+            let expected = match yields(c, x, y) {
+                None => (10, 2),
+                Some(t) if t == target => (0, 0),
+                Some(_) => (11, 0),
+            };
+            assert_eq!(operator(&[x, y], row(5, 0, 1, c), target), expected, "{x} {c} {y}");
         }
     }
-}
-
-#[test]
-fn monadic_operators_take_and_yield_their_types() {
-    for (version, operators, types) in [(1, 2, 5), (2, 4, 6)] {
-        for (c, x, target) in (0..6 * types * types).map(|i| (i / types / types, i / types % types, i % types)) {
-            let yields = match (c, x) {
-                (1, I | S) => Some(x),
-                (2, B) => Some(B),
-                (3, C) => Some(I),
-                (4, I) => Some(C),
-                _ => None,
-            };
-            let expected = if (1..=operators).contains(&c) { expected(yields, target, 1) } else { (7, 1) };
-            assert_eq!(operator(version, &[x], row(6, 0, 0, c), target), expected, "version {version}: {c} {x}");
-        }
+    for (c, x, target) in (0..50).map(|i| (i / 25 + 1, i / 5 % 5, i % 5)) {
+        let expected = match (c, x) {
+            (1, 1 | 2) | (2, 0) if x == target => (0, 0),
+            (1, 1 | 2) | (2, 0) => (11, 0),
+            _ => (10, 1),
+        };
+        assert_eq!(operator(&[x], row(6, 0, 0, c), target), expected, "monadic {c} {x}");
     }
 }

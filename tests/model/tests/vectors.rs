@@ -75,11 +75,6 @@ fn division_images() {
 }
 
 #[test]
-fn characters() {
-    doorrun_folder("characters");
-}
-
-#[test]
 fn types() {
     doorrun_folder("types");
 }

@@ -35,8 +35,8 @@ impl Good {
     fn difference(&self, image: &[u8], tables: Option<&Tables>) -> String {
         let short = self.in_short(image);
         let Some(first) = first_difference(image, &self.image) else { return short };
-        let rows = tables.zip(self.tables.as_ref());
-        let rows = rows.map_or_else(String::new, |(tables, good)| format!(" in {}", difference_in_words(tables, good)));
+        let rows = tables.zip(self.tables.as_ref()).map(|(tables, good)| differing(tables, good));
+        let rows = rows.map_or_else(String::new, |rows| format!(" in {}", rows_in_words(rows)));
         let lengths = match (image.len(), self.image.len()) {
             (here, there) if here == there => String::new(),
             (here, there) => format!("; {}, there {there}", counted(here, "byte")),
@@ -47,12 +47,10 @@ impl Good {
     }
 }
 
-/// What is not the same in both: the version, and rows of each table, without the tables that have none.
-pub fn difference_in_words(tables: &Tables, others: &Tables) -> String {
-    let version = (tables.version != others.version).then(|| "the version".to_string());
-    let rows = differing(tables, others).into_iter().zip(NAMES).filter(|(count, _)| *count > 0);
-    let rows = rows.map(|(count, name)| counted(count, &format!("{name} row")));
-    let words: Vec<String> = version.into_iter().chain(rows).collect();
+/// The rows of each table, without the tables that have none.
+pub fn rows_in_words(rows: [usize; 6]) -> String {
+    let rows = rows.iter().zip(NAMES).filter(|(count, _)| **count > 0);
+    let words: Vec<String> = rows.map(|(count, name)| counted(*count, &format!("{name} row"))).collect();
     words.join(", ")
 }
 

@@ -4,8 +4,8 @@ use crate::line::{Line, Sign};
 use crate::statement::{below, statement, statement_words, Named};
 use crate::text::{leading, led, node_line, Text};
 use listing::{
-    children, fields_before, named, row_line, row_text, scalars, Names, Row, Tables, FIELDS, KINDS_OF_SCALARS,
-    KINDS_OF_VARIABLES, NODES, PROCEDURES, ROWS, STATEMENTS, TYPES, VARIABLES,
+    children, fields_before, named, row_line, row_text, Names, Row, Tables, FIELDS, KINDS_OF_VARIABLES, NODES,
+    PROCEDURES, ROWS, STATEMENTS, TYPES, VARIABLES,
 };
 use model::words::counted;
 use model::Program;
@@ -154,7 +154,7 @@ impl Dump<'_> {
     /// A row here, where the line above does not say it, and in the good image.
     fn difference(&mut self, Mark { table, row }: Mark, above: &str) {
         let indent = " ".repeat(above.len() - above.trim_start().len() + 4);
-        let here = row_line(self.tables, table, row);
+        let here = row_line(table, row, self.tables[table][row]);
         if above.trim() != here {
             self.lines.push(Line::new(&format!("{indent}here: {here}")));
         }
@@ -173,9 +173,10 @@ impl Dump<'_> {
     }
 
     fn types(&mut self) {
-        let hidden = |at: usize| is_scalar(self.tables, at) && !self.is_wanted(Mark { table: TYPES, row: at });
+        let hidden =
+            |at: usize, row: Row| at < 3 && is_scalar(at, row) && !self.is_wanted(Mark { table: TYPES, row: at });
         let rows = self.tables[TYPES].iter().copied().enumerate();
-        let rows: Vec<(usize, Row)> = rows.filter(|(at, _)| !hidden(*at)).collect();
+        let rows: Vec<(usize, Row)> = rows.filter(|(at, row)| !hidden(*at, *row)).collect();
         if !rows.is_empty() {
             self.heading("TYPE");
         }
@@ -195,16 +196,16 @@ impl Dump<'_> {
 
     fn type_text(&mut self, at: usize, row: Row) -> String {
         match row.kind {
-            3 if row_text(self.tables, TYPES, at).is_some() => {
+            3 if row_text(TYPES, at, row).is_some() => {
                 format!("{} = ARRAY {} OF {}", self.names.declared_type(at), row.b, self.type_name(row.a as usize))
             }
             4 if row.zero == 0 => self.record_text(at, row),
-            _ => row_line(self.tables, TYPES, at),
+            _ => row_line(TYPES, at, row),
         }
     }
 
     fn type_name(&self, row: usize) -> String {
-        self.names.type_row(self.tables, row)
+        self.names.type_row(row)
     }
 
     /// The field rows that a record claims, as far as these are there.
@@ -233,9 +234,9 @@ impl Dump<'_> {
 
     fn field_text(&self, at: usize) -> String {
         let row = self.tables[FIELDS][at];
-        match row_text(self.tables, FIELDS, at) {
+        match row_text(FIELDS, at, row) {
             Some(_) => self.type_name(row.a as usize),
-            None => format!("({})", row_line(self.tables, FIELDS, at)),
+            None => format!("({})", row_line(FIELDS, at, row)),
         }
     }
 
@@ -253,8 +254,8 @@ impl Dump<'_> {
         let row = self.tables[VARIABLES][at];
         let number = if self.wanted.image.is_shared(at) { format!(" (v{at})") } else { String::new() };
         let declared = format!("{}{number}: {}", self.names.variable(at), self.type_name(row.a as usize));
-        let text = match (row_text(self.tables, VARIABLES, at), row.kind) {
-            (None, _) => row_line(self.tables, VARIABLES, at),
+        let text = match (row_text(VARIABLES, at, row), row.kind) {
+            (None, _) => row_line(VARIABLES, at, row),
             (Some(_), 0) => declared,
             (Some(_), kind) => format!("{} {declared}", KINDS_OF_VARIABLES[kind as usize]),
         };
@@ -290,8 +291,8 @@ impl Dump<'_> {
         let module = if at == 0 { ", the module body" } else { "" };
         let from =
             if start == next_statement && start < end { String::new() } else { format!(", from statement {start}") };
-        let text = match row_text(self.tables, PROCEDURES, at) {
-            None => row_line(self.tables, PROCEDURES, at),
+        let text = match row_text(PROCEDURES, at, row) {
+            None => row_line(PROCEDURES, at, row),
             Some(_) => format!("PROCEDURE {}{module}{from}", self.names.procedure(at)),
         };
         self.lines.push(Line::new(""));
@@ -347,7 +348,7 @@ impl Dump<'_> {
 
     /// The line of a node, with its name where it has one.
     fn node(&mut self, at: usize, indent: &str) {
-        let mut text = Text::of(indent).then(node_line(self.tables, at));
+        let mut text = Text::of(indent).then(node_line(at, self.tables[NODES][at]));
         if let Some(name) = self.names.of(NODES, at) {
             text.push(&format!("  -- {name}"), None);
         }
@@ -366,7 +367,7 @@ impl Dump<'_> {
         for at in rest {
             match table {
                 NODES => self.node(at, "  "),
-                _ => self.line(table, at, Text::of(&format!("  {}", row_line(self.tables, table, at)))),
+                _ => self.line(table, at, Text::of(&format!("  {}", row_line(table, at, self.tables[table][at])))),
             }
         }
     }
@@ -390,10 +391,8 @@ impl Dump<'_> {
 
 /// A row of the good image as a line of a listing; a statement also in words, where these say more.
 fn good_line(good: Named, table: usize, row: usize) -> String {
-    if row >= good.tables[table].len() {
-        return format!("has no {} row {row}", NAMES[table]);
-    }
-    let line = row_line(good.tables, table, row);
+    let Some(there) = good.tables[table].get(row) else { return format!("has no {} row {row}", NAMES[table]) };
+    let line = row_line(table, row, *there);
     let words = (table == STATEMENTS).then(|| statement(good.tables, good.names, row));
     match words.filter(|words| !line.ends_with(words)) {
         Some(words) => format!("{line}  -- {words}"),
@@ -401,10 +400,9 @@ fn good_line(good: Named, table: usize, row: usize) -> String {
     }
 }
 
-/// Whether a type row is the one that a scalar type is to have.
-fn is_scalar(tables: &Tables, at: usize) -> bool {
-    let scalars = &KINDS_OF_SCALARS[..scalars(tables.version).len()];
-    scalars.get(at).is_some_and(|kind| tables[TYPES][at] == Row { kind: *kind, zero: 0, a: 0, b: 0, c: 0 })
+/// Whether a type row is what rows 0 to 2 are to be.
+fn is_scalar(at: usize, row: Row) -> bool {
+    row == Row { kind: at as u8, zero: 0, a: 0, b: 0, c: 0 }
 }
 
 #[cfg(test)]

@@ -1,6 +1,7 @@
 //! What the bytes of an image without six tables say of it.
 use doordump::dump::NAMES;
 use doordump::line::Line;
+use listing::ROWS;
 
 /// How many bytes are shown.
 const SHOWN: usize = 64;
@@ -24,16 +25,14 @@ pub fn of(image: &[u8]) -> Vec<Line> {
 /// The six counts, as far as there are bytes for them.
 fn counts(image: &[u8], lines: &mut Vec<String>) {
     let mut at = 5;
-    let version = image.first().map_or(1, |version| *version);
-    for (table, name) in NAMES.into_iter().enumerate() {
+    for ((_, least, most), name) in ROWS.into_iter().zip(NAMES) {
         let place = format!("bytes {at} and {}", at + 1);
         let Some(count) = number(image, at, 2) else {
             lines.push(format!("{place}, the count of {name} rows, are not both there"));
             return;
         };
-        let counts = listing::counts(version, table);
-        let range = if counts.contains(&count) { "" } else { ": out of range" };
-        lines.push(format!("{place:<17} {name} rows: {count} ({} to {}{range})", counts.start(), counts.end()));
+        let range = if (least..=most).contains(&count) { "" } else { ": out of range" };
+        lines.push(format!("{place:<17} {name} rows: {count} ({least} to {most}{range})"));
         at += 2 + 8 * count;
     }
     lines.push(format!("the tables end after {at} bytes; the file has {}", image.len()));

@@ -1,6 +1,6 @@
 //! The names that a listing gives the rows of an image.
-use crate::against::difference_in_words;
-use doordump::dump::Mark;
+use crate::against::rows_in_words;
+use doordump::dump::{differing, Mark};
 use listing::{read_listing, Listing, Names, Tables};
 
 /// A listing whose names are to be shown.
@@ -23,15 +23,17 @@ impl Source {
     /// to give these tables, or those of the good image of which this is a damaged copy: then only rows that are the
     /// same have names.
     pub fn names(&self, tables: &Tables, good: Option<&Tables>) -> (Names, String) {
-        let Source { name, listing } = self;
-        if *tables == listing.tables {
-            return (listing.names.clone(), format!("names from {name}"));
+        let rows = differing(tables, &self.listing.tables);
+        match rows.iter().sum::<usize>() {
+            0 => (self.listing.names.clone(), format!("names from {}", self.name)),
+            _ if good == Some(&self.listing.tables) => {
+                (self.names_of_same(tables), format!("names from {}, but for {}", self.name, rows_in_words(rows)))
+            }
+            _ => (
+                Names::default(),
+                format!("no names: {} gives another image, which differs in {}", self.name, rows_in_words(rows)),
+            ),
         }
-        let difference = difference_in_words(tables, &listing.tables);
-        if good == Some(&listing.tables) {
-            return (self.names_of_same(tables), format!("names from {name}, but for {difference}"));
-        }
-        (Names::default(), format!("no names: {name} gives another image, which differs in {difference}"))
     }
 
     /// The names of the rows that are the listing's.

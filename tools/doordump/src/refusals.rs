@@ -21,7 +21,7 @@ pub fn parted(number: u32) -> (u32, u32) {
 
 /// The eleven questions, in document 01's words.
 pub const QUESTIONS: [&str; LAST_OF_FILE as usize] = [
-    "Is there a first byte, and is it 1 or 2?",
+    "Is there a first byte, and is it 1?",
     "Are bytes 1 to 4 present, equal to the image's length?",
     "Are the counts in range, and do the tables fill the image exactly?",
     "Does each type row, with its own fields, keep its rule?",
@@ -57,7 +57,7 @@ pub const CAUSES: [(u32, &str, &str); 7] = [
     (
         1,
         "A wrong or empty file, or one for a newer reader.",
-        "Send the right file. Ask the tool maker for version 1 or 2.",
+        "Send the right file. Ask the tool maker for version 1.",
     ),
     (
         2,

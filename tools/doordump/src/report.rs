@@ -104,14 +104,17 @@ impl Report {
         let (Some(tables), Some(place)) = (tables, self.place()) else { return Vec::new() };
         let Mark { table, row } = place;
         let name = NAMES[table];
-        let rows = tables[table].len();
-        if row >= rows {
-            let none = format!("{name} {row}: this file has no such row; it has {rows}, from 0 on");
-            return vec![Entry::Said("row", none)];
+        match place.row_in(tables) {
+            None => {
+                let rows = tables[table].len();
+                vec![Entry::Said("row", format!("{name} {row}: this file has no such row; it has {rows}, from 0 on"))]
+            }
+            Some(there) => {
+                let mut entries = vec![Entry::Said("there", row_line(table, row, there))];
+                entries.extend(row_entries(tables, place));
+                entries
+            }
         }
-        let mut entries = vec![Entry::Said("there", row_line(tables, table, row))];
-        entries.extend(row_entries(tables, place));
-        entries
     }
 
     fn explained_with(&self, first: Vec<Entry>, row: Vec<Entry>, to_do: Option<&str>) -> Explanation {

@@ -85,7 +85,7 @@ pub fn statement_words(
     at: usize,
 ) -> (String, Vec<usize>) {
     let (tables, row) = (image.tables, image.tables[STATEMENTS][at]);
-    let Some(form) = row_text(tables, STATEMENTS, at) else {
+    let Some(form) = row_text(STATEMENTS, at, row) else {
         return (format!("row {} {} {} {} {}", row.kind, row.zero, row.a, row.b, row.c), Vec::new());
     };
     let in_words = |names: &Names| {

@@ -1,6 +1,6 @@
 //! Text in which the names of rows lead to these rows.
 use crate::dump::Mark;
-use listing::{children, row_line, row_text, Names, Tables, NODES, PROCEDURES, TYPES, VARIABLES};
+use listing::{children, row_line, row_text, Names, Row, Tables, NODES, PROCEDURES, TYPES, VARIABLES};
 
 /// These stand around a name that leads to a row, and between the row and the name. No name has them.
 const BEGIN: char = '\u{1}';
@@ -81,10 +81,9 @@ pub fn leading(tables: &Tables, names: &Names) -> Names {
 }
 
 /// The line of a node by itself, whose children lead to their rows.
-pub fn node_line(tables: &Tables, at: usize) -> Text {
-    let line = row_line(tables, NODES, at);
-    let is_form = row_text(tables, NODES, at).is_some();
-    let mut left = if is_form { children(tables[NODES][at]) } else { Vec::new() };
+pub fn node_line(at: usize, row: Row) -> Text {
+    let line = row_line(NODES, at, row);
+    let mut left = if row_text(NODES, at, row).is_some() { children(row) } else { Vec::new() };
     let mut words: Vec<(&str, Option<Mark>)> = line.split(' ').map(|word| (word, None)).collect();
     // From the right, since the children's numbers come last.
     for (word, to) in words.iter_mut().rev() {

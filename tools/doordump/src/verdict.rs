@@ -8,7 +8,7 @@ use model::{rules, Fault, Program};
 /// What to do about a refusal by question 1, 2, 3, or a later one.
 const TO_DO: [&str; 4] = [
     "This is no image, or one of another version. Send the file again. If it is refused again, \
-     ask its tool maker for an image of version 1 or 2.",
+     ask its tool maker for an image of version 1.",
     "The file was cut off, or something was added to it. Send it again, as bytes and not as text. \
      If it is refused again, send it another way. If that does not help, ask its tool maker.",
     "The length is right and the tables are not. Send the file again. If it is refused again, its \

@@ -1,8 +1,8 @@
 //! Where variables lie: frames by their links, and cells as paths of variables.
 use doordump::statement;
-use listing::{character_words, set_words, Names, Tables};
+use listing::{set_words, Names, Tables};
 use model::program::VAR_PARAMETER;
-use model::types::{BOOLEAN, CHAR, SET};
+use model::types::{BOOLEAN, SET};
 use model::Program;
 use std::ops::Range;
 
@@ -156,11 +156,6 @@ impl Layout<'_> {
         statement::expression(self.tables, self.names, statement, node)
     }
 
-    /// A type where it is used.
-    pub fn type_row(&self, t: usize) -> String {
-        self.names.type_row(self.tables, t)
-    }
-
     /// A statement row with its procedure.
     pub fn place(&self, row: usize) -> String {
         format!("{} row {row}", self.names.procedure(self.program.procedure_at(row)))
@@ -173,7 +168,6 @@ pub fn value_words(t: usize, number: i64) -> String {
         (BOOLEAN, 0) => "FALSE".to_string(),
         (BOOLEAN, 1) => "TRUE".to_string(),
         (SET, _) => u32::try_from(number).map_or_else(|_| number.to_string(), set_words),
-        (CHAR, _) => u8::try_from(number).map_or_else(|_| number.to_string(), character_words),
         _ => number.to_string(),
     }
 }

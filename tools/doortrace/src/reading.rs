@@ -125,7 +125,7 @@ impl Reader<'_> {
 
     /// Target, source, then the target's dynamic type.
     fn assign(&mut self, target: usize, source: usize) -> Answer<()> {
-        let program = self.layout.program;
+        let (program, names) = (self.layout.program, self.layout.names);
         let t = program.type_of(target);
         let object = self.find(target)?;
         self.source(source, t)?;
@@ -133,7 +133,7 @@ impl Reader<'_> {
             return Ok(());
         }
         let is = self.layout.named_object(self.frames, object.address, object.dynamic);
-        let [own, dynamic, assigned] = [t, object.dynamic, program.type_of(source)].map(|t| self.layout.type_row(t));
+        let [own, dynamic, assigned] = [t, object.dynamic, program.type_of(source)].map(|t| names.type_row(t));
         let because =
             format!("it is {is}, of dynamic type {dynamic} and not {own}; what is assigned is of type {assigned}");
         trapped(trap::RECORD_TARGET, Some(target), because)
@@ -203,8 +203,9 @@ impl Reader<'_> {
             return Ok(object);
         }
         let is = self.layout.named_object(self.frames, object.address, object.dynamic);
-        let [dynamic, asked] = [object.dynamic, row.b()].map(|t| self.layout.type_row(t));
-        let variable = self.layout.names.variable(row.a());
+        let names = self.layout.names;
+        let [dynamic, asked] = [object.dynamic, row.b()].map(|t| names.type_row(t));
+        let variable = names.variable(row.a());
         let because = format!("{variable} is {is}, of dynamic type {dynamic}, which does not extend {asked}");
         trapped(trap::GUARD, Some(n), because)
     }
@@ -288,12 +289,7 @@ impl Reader<'_> {
         match row.c {
             1 if self.layout.program.type_of(row.a()) == SET => Ok(!x & i64::from(u32::MAX)),
             1 => in_range(n, -x, || format!("{x} gives {}", -x)),
-            2 => Ok(1 - x),
-            4 if !(0..256).contains(&x) => {
-                trapped(trap::OVERFLOW, Some(n), format!("the number is {x}, a CHAR is 0 to 255"))
-            }
-            3 | 4 => Ok(x),
-            operator => Err(Stop::Stuck(format!("node {n} has monadic operator {operator}"))),
+            _ => Ok(1 - x),
         }
     }
 

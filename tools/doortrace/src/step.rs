@@ -118,8 +118,11 @@ impl Step<'_> {
             Change::Reference { v, first } => {
                 let [address, t] = [store[first], store[first + 1]].map(|number| number as usize);
                 let object = layout.named_object(self.frames, address, t);
-                let of =
-                    if layout.program.is_record(t) { format!(", a {}", layout.type_row(t)) } else { String::new() };
+                let of = if layout.program.is_record(t) {
+                    format!(", a {}", layout.names.type_row(t))
+                } else {
+                    String::new()
+                };
                 format!("{}{} is {object}{of}", layout.names.variable(v), layout.of_frame(v, self.frames.len()))
             }
         }

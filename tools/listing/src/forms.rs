@@ -2,7 +2,7 @@
 use crate::line::Line;
 use crate::symbols::{Symbol, Wrong};
 use crate::VARIABLES;
-use crate::{FIELDS, KINDS_OF_SCALARS, KINDS_OF_VARIABLES, MONADIC, NODES, OPERATORS, PROCEDURES, STATEMENTS, TYPES};
+use crate::{FIELDS, KINDS_OF_VARIABLES, NODES, OPERATORS, PROCEDURES, SCALARS, STATEMENTS, TYPES};
 
 /// A number of a row, as it is written.
 #[derive(Clone, Copy, Debug)]
@@ -74,15 +74,15 @@ pub fn read_numbers<'a>(line: &mut Line<'a>) -> Read<'a> {
 }
 
 fn read_type<'a>(line: &mut Line<'a>) -> Read<'a> {
-    if let Some(scalar) = line.takes_one(line.scalars()) {
-        return Ok(form(KINDS_OF_SCALARS[scalar].into(), 0, 0, 0));
+    if let Some(scalar) = line.takes_one(&SCALARS) {
+        return Ok(form(scalar, 0, 0, 0));
     }
     if line.takes("ARRAY") {
         let length = line.number()?;
         line.take("OF")?;
         return Ok(form(3, line.type_row()?, length, 0));
     }
-    Err(line.expected(&format!("{}, ARRAY, RECORD or row", line.scalars().join(", "))))
+    Err(line.expected("BOOLEAN, INTEGER, SET, ARRAY, RECORD or row"))
 }
 
 /// What follows RECORD.
@@ -137,7 +137,7 @@ fn read_node<'a>(line: &mut Line<'a>) -> Read<'a> {
     if line.is_at_row() {
         return read_dyadic(line);
     }
-    if let Some(scalar) = line.takes_one(line.scalars()) {
+    if let Some(scalar) = line.takes_one(&SCALARS) {
         return read_constant(line, scalar as u16);
     }
     for (word, kind, table) in [("variable", 1, VARIABLES), ("argument", 8, NODES)] {
@@ -145,8 +145,10 @@ fn read_node<'a>(line: &mut Line<'a>) -> Read<'a> {
             return Ok(form(kind, line.row(table)?, 0, 0));
         }
     }
-    if let Some(operator) = line.takes_one(&MONADIC) {
-        return Ok(form(6, line.row(NODES)?, 0, operator as u16 + 1));
+    for (sign, operator) in [("-", 1), ("~", 2)] {
+        if line.takes(sign) {
+            return Ok(form(6, line.row(NODES)?, 0, operator));
+        }
     }
     for (word, kind, before_type) in [("guard", 4, "to"), ("test", 7, "for")] {
         if line.takes(word) {
@@ -183,8 +185,7 @@ fn read_constant<'a>(line: &mut Line<'a>, scalar: u16) -> Read<'a> {
     let value = match scalar {
         0 => read_boolean(line)? as u32,
         1 => read_integer(line)?,
-        2 => read_set(line)?,
-        _ => read_character(line)?,
+        _ => read_set(line)?,
     };
     Ok(form(0, scalar, (value >> 16) as u16, value as u16))
 }
@@ -217,27 +218,6 @@ fn read_set(line: &mut Line) -> Result<u32, Wrong> {
         }
     }
     Ok(set)
-}
-
-/// A character by its sign, its number or both, which must then agree.
-fn read_character(line: &mut Line) -> Result<u32, Wrong> {
-    let Some(sign) = line.takes_as(signed) else {
-        return line.takes_as(numbered).ok_or_else(|| line.expected("a character, as 'A' or 41X"));
-    };
-    line.takes_as(|symbol| numbered(symbol).filter(|number| *number == sign));
-    Ok(sign)
-}
-
-/// The character of a symbol as 'A'.
-fn signed(symbol: &str) -> Option<u32> {
-    symbol.strip_prefix('\'')?.bytes().next().map(u32::from)
-}
-
-/// The character of a symbol as 41X: a digit, then hexadecimal ones, then X.
-fn numbered(symbol: &str) -> Option<u32> {
-    let digits = symbol.strip_suffix('X').filter(|digits| digits.starts_with(|c: char| c.is_ascii_digit()))?;
-    let number = u32::from_str_radix(digits, 16).ok().filter(|number| *number <= 255);
-    number.filter(|_| !digits.contains(|c: char| c.is_ascii_lowercase()))
 }
 
 fn read_statement<'a>(line: &mut Line<'a>) -> Read<'a> {

@@ -2,9 +2,9 @@
 //! `read_listing` and `listing_of` between the tables and a listing. `Words` puts statements and expressions in the
 //! words of Oberon-2.
 //!
-//! A listing has a line for each row, and before them one for a version that is not 1. `--` begins a comment. The rows
-//! of one table stand in order; the tables may be mixed, so that nodes can stand before the statement that names them.
-//! `docs/LISTING.md` says which row each line gives, and where a name is known. The lines:
+//! A listing has a line for each row. `--` begins a comment. The rows of one table stand in order; the tables may be
+//! mixed, so that nodes can stand before the statement that names them. `docs/LISTING.md` says which row each line
+//! gives, and where a name is known. The lines:
 //!
 //! ```text
 #![doc = include_str!("forms.txt")]
@@ -25,9 +25,7 @@ pub use names::{designated, field_row, fields_before, Names};
 pub use print::{listing_of, row_line, row_text};
 pub use read::{read_listing, Listing};
 pub use symbols::Wrong;
-pub use words::{character_words, children, named, set_words, Words};
-
-use std::ops::{Deref, DerefMut, RangeInclusive};
+pub use words::{children, named, set_words, Words};
 
 /// A row of a table, with the byte that is to be zero.
 #[derive(Clone, Copy, Debug, PartialEq, Eq)]
@@ -39,32 +37,8 @@ pub struct Row {
     pub c: u16,
 }
 
-/// The version of an image, and its six tables in the image's order.
-#[derive(Clone, Debug, PartialEq, Eq)]
-pub struct Tables {
-    pub version: u8,
-    pub rows: [Vec<Row>; 6],
-}
-
-impl Default for Tables {
-    fn default() -> Tables {
-        Tables { version: 1, rows: Default::default() }
-    }
-}
-
-impl Deref for Tables {
-    type Target = [Vec<Row>; 6];
-
-    fn deref(&self) -> &Self::Target {
-        &self.rows
-    }
-}
-
-impl DerefMut for Tables {
-    fn deref_mut(&mut self) -> &mut Self::Target {
-        &mut self.rows
-    }
-}
+/// The six tables, in the image's order.
+pub type Tables = [Vec<Row>; 6];
 
 pub const TYPES: usize = 0;
 pub const FIELDS: usize = 1;
@@ -73,7 +47,7 @@ pub const PROCEDURES: usize = 3;
 pub const NODES: usize = 4;
 pub const STATEMENTS: usize = 5;
 
-/// What a row of each table is called, and the fewest and the most rows; version 2 has one type more at least.
+/// What a row of each table is called, and the fewest and the most rows.
 pub const ROWS: [(&str, usize, usize); 6] = [
     ("type", 3, 64),
     ("field", 0, 256),
@@ -83,35 +57,14 @@ pub const ROWS: [(&str, usize, usize); 6] = [
     ("statement", 1, 1024),
 ];
 
-/// The names of type rows 0 to 2 and, in version 2, 3.
-pub const SCALARS: [&str; 4] = ["BOOLEAN", "INTEGER", "SET", "CHAR"];
-
-/// The kinds of these rows.
-pub const KINDS_OF_SCALARS: [u8; 4] = [0, 1, 2, 5];
+/// The names of type rows 0 to 2.
+pub const SCALARS: [&str; 3] = ["BOOLEAN", "INTEGER", "SET"];
 
 /// What the kinds of variables are called, from kind 0 on.
 pub const KINDS_OF_VARIABLES: [&str; 4] = ["global", "local", "value", "VAR"];
 
 /// The dyadic operators, from number 1 on.
 const OPERATORS: [&str; 16] = ["+", "-", "*", "DIV", "MOD", "/", "=", "#", "<", "<=", ">", ">=", "&", "OR", "IN", ".."];
-
-/// The monadic operators, from number 1 on; version 1 has the first two.
-const MONADIC: [&str; 4] = ["-", "~", "ORD", "CHR"];
-
-/// The names of a version's scalar types, from type row 0 on.
-pub fn scalars(version: u8) -> &'static [&'static str] {
-    match version {
-        2 => &SCALARS,
-        _ => &SCALARS[..3],
-    }
-}
-
-/// How many rows a table of a version may have.
-pub fn counts(version: u8, table: usize) -> RangeInclusive<usize> {
-    let (_, least, most) = ROWS[table];
-    let least = if table == TYPES { scalars(version).len() } else { least };
-    least..=most
-}
 
 /// Writes a text to standard output. That its reader wants no more, as `head` does, is no error.
 pub fn print(text: &str) -> std::io::Result<()> {
@@ -125,7 +78,7 @@ pub fn print(text: &str) -> std::io::Result<()> {
 /// The bytes of an image with these tables.
 pub fn image_of(tables: &Tables) -> Vec<u8> {
     let mut rows = Vec::new();
-    for table in tables.iter() {
+    for table in tables {
         rows.extend((table.len() as u16).to_be_bytes());
         for row in table {
             rows.extend([row.kind, row.zero]);
@@ -134,7 +87,7 @@ pub fn image_of(tables: &Tables) -> Vec<u8> {
             }
         }
     }
-    let mut image = vec![tables.version];
+    let mut image = vec![1];
     image.extend((5 + rows.len() as u32).to_be_bytes());
     image.extend(rows);
     image
@@ -142,20 +95,20 @@ pub fn image_of(tables: &Tables) -> Vec<u8> {
 
 /// The six tables, or which of questions 1 to 3 says no.
 pub fn tables_of(image: &[u8]) -> Result<Tables, &'static str> {
-    let Some(version @ (1 | 2)) = image.first().copied() else {
-        return Err("question 1: its first byte is not 1 or 2");
-    };
+    if image.first() != Some(&1) {
+        return Err("question 1: its first byte is not 1");
+    }
     let length = image.get(1..5).map(|n| u32::from_be_bytes([n[0], n[1], n[2], n[3]]));
     if length.map(|n| n as usize) != Some(image.len()) {
         return Err("question 2: bytes 1 to 4 are not its length");
     }
     let no = "question 3: there are no six tables that fill it";
-    let mut tables = Tables { version, ..Tables::default() };
+    let mut tables: Tables = Default::default();
     let mut rest = &image[5..];
-    for (k, table) in tables.iter_mut().enumerate() {
+    for (table, (_, least, most)) in tables.iter_mut().zip(ROWS) {
         let [high, low, after @ ..] = rest else { return Err(no) };
         let count = u16::from_be_bytes([*high, *low]) as usize;
-        if !counts(version, k).contains(&count) || after.len() < 8 * count {
+        if count < least || count > most || after.len() < 8 * count {
             return Err(no);
         }
         table.extend(after[..8 * count].chunks(8).map(row_of));

@@ -1,36 +1,28 @@
 //! The symbols of a row, read one after the other.
 use crate::forms::Operand;
 use crate::symbols::{Symbol, Wrong};
-use crate::{scalars, KINDS_OF_VARIABLES, MONADIC, OPERATORS, ROWS, TYPES};
+use crate::{KINDS_OF_VARIABLES, OPERATORS, ROWS, SCALARS, TYPES};
 
 /// The words of listings that stand in no other table.
 const OTHER_WORDS: &str = "ARRAY OF RECORD END FALSE TRUE IF NOT GOTO RETURN READ WRITE HALT row at parameters locals \
                            variable of element guard to test for argument call arguments from";
 
-/// Whether a word is one of a version's listings; those that version 2 alone has may be names in version 1.
-fn is_word_of_listings(version: u8, word: &str) -> bool {
-    let monadic: &[&str] = if version == 1 { &[] } else { &MONADIC };
-    let tables = [scalars(version), &KINDS_OF_VARIABLES, &OPERATORS, monadic];
+fn is_word_of_listings(word: &str) -> bool {
+    let tables: [&[&str]; 3] = [&SCALARS, &KINDS_OF_VARIABLES, &OPERATORS];
     let is_other = OTHER_WORDS.split(' ').any(|other| other == word);
     is_other || ROWS.iter().any(|(name, _, _)| *name == word) || tables.iter().any(|words| words.contains(&word))
 }
 
-/// The symbols that give a row, which one is next, and the version that the row is of.
+/// The symbols that give a row, and which one is next.
 pub struct Line<'a> {
     pub symbols: Vec<Symbol<'a>>,
     at: usize,
-    version: u8,
 }
 
 impl<'a> Line<'a> {
     /// There is at least one symbol.
-    pub fn new(symbols: Vec<Symbol<'a>>, version: u8) -> Line<'a> {
-        Line { symbols, at: 0, version }
-    }
-
-    /// The names of the scalar types.
-    pub fn scalars(&self) -> &'static [&'static str] {
-        scalars(self.version)
+    pub fn new(symbols: Vec<Symbol<'a>>) -> Line<'a> {
+        Line { symbols, at: 0 }
     }
 
     pub fn next(&self) -> Option<Symbol<'a>> {
@@ -54,7 +46,7 @@ impl<'a> Line<'a> {
     }
 
     fn is_at_free_name(&self) -> bool {
-        self.is_at_word() && !is_word_of_listings(self.version, self.peek())
+        self.is_at_word() && !is_word_of_listings(self.peek())
     }
 
     /// Whether a row's name or number is next.
@@ -82,13 +74,6 @@ impl<'a> Line<'a> {
     /// Which of the words is next; goes past it.
     pub fn takes_one(&mut self, words: &[&str]) -> Option<usize> {
         words.iter().position(|word| self.takes(word))
-    }
-
-    /// What the next symbol stands for, if anything; goes past it then.
-    pub fn takes_as<T>(&mut self, read: impl Fn(&str) -> Option<T>) -> Option<T> {
-        let value = read(self.peek());
-        self.at += value.is_some() as usize;
-        value
     }
 
     pub fn take(&mut self, symbol: &str) -> Result<(), Wrong> {
@@ -156,13 +141,13 @@ impl<'a> Line<'a> {
 
     /// A type: a scalar, or a row.
     pub fn type_row(&mut self) -> Result<Operand<'a>, Wrong> {
-        if let Some(scalar) = self.takes_one(self.scalars()) {
+        if let Some(scalar) = self.takes_one(&SCALARS) {
             return Ok(Operand::Number(scalar as u16));
         }
         if self.is_at_row() {
             return self.row(TYPES);
         }
-        Err(self.expected(&format!("{} or the name or number of a type", self.scalars().join(", "))))
+        Err(self.expected("BOOLEAN, INTEGER, SET or the name or number of a type"))
     }
 }
 
@@ -174,10 +159,8 @@ mod tests {
     fn the_words_of_the_forms_are_no_names() {
         let forms = include_str!("forms.txt").split("\n\n").next().unwrap();
         let words = forms.split(|c: char| !c.is_ascii_alphabetic()).filter(|word| word.len() > 1);
-        let others = ["version", "ROW", "NAME", "TYPE", "OPERATOR", "length", "count"];
-        for word in words.filter(|word| !others.contains(word)) {
-            assert!(is_word_of_listings(2, word), "{word}");
-            assert_eq!(is_word_of_listings(1, word), !["CHAR", "ORD", "CHR"].contains(&word), "{word}");
+        for word in words.filter(|word| !["ROW", "NAME", "TYPE", "OPERATOR", "length", "count"].contains(word)) {
+            assert!(is_word_of_listings(word), "{word}");
         }
     }
 }

@@ -1,5 +1,5 @@
 //! The names that a listing gives its rows.
-use crate::{scalars, Tables, FIELDS, NODES, PROCEDURES, TYPES, VARIABLES};
+use crate::{Tables, FIELDS, NODES, PROCEDURES, SCALARS, TYPES, VARIABLES};
 
 /// The names of rows, by table and row; a row without one is told by its number.
 #[derive(Clone, Debug, Default, PartialEq, Eq)]
@@ -37,9 +37,9 @@ impl Names {
         self.or_number(PROCEDURES, row, 'p')
     }
 
-    /// A type where it is used: BOOLEAN, INTEGER, SET or, in version 2, CHAR; else as where it is declared.
-    pub fn type_row(&self, tables: &Tables, row: usize) -> String {
-        scalars(tables.version).get(row).map_or_else(|| self.declared_type(row), |scalar| scalar.to_string())
+    /// A type where it is used: BOOLEAN, INTEGER or SET for rows 0 to 2, else as where it is declared.
+    pub fn type_row(&self, row: usize) -> String {
+        SCALARS.get(row).map_or_else(|| self.declared_type(row), |scalar| scalar.to_string())
     }
 
     /// A type where it is declared: its name, or T4 for row 4.

@@ -1,17 +1,16 @@
 //! From tables to a listing.
 use crate::names::{fields_before, Names};
 use crate::words::{constant_words, named, Words};
-use crate::{scalars, Row, Tables, FIELDS, KINDS_OF_VARIABLES, MONADIC, NODES, OPERATORS, PROCEDURES, ROWS, SCALARS};
-use crate::{STATEMENTS, TYPES, VARIABLES};
+use crate::VARIABLES;
+use crate::{Row, Tables, FIELDS, KINDS_OF_VARIABLES, NODES, OPERATORS, PROCEDURES, ROWS, SCALARS, STATEMENTS, TYPES};
 
 /// How many nodes a statement's comment has at most.
 const NODES_IN_COMMENT: usize = 30;
 
-/// The listing of tables: a version that is not 1, types, globals, then each procedure with its variables and
-/// statements, each of these after the nodes that it names.
+/// The listing of tables: types, globals, then each procedure with its variables and statements, each of these after
+/// the nodes that it names.
 pub fn listing_of(tables: &Tables) -> String {
-    let version = if tables.version == 1 { String::new() } else { format!("version {}\n", tables.version) };
-    let mut printer = Printer { tables, text: version, next: [0; 6] };
+    let mut printer = Printer { tables, text: String::new(), next: [0; 6] };
     for _ in &tables[TYPES] {
         printer.type_row();
     }
@@ -50,9 +49,9 @@ impl Printer<'_> {
 
     /// Prints the next row of a table.
     fn row(&mut self, table: usize) {
-        let at = self.next[table];
-        let line = row_line(self.tables, table, at);
-        let comment = if table == STATEMENTS { self.comment(self.tables[table][at]) } else { None };
+        let row = self.tables[table][self.next[table]];
+        let line = row_line(table, self.next[table], row);
+        let comment = if table == STATEMENTS { self.comment(row) } else { None };
         match comment {
             Some(comment) if line.len().max(43) + comment.len() < 116 => {
                 self.line(table, format!("{line:<43} -- {comment}"))
@@ -125,18 +124,17 @@ fn record_text(tables: &Tables, at: usize, row: Row) -> Option<String> {
             _ if k % 7 == 0 => ";\n  ",
             _ => "; ",
         });
-        text.push_str(&format!("f{}: {}", first + k, type_text(tables, field.a)));
+        text.push_str(&format!("f{}: {}", first + k, type_text(field.a)));
     }
     Some(text + " END")
 }
 
 /// The line of a row by itself: in the form of its kind, or with its numbers where it has no such form. A record has
 /// none, since its fields belong to it.
-pub fn row_line(tables: &Tables, table: usize, at: usize) -> String {
-    let row = tables[table][at];
+pub fn row_line(table: usize, at: usize, row: Row) -> String {
     let name = ROWS[table].0;
     let mark = if table == STATEMENTS { ":" } else { " =" };
-    match row_text(tables, table, at) {
+    match row_text(table, at, row) {
         Some(text) if table == PROCEDURES => format!("{name} {at} {text}"),
         Some(text) => format!("{name} {at}{mark} {text}"),
         None => format!("{name} {at}{mark} row {} {} {} {} {}", row.kind, row.zero, row.a, row.b, row.c),
@@ -144,42 +142,41 @@ pub fn row_line(tables: &Tables, table: usize, at: usize) -> String {
 }
 
 /// What stands after the row's number, where the row has a form of its own; a record's is not given here.
-pub fn row_text(tables: &Tables, table: usize, at: usize) -> Option<String> {
-    let row = tables[table][at];
+pub fn row_text(table: usize, at: usize, row: Row) -> Option<String> {
     let Row { kind, zero, a, b, c } = row;
     if zero != 0 {
         return None;
     }
     match (table, kind) {
         (TYPES, 0..=2) if a == 0 && b == 0 && c == 0 => Some(SCALARS[kind as usize].to_string()),
-        (TYPES, 5) if tables.version == 2 && (at, a, b, c) == (3, 0, 0, 0) => Some(SCALARS[at].to_string()),
-        (TYPES, 3) if c == 0 => Some(format!("ARRAY {b} OF {}", type_text(tables, a))),
-        (FIELDS, 0) if b == 0 && c == 0 => Some(type_text(tables, a)),
+        (TYPES, 3) if c == 0 => Some(format!("ARRAY {b} OF {}", type_text(a))),
+        (FIELDS, 0) if b == 0 && c == 0 => Some(type_text(a)),
         (VARIABLES, 0..=3) if b == 0 && c == 0 => {
-            Some(format!("{} v{at}: {}", KINDS_OF_VARIABLES[kind as usize], type_text(tables, a)))
+            Some(format!("{} v{at}: {}", KINDS_OF_VARIABLES[kind as usize], type_text(a)))
         }
         (PROCEDURES, 0) => Some(format!("at {a} parameters {b} locals {c}")),
-        (NODES, _) => node_text(tables, row),
+        (NODES, _) => node_text(row),
         (STATEMENTS, _) => statement_text(row),
         _ => None,
     }
 }
 
-fn type_text(tables: &Tables, row: u16) -> String {
-    scalars(tables.version).get(row as usize).map_or_else(|| row.to_string(), |scalar| scalar.to_string())
+fn type_text(row: u16) -> String {
+    SCALARS.get(row as usize).map_or_else(|| row.to_string(), |scalar| scalar.to_string())
 }
 
-fn node_text(tables: &Tables, row: Row) -> Option<String> {
+fn node_text(row: Row) -> Option<String> {
     let Row { kind, a, b, c, .. } = row;
     match (kind, b, c) {
-        (0, _, _) => constant_words(tables.version, row).map(|text| format!("{} {text}", SCALARS[a as usize])),
+        (0, _, _) => constant_words(row).map(|text| format!("{} {text}", SCALARS[a as usize])),
         (1, 0, 0) => Some(format!("variable {a}")),
         (2, _, 0) => Some(format!("field {b} of {a}")),
         (3, _, 0) => Some(format!("element {a} at {b}")),
-        (4, _, 0) => Some(format!("guard {a} to {}", type_text(tables, b))),
+        (4, _, 0) => Some(format!("guard {a} to {}", type_text(b))),
         (5, _, 1..=16) => Some(format!("{a} {} {b}", OPERATORS[c as usize - 1])),
-        (6, 0, 1..=4) if c <= 2 || tables.version == 2 => Some(format!("{} {a}", MONADIC[c as usize - 1])),
-        (7, _, 0) => Some(format!("test {a} for {}", type_text(tables, b))),
+        (6, 0, 1) => Some(format!("- {a}")),
+        (6, 0, 2) => Some(format!("~ {a}")),
+        (7, _, 0) => Some(format!("test {a} for {}", type_text(b))),
         (8, 0, 0) => Some(format!("argument {a}")),
         _ => None,
     }

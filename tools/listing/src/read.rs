@@ -4,7 +4,7 @@ use crate::line::Line;
 use crate::names::Names;
 use crate::resolve::resolve;
 use crate::symbols::{symbols, Symbol, Wrong};
-use crate::{counts, Tables, FIELDS, PROCEDURES, ROWS, STATEMENTS, TYPES, VARIABLES};
+use crate::{Tables, FIELDS, PROCEDURES, ROWS, STATEMENTS, TYPES, VARIABLES};
 use std::collections::HashSet;
 
 /// What a listing gives: the tables, and the names of their rows.
@@ -42,8 +42,6 @@ pub struct Declared<'a> {
 /// The rows of a listing as they are written, and the mistakes so far.
 #[derive(Default)]
 pub struct Rows<'a> {
-    /// What the listing says; without a word of it, it is of version 1.
-    pub version: Option<u8>,
     pub tables: [Vec<Declared<'a>>; 6],
     pub wrong: Vec<Wrong>,
     /// The words of wrong lines: they may declare a name that seems to be missing.
@@ -102,9 +100,9 @@ impl<'a> Reader<'a> {
     /// The listing ends: each table must have its fewest rows.
     fn end(&mut self) {
         self.end_of_record();
-        for (table, next) in self.next.iter().enumerate() {
-            if next.number < *counts(self.version(), table).start() && !self.strange {
-                let message = format!("the listing ends without {} {}", ROWS[table].0, next.number);
+        for (next, (name, least, _)) in self.next.iter().zip(ROWS) {
+            if next.number < least && !self.strange {
+                let message = format!("the listing ends without {name} {}", next.number);
                 self.rows.wrong.push(match self.last {
                     Some(last) => last.wrong_behind(message),
                     None => Wrong { line: 1, column: 1, message },
@@ -120,7 +118,7 @@ impl<'a> Reader<'a> {
             return;
         }
         let mistakes = self.rows.wrong.len();
-        let mut line = Line::new(symbols, self.version());
+        let mut line = Line::new(symbols);
         let read = self.read_row(&mut line);
         self.rows.wrong.extend(read.err().filter(|_| !garbled));
         if garbled || self.rows.wrong.len() > mistakes {
@@ -130,9 +128,6 @@ impl<'a> Reader<'a> {
 
     fn read_row(&mut self, line: &mut Line<'a>) -> Result<(), Wrong> {
         let first = line.symbols[0];
-        if line.takes("version") {
-            return self.read_version(first, line);
-        }
         let Some(table) = line.takes_one(&ROWS.map(|(name, _, _)| name)) else {
             self.strange = true;
             self.next = self.next.map(|next| Next { or: Some(next.number + 1), ..next });
@@ -146,21 +141,6 @@ impl<'a> Reader<'a> {
         let read = self.read_declaration(table, line, &mut number, &mut row);
         self.place(table, number, first, row);
         read
-    }
-
-    fn version(&self) -> u8 {
-        self.rows.version.unwrap_or(1)
-    }
-
-    /// What follows `version`. After a wrong one the words of version 2 are known, so that these are not wrong too.
-    fn read_version(&mut self, first: Symbol<'a>, line: &mut Line<'a>) -> Result<(), Wrong> {
-        if self.rows.version.is_some() || self.next.iter().any(|next| next.number > 0) {
-            return Err(first.wrong("the version stands once, before all rows".to_string()));
-        }
-        let version = line.takes_one(&["1", "2"]);
-        self.rows.version = Some(version.map_or(2, |before| before as u8 + 1));
-        version.ok_or_else(|| line.expected("1 or 2"))?;
-        line.end()
     }
 
     /// What follows the table's name: the row's number and name, each of which may be absent, a mark, and its form.

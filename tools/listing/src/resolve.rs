@@ -20,7 +20,6 @@ const NO_ROW: Row = Row { kind: u8::MAX, zero: 0, a: u16::MAX, b: u16::MAX, c: u
 pub fn resolve(rows: Rows) -> (Listing, Vec<Wrong>) {
     let mut resolver = Resolver { known: HashMap::new(), spoilt: rows.spoilt, wrong: rows.wrong };
     let mut listing = Listing::default();
-    listing.tables.version = rows.version.unwrap_or(1);
     for (table, declared) in rows.tables.iter().enumerate() {
         for (row, declared) in declared.iter().enumerate() {
             if let Some(name) = declared.name {

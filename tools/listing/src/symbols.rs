@@ -15,7 +15,7 @@ impl fmt::Display for Wrong {
     }
 }
 
-/// A word, a number, a character in quotation marks or a sign, and where it begins.
+/// A word, a number or a sign, and where it begins.
 #[derive(Clone, Copy, Debug)]
 pub struct Symbol<'a> {
     pub text: &'a str,
@@ -64,16 +64,9 @@ pub fn symbols(line: usize, bytes: &[u8]) -> (Vec<Symbol<'_>>, Vec<Wrong>) {
 fn length_of_symbol(text: &str) -> usize {
     if text.starts_with(|c: char| c.is_ascii_alphanumeric()) {
         text.find(|c: char| !c.is_ascii_alphanumeric()).unwrap_or(text.len())
-    } else if is_character(text.as_bytes()) {
-        3
     } else if [":=", "..", "<=", ">="].iter().any(|sign| text.starts_with(sign)) {
         2
     } else {
         text.starts_with(|c: char| "+-*/=#<>&~:;,(){}".contains(c)) as usize
     }
-}
-
-/// Whether a text begins with a character of ASCII in quotation marks, which is no such mark.
-fn is_character(text: &[u8]) -> bool {
-    matches!(text, [b'\'', b' '..=b'~', b'\'', ..]) && text[1] != b'\''
 }

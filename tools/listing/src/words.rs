@@ -1,7 +1,7 @@
 //! Statements and expressions in the words of Oberon-2.
 use crate::names::{designated, Names};
 use crate::print::row_text;
-use crate::{Row, Tables, MONADIC, NODES, OPERATORS, PROCEDURES};
+use crate::{Row, Tables, NODES, OPERATORS, PROCEDURES};
 use std::ops::Range;
 
 /// Puts statements and expressions in words, with the names that the rows have; without names v3 is variable 3, f2
@@ -46,7 +46,7 @@ impl<'a> Words<'a> {
     pub fn node(&mut self, node: u16) -> String {
         let node = node as usize;
         match self.tables[NODES].get(node) {
-            Some(row) if self.nodes.len() < self.most && row_text(self.tables, NODES, node).is_some() => {
+            Some(row) if self.nodes.len() < self.most && row_text(NODES, node, *row).is_some() => {
                 self.nodes.push(node);
                 self.expression(node, *row)
             }
@@ -66,30 +66,25 @@ impl<'a> Words<'a> {
                 format!("{}.{field}", self.operand(node, a))
             }
             (3, _) => format!("{}[{}]", self.operand(node, a), self.child(node, b)),
-            (4, _) => format!("{}({})", self.names.variable(a as usize), self.type_row(b)),
+            (4, _) => format!("{}({})", self.names.variable(a as usize), self.names.type_row(b as usize)),
             (5, 16) => format!("{{{}..{}}}", self.operand(node, a), self.operand(node, b)),
             (5, _) => {
                 let operator = OPERATORS[c as usize - 1];
                 format!("{} {operator} {}", self.operand(node, a), self.operand(node, b))
             }
             (6, 1) => format!("-{}", self.operand(node, a)),
-            (6, 2) => format!("~{}", self.operand(node, a)),
-            (6, _) => format!("{}({})", MONADIC[c as usize - 1], self.child(node, a)),
-            (7, _) => format!("{} IS {}", self.names.variable(a as usize), self.type_row(b)),
+            (6, _) => format!("~{}", self.operand(node, a)),
+            (7, _) => format!("{} IS {}", self.names.variable(a as usize), self.names.type_row(b as usize)),
             (8, _) => self.child(node, a),
-            _ => constant_words(self.tables.version, row).unwrap_or_default(),
+            _ => constant_words(row).unwrap_or_default(),
         }
-    }
-
-    fn type_row(&self, row: u16) -> String {
-        self.names.type_row(self.tables, row as usize)
     }
 
     /// A child, in parentheses where the words around it could be read otherwise.
     fn operand(&mut self, parent: usize, node: u16) -> String {
         let text = self.child(parent, node);
         let row = self.tables[NODES].get(node as usize);
-        let compound = row.is_some_and(|row| matches!((row.kind, row.c), (5, 1..=15) | (6, 1 | 2) | (7, _)));
+        let compound = row.is_some_and(|row| matches!(row.kind, 5..=7) && (row.kind, row.c) != (5, 16));
         if (compound || text.starts_with('-')) && !text.starts_with("(node") {
             format!("({text})")
         } else {
@@ -130,26 +125,14 @@ pub fn children(row: Row) -> Vec<usize> {
 }
 
 /// A constant's value, where it has one.
-pub fn constant_words(version: u8, row: Row) -> Option<String> {
+pub fn constant_words(row: Row) -> Option<String> {
     let value = (row.b as u32) << 16 | row.c as u32;
     match (row.a, value) {
         (0, 0) => Some("FALSE".to_string()),
         (0, 1) => Some("TRUE".to_string()),
         (1, _) => Some((value as i32).to_string()),
         (2, _) => Some(set_words(value)),
-        (3, 0..=255) if version == 2 => Some(character_words(value as u8)),
         _ => None,
-    }
-}
-
-/// A CHAR by its sign and its number, as 'A' 41X; by its number alone, as 0DX, where it has no sign in ASCII, and where
-/// that is the quotation mark. A number begins with a digit.
-pub fn character_words(character: u8) -> String {
-    let digits = format!("{character:X}");
-    let zero = if digits.starts_with(|digit: char| digit.is_ascii_digit()) { "" } else { "0" };
-    match character {
-        b' '..=b'~' if character != b'\'' => format!("'{}' {digits}X", character as char),
-        _ => format!("{zero}{digits}X"),
     }
 }
 

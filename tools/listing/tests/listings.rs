@@ -29,7 +29,7 @@ fn rows_have_the_names_of_the_listing() {
     assert_eq!(names(PROCEDURES), ["Main"]);
     assert_eq!(names(NODES), ["", "one"]);
     assert_eq!(names(STATEMENTS), ["begin", ""]);
-    assert_eq!(listing.names.type_row(&listing.tables, 4), "Member");
+    assert_eq!(listing.names.type_row(4), "Member");
     assert_eq!(listing.names.field(&listing.tables, Some(4), 0), "number");
     assert_eq!(listing.names.field(&listing.tables, Some(4), 1), "groups");
     assert_eq!(listing.names.procedure(0), "Main");

@@ -1,18 +1,15 @@
--- `access::is_single` meets its contract: a kind is there.
-use mathlib.Core.Path.{ap}
-use mathlib.Core.Bool.{not}
-use lib.Dec.{eqb}
+use mathlib.Core.Path.{sym}
 use borrow.Author.Rules.{rules}
-use Rattle.shapes.specs.Forms.{NO_KIND, is_single}
+use Rattle.access.proofs.Bounds.{single_first}
 use Rattle.access.proofs.is_single.Statement.{statement}
 use Rattle.access.proofs.is_single.Tie as tie
 
-kind-of-requires : tie.Need-kind-of-requires
-kind-of-requires c κs = search rules
+scalar-rows-requires : tie.Need-scalar-rows-requires
+scalar-rows-requires c κs = search rules
 
 returns : tie.Need-returns
-unfolding is_single
-returns c = ap (λ k. not (eqb k NO_KIND)) c.kind-of.ensures
+returns c = let s = c.before in
+    rw c.scalar-rows.ensures (sym (single_first s.requires.0 _ s.requires.1 1))
 
 pub is-single-spec : {M : Type 1} → statement M
-is-single-spec = tie.close (tie.spec kind-of-requires returns)
+is-single-spec = tie.close (tie.spec scalar-rows-requires returns)

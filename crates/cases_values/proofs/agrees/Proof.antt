@@ -26,7 +26,7 @@ returns : tie.Need-returns
 unfolding agreesOf choose
 returns c =
     let m = c.before.before in
-    rw (m.a2.given.1, ← m.before.before.byte_at.ensures.0, ne_eqb _ 4 c.if1.true)
+    rw (m.a2.given.1, ← m.before.before.byte_at.ensures.0, ne_eqb _ 3 c.if1.true)
 
 trap-number-requires : tie.Need-trap-number-requires
 trap-number-requires c κs = search rules
@@ -51,7 +51,7 @@ unfolding agreesOf choose
 returns-3 c =
     let m = c.before.before.before.before in
     rw (c.half_at.ensures, c.before.trap-number.ensures, m.a2.given.1)
-    (rw (← m.before.before.byte_at.ensures.0, eq-eqb _ 4 c.before.before.if1.false))
+    (rw (← m.before.before.byte_at.ensures.0, eq-eqb _ 3 c.before.before.if1.false))
 
 returns-4 : tie.Need-returns-4
 unfolding agreesOf

@@ -6,8 +6,7 @@ use Rattle.values.specs.Values.{bind}
 use Rattle.values.proofs.Numbers.{plain32, plain64}
 use Rattle.values.proofs.Binding.{bind_value, bind_other}
 use Rattle.cases_values.specs.Cases.{cell_case, cell_with}
-use Rattle.values.specs.Values.{as_integer}
-use Rattle.values.proofs.Cases.{no_integer}
+use Rattle.cases_values.proofs.Laws.{no_integer}
 use borrow.Author.Rules.{rules}
 use Rattle.cases_values.proofs.cell_case.Statement.{statement}
 use Rattle.cases_values.proofs.cell_case.Tie as tie
@@ -34,10 +33,9 @@ enum-known-v : tie.Need-enum-known-v
 enum-known-v c = search rules
 
 returns-2 : tie.Need-returns-2
-unfolding cell_with
 returns-2 c =
     let m = c.before.before in
-    sym (at_high m.before.before ∙ bind_value m.high.given.1 _ ∙ no_integer _ _ _ c.match2.keys2)
+    sym (at_high m.before.before ∙ bind_value m.high.given.1 _ ∙ no_integer _ _ c.match2.keys2)
 
 byte-at-requires : tie.Need-byte-at-requires
 byte-at-requires c κs = search rules
@@ -55,7 +53,7 @@ cell-requires : tie.Need-cell-requires
 cell-requires c κs = search rules
 
 returns-3 : tie.Need-returns-3
-unfolding cell_with as_integer
+unfolding cell_with
 returns-3 c =
     let a = c.before in
     let t = a.before.before.before.before in

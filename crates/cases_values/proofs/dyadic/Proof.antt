@@ -1,7 +1,7 @@
 -- `cases_values::dyadic` meets its contract: by the kinds of the operands.
 use mathlib.Core.Path.{sym, ◌∙◌}
-use Rattle.operators.proofs.Operands.{two_booleans, two_integers, integer_and_set, two_sets, two_chars}
-use Rattle.operators.proofs.Operands.{not_booleans, not_integer, not_sets, not_chars}
+use Rattle.operators.proofs.Operands.{two_booleans, two_integers, integer_and_set, two_sets}
+use Rattle.operators.proofs.Operands.{not_booleans, not_integer, not_sets}
 use Rattle.values.proofs.Numbers.{plain32}
 use borrow.Author.Rules.{rules}
 use Rattle.cases_values.proofs.dyadic.Statement.{statement}
@@ -21,6 +21,9 @@ booleans-requires c κs = search rules
 
 enum-known-left-2 : tie.Need-enum-known-left-2
 enum-known-left-2 c = search rules
+
+enum_told : tie.Need-enum-told
+enum_told c = search rules
 
 enum-known-right-2 : tie.Need-enum-known-right-2
 enum-known-right-2 c = search rules
@@ -46,23 +49,14 @@ returns-2 c = rw c.before.before.left3.given.1 (sym (not_sets _ _ _ c.match4.key
 sets-requires : tie.Need-sets-requires
 sets-requires c κs = search rules
 
-enum-known-left-4 : tie.Need-enum-known-left-4
-enum-known-left-4 c = search rules
-
-enum-known-right-5 : tie.Need-enum-known-right-5
-enum-known-right-5 c = search rules
-
 returns-3 : tie.Need-returns-3
-returns-3 c = rw c.before.before.left4.given.1 (sym (not_chars _ _ _ c.match5.keys2))
-
-chars-requires : tie.Need-chars-requires
-chars-requires c κs = search rules
-
-returns-4 : tie.Need-returns-4
-returns-4 c =
+returns-3 c =
     c.booleans.ensures
     ∙ rw (c.before.before.before.before.before.left.given.1, c.before.before.right.given.1)
     (sym (two_booleans _ _ _))
+
+returns-4 : tie.Need-returns-4
+returns-4 c = rw (c.before.before.before.left2.given.1, c.enum_told.given.1) (sym (not_integer _ _ _))
 
 returns-5 : tie.Need-returns-5
 returns-5 c =
@@ -78,19 +72,10 @@ returns-6 c =
     c.membership.ensures ∙ rw (v.1, w.1, plain32 v.0.0 (search rules)) (sym (integer_and_set _ _ _))
 
 returns-7 : tie.Need-returns-7
-returns-7 c = rw c.before.before.left2.given.1 (sym (not_integer _ _ _ c.match3.keys3))
-
-returns-8 : tie.Need-returns-8
-returns-8 c =
+returns-7 c =
     c.sets.ensures
     ∙ rw (c.before.before.before.before.before.left3.given.1, c.before.before.right4.given.1)
     (sym (two_sets _ _ _))
-
-returns-9 : tie.Need-returns-9
-returns-9 c =
-    c.chars.ensures
-    ∙ rw (c.before.before.before.before.before.left4.given.1, c.before.before.right5.given.1)
-    (sym (two_chars _ _ _))
 
 pub dyadic-spec : {M : Type 1} → statement M
 dyadic-spec =
@@ -101,6 +86,7 @@ dyadic-spec =
     returns
     booleans-requires
     enum-known-left-2
+    enum_told
     enum-known-right-2
     integers-requires
     enum-known-right-3
@@ -109,13 +95,8 @@ dyadic-spec =
     enum-known-right-4
     returns-2
     sets-requires
-    enum-known-left-4
-    enum-known-right-5
     returns-3
-    chars-requires
     returns-4
     returns-5
     returns-6
-    returns-7
-    returns-8
-    returns-9)
+    returns-7)

@@ -15,13 +15,7 @@ returns-2 c = rw c.match.keys2
 
 returns-3 : tie.Need-returns-3
 unfolding highest choose
-returns-3 c = rw c.match.keys3
-
-returns-4 : tie.Need-returns-4
-unfolding highest choose
-returns-4 c =
-    let m = c.match.rest in
-    rw (ne_eqb _ 0 m.0.0.1, ne_eqb _ 1 m.0.1, ne_eqb _ 3 m.1)
+returns-3 c = rw (ne_eqb _ 0 c.match.rest.0.1, ne_eqb _ 1 c.match.rest.1)
 
 pub highest-spec : {M : Type 1} → statement M
-highest-spec = tie.close (tie.spec returns returns-2 returns-3 returns-4)
+highest-spec = tie.close (tie.spec returns returns-2 returns-3)

@@ -1,6 +1,6 @@
 -- `contents::type_kind` meets its contract, by the row's form.
 use native.Mathlib.Omega.{arith}
-use Rattle.shapes.proofs.Rows.{form_scalar, form_array, form_record, form_char, form_none}
+use Rattle.shapes.proofs.Rows.{form_scalar, form_array, form_record, form_none}
 use Rattle.contents.specs.Kinds.{even_by}
 use borrow.Author.Rules.{rules}
 use Rattle.contents.proofs.type_kind.Statement.{statement}
@@ -38,15 +38,11 @@ returns-2 c =
 
 returns-3 : tie.Need-returns-3
 unfolding even_by
-returns-3 c = rw (form_char c.before.before.before.args.row c.match.keys3)
+returns-3 c = rw (form_scalar c.before.before.before.before.args.row (omega arith))
 
 returns-4 : tie.Need-returns-4
 unfolding even_by
-returns-4 c = rw (form_scalar c.before.before.before.before.args.row (omega arith))
-
-returns-5 : tie.Need-returns-5
-unfolding even_by
-returns-5 c = let m = c.before.match.rest in
+returns-4 c = let m = c.before.match.rest in
     rw (form_none c.before.before.before.before.args.row (omega arith))
 
 pub type-kind-spec : {M : Type 1} → statement M
@@ -62,5 +58,4 @@ type-kind-spec =
     returns
     returns-2
     returns-3
-    returns-4
-    returns-5)
+    returns-4)

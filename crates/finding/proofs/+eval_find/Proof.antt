@@ -11,8 +11,8 @@ use Rattle.values.specs.declared.Answer.{Answer}
 use Rattle.values.proofs.Binding.{bind_value, bind_other}
 use Rattle.values.proofs.Numbers.{plain32}
 use Rattle.operators.specs.Operators.{dyadic_of, monadic_of, applied_to}
-use Rattle.operators.proofs.Operands.{two_booleans, two_integers, integer_and_set, two_sets, two_chars}
-use Rattle.operators.proofs.Operands.{not_booleans, not_integer, not_sets, not_chars}
+use Rattle.operators.proofs.Operands.{two_booleans, two_integers, integer_and_set, two_sets}
+use Rattle.operators.proofs.Operands.{not_booleans, not_integer, not_sets}
 use Rattle.shapes.specs.Forms.{kind_in}
 use Rattle.relations.specs.Fields.{field_of}
 use Rattle.semantics.specs.declared.Place.{Place}
@@ -51,7 +51,6 @@ use Rattle.finding.proofs.type_test.Reads as type-test-reads
 use Rattle.finding.proofs.variable_place.Reads as variable-place-reads
 use Rattle.operators.proofs.booleans.Reads as booleans-reads
 use Rattle.operators.proofs.decides.Reads as decides-reads
-use Rattle.operators.proofs.chars.Reads as chars-reads
 use Rattle.operators.proofs.integers.Reads as integers-reads
 use Rattle.operators.proofs.membership.Reads as membership-reads
 use Rattle.operators.proofs.monadic.Reads as monadic-reads
@@ -116,8 +115,6 @@ eval-claims t = (
   membership-reads.Learnt,
   sets-reads.Asked,
   sets-reads.Learnt,
-  chars-reads.Asked,
-  chars-reads.Learnt,
   monadic-reads.Asked,
   monadic-reads.Learnt,
   type-test-reads.Asked,
@@ -673,6 +670,9 @@ eval-booleans-requires t c κs = search rules
 eval-enum-known-x-2 : (t : ℕ) → eval-lts.Need-enum-known-x-2 (eval-claims t) (eval-at t) eval.Post
 eval-enum-known-x-2 t c = search rules
 
+eval-enum-told : (t : ℕ) → eval-lts.Need-enum-told (eval-claims t) (eval-at t) eval.Post
+eval-enum-told t c = search rules
+
 eval-enum-known-y-2 : (t : ℕ) → eval-lts.Need-enum-known-y-2 (eval-claims t) (eval-at t) eval.Post
 eval-enum-known-y-2 t c = search rules
 
@@ -699,23 +699,9 @@ eval-returns-20 t c =
 eval-sets-requires : (t : ℕ) → eval-lts.Need-sets-requires (eval-claims t) (eval-at t) eval.Post
 eval-sets-requires t c κs = search rules
 
-eval-enum-known-x-4 : (t : ℕ) → eval-lts.Need-enum-known-x-4 (eval-claims t) (eval-at t) eval.Post
-eval-enum-known-x-4 t c = search rules
-
-eval-enum-known-y-5 : (t : ℕ) → eval-lts.Need-enum-known-y-5 (eval-claims t) (eval-at t) eval.Post
-eval-enum-known-y-5 t c = search rules
-
 eval-returns-21 : (t : ℕ) → eval-lts.Need-returns-21 (eval-claims t) (eval-at t) eval.Post
-eval-returns-21 t c =
-    sym (at-operands t c.before.before.before.before ∙ rw c.before.before.x4.given.1
-    (not_chars _ _ _ c.match17.keys2))
-
-eval-chars-requires : (t : ℕ) → eval-lts.Need-chars-requires (eval-claims t) (eval-at t) eval.Post
-eval-chars-requires t c κs = search rules
-
-eval-returns-22 : (t : ℕ) → eval-lts.Need-returns-22 (eval-claims t) (eval-at t) eval.Post
 unfolding meaning_by choose bind
-eval-returns-22 t c =
+eval-returns-21 t c =
     let m = c.before.before in
     sym (⊎_elim (λ e. at_row t m 6 e ∙ rw (not_lower _ _ _ _ _ _ _ c.if8.true))
     (λ e. at_row t m 8 e ∙ rw (not_lower _ _ _ _ _ _ _ c.if8.true)) c.before.match.keys7)
@@ -726,9 +712,9 @@ eval-eval-requires-4 t c κs = search rules
 eval-fresh-requires-8 : (t : ℕ) → eval-lts.Need-fresh-requires-8 (eval-claims t) (eval-at t) eval.Post
 eval-fresh-requires-8 t c κs = search rules
 
-eval-returns-23 : (t : ℕ) → eval-lts.Need-returns-23 (eval-claims t) (eval-at t) eval.Post
+eval-returns-22 : (t : ℕ) → eval-lts.Need-returns-22 (eval-claims t) (eval-at t) eval.Post
 unfolding meaning_by choose
-eval-returns-23 t c =
+eval-returns-22 t c =
     sym
     (at_row t c.before.before.before.before.before 8 c.if9.true
     ∙ eval_lower _ _ _ _ _ _ _ c.before.before.before.if8.false
@@ -737,9 +723,9 @@ eval-returns-23 t c =
 eval-enum-known-operand : (t : ℕ) → eval-lts.Need-enum-known-operand (eval-claims t) (eval-at t) eval.Post
 eval-enum-known-operand t c = search rules
 
-eval-returns-24 : (t : ℕ) → eval-lts.Need-returns-24 (eval-claims t) (eval-at t) eval.Post
-eval-returns-24 t c =
-    sym (at-operand t c.before.before c.before.if9.false ∙ bind_other _ c.match18.keys2 _)
+eval-returns-23 : (t : ℕ) → eval-lts.Need-returns-23 (eval-claims t) (eval-at t) eval.Post
+eval-returns-23 t c =
+    sym (at-operand t c.before.before c.before.if9.false ∙ bind_other _ c.match17.keys2 _)
 
 eval-monadic-requires : (t : ℕ) → eval-lts.Need-monadic-requires (eval-claims t) (eval-at t) eval.Post
 eval-monadic-requires t c κs = search rules
@@ -756,46 +742,51 @@ eval-enum-known-tested t c = search rules
 eval-no-value-requires-8 : (t : ℕ) → eval-lts.Need-no-value-requires-8 (eval-claims t) (eval-at t) eval.Post
 eval-no-value-requires-8 t c κs = search rules
 
-eval-returns-25 : (t : ℕ) → eval-lts.Need-returns-25 (eval-claims t) (eval-at t) eval.Post
-eval-returns-25 t c =
-    c.no-value8.ensures ∙ sym (at-tested t c.before.before ∙ content_other _ c.before.match19.keys2 _)
+eval-returns-24 : (t : ℕ) → eval-lts.Need-returns-24 (eval-claims t) (eval-at t) eval.Post
+eval-returns-24 t c =
+    c.no-value8.ensures ∙ sym (at-tested t c.before.before ∙ content_other _ c.before.match18.keys2 _)
 
 eval-type-test-requires : (t : ℕ) → eval-lts.Need-type-test-requires (eval-claims t) (eval-at t) eval.Post
 eval-type-test-requires t c κs = search rules
 
-eval-returns-26 : (t : ℕ) → eval-lts.Need-returns-26 (eval-claims t) (eval-at t) eval.Post
+eval-returns-25 : (t : ℕ) → eval-lts.Need-returns-25 (eval-claims t) (eval-at t) eval.Post
 unfolding meaning_by choose
-eval-returns-26 t c = c.constant.ensures ∙ sym (at_row t c.before.before 0 c.before.match.keys1)
+eval-returns-25 t c = c.constant.ensures ∙ sym (at_row t c.before.before 0 c.before.match.keys1)
 
-eval-returns-27 : (t : ℕ) → eval-lts.Need-returns-27 (eval-claims t) (eval-at t) eval.Post
-eval-returns-27 t c =
+eval-returns-26 : (t : ℕ) → eval-lts.Need-returns-26 (eval-claims t) (eval-at t) eval.Post
+eval-returns-26 t c =
     let o = c.before.before.before in
     c.fresh.ensures ∙ c.before.load.ensures
     ∙ sym (at-variable t o.before.before ∙ content_object o.variable.given.1 _)
 
-eval-returns-28 : (t : ℕ) → eval-lts.Need-returns-28 (eval-claims t) (eval-at t) eval.Post
-eval-returns-28 t c =
+eval-returns-27 : (t : ℕ) → eval-lts.Need-returns-27 (eval-claims t) (eval-at t) eval.Post
+eval-returns-27 t c =
     let o = c.before.before.before in
     c.fresh2.ensures ∙ c.before.load2.ensures
     ∙ sym (at_part t o.before.before ∙ content_object o.part.given.1 _)
 
-eval-returns-29 : (t : ℕ) → eval-lts.Need-returns-29 (eval-claims t) (eval-at t) eval.Post
-eval-returns-29 t c =
+eval-returns-28 : (t : ℕ) → eval-lts.Need-returns-28 (eval-claims t) (eval-at t) eval.Post
+eval-returns-28 t c =
     let o = c.before.before.before in
     c.fresh4.ensures ∙ c.before.load3.ensures
     ∙ sym (at-element t o.before.before ∙ content_object o.element.given.1 _)
 
-eval-returns-30 : (t : ℕ) → eval-lts.Need-returns-30 (eval-claims t) (eval-at t) eval.Post
-eval-returns-30 t c =
+eval-returns-29 : (t : ℕ) → eval-lts.Need-returns-29 (eval-claims t) (eval-at t) eval.Post
+eval-returns-29 t c =
     let o = c.before.before.before in
     c.fresh5.ensures ∙ c.before.load4.ensures
     ∙ sym (at-narrowed t o.before.before ∙ content_object o.narrowed.given.1 _)
 
-eval-returns-31 : (t : ℕ) → eval-lts.Need-returns-31 (eval-claims t) (eval-at t) eval.Post
-eval-returns-31 t c =
+eval-returns-30 : (t : ℕ) → eval-lts.Need-returns-30 (eval-claims t) (eval-at t) eval.Post
+eval-returns-30 t c =
     let x = c.before.before.before.before.before in
     c.booleans.ensures
     ∙ sym (at-operands t x.before.before ∙ rw (x.x.given.1, c.before.before.y.given.1) (two_booleans _ _ _))
+
+eval-returns-31 : (t : ℕ) → eval-lts.Need-returns-31 (eval-claims t) (eval-at t) eval.Post
+eval-returns-31 t c =
+    let x = c.before.before.before in
+    sym (at-operands t x.before.before ∙ rw (x.x2.given.1, c.enum_told.given.1) (not_integer _ _ _))
 
 eval-returns-32 : (t : ℕ) → eval-lts.Need-returns-32 (eval-claims t) (eval-at t) eval.Post
 eval-returns-32 t c =
@@ -816,36 +807,25 @@ eval-returns-33 t c =
 
 eval-returns-34 : (t : ℕ) → eval-lts.Need-returns-34 (eval-claims t) (eval-at t) eval.Post
 eval-returns-34 t c =
-    let x = c.before.before in
-    sym (at-operands t x.before.before ∙ rw x.x2.given.1 (not_integer _ _ _ c.match15.keys3))
-
-eval-returns-35 : (t : ℕ) → eval-lts.Need-returns-35 (eval-claims t) (eval-at t) eval.Post
-eval-returns-35 t c =
     let x = c.before.before.before.before.before in
     c.sets.ensures
     ∙ sym (at-operands t x.before.before ∙ rw (x.x3.given.1, c.before.before.y4.given.1) (two_sets _ _ _))
 
-eval-returns-36 : (t : ℕ) → eval-lts.Need-returns-36 (eval-claims t) (eval-at t) eval.Post
-eval-returns-36 t c =
-    let x = c.before.before.before.before.before in
-    c.chars.ensures
-    ∙ sym (at-operands t x.before.before ∙ rw (x.x4.given.1, c.before.before.y5.given.1) (two_chars _ _ _))
-
-eval-returns-37 : (t : ℕ) → eval-lts.Need-returns-37 (eval-claims t) (eval-at t) eval.Post
-eval-returns-37 t c =
+eval-returns-35 : (t : ℕ) → eval-lts.Need-returns-35 (eval-claims t) (eval-at t) eval.Post
+eval-returns-35 t c =
     let o = c.before.before.before in
     let f = o.before.before.before in
     c.fresh9.ensures ∙ c.before.monadic.ensures
     ∙ sym (at-operand t f o.before.before.if9.false ∙ bind_value o.operand.given.1 _)
 
-eval-returns-38 : (t : ℕ) → eval-lts.Need-returns-38 (eval-claims t) (eval-at t) eval.Post
-eval-returns-38 t c =
+eval-returns-36 : (t : ℕ) → eval-lts.Need-returns-36 (eval-claims t) (eval-at t) eval.Post
+eval-returns-36 t c =
     let o = c.before.before in
     c.type-test.ensures ∙ sym (at-tested t o.before.before ∙ content_object o.tested.given.1 _)
 
-eval-returns-39 : (t : ℕ) → eval-lts.Need-returns-39 (eval-claims t) (eval-at t) eval.Post
+eval-returns-37 : (t : ℕ) → eval-lts.Need-returns-37 (eval-claims t) (eval-at t) eval.Post
 unfolding meaning_by choose
-eval-returns-39 t c =
+eval-returns-37 t c =
     let n = c.match.rest in
     let k : ℕ = c.before.Node-at.result.kind in
     sym (at_row t c.before k refl
@@ -1224,6 +1204,7 @@ pub +eval-find-spec : {M : Type 1} → statement M
     (eval-returns-19 t)
     (eval-booleans-requires t)
     (eval-enum-known-x-2 t)
+    (eval-enum-told t)
     (eval-enum-known-y-2 t)
     (eval-integers-requires t)
     (eval-enum-known-y-3 t)
@@ -1232,23 +1213,20 @@ pub +eval-find-spec : {M : Type 1} → statement M
     (eval-enum-known-y-4 t)
     (eval-returns-20 t)
     (eval-sets-requires t)
-    (eval-enum-known-x-4 t)
-    (eval-enum-known-y-5 t)
     (eval-returns-21 t)
-    (eval-chars-requires t)
-    (eval-returns-22 t)
     (eval-eval-requires-4 t)
     (eval-fresh-requires-8 t)
-    (eval-returns-23 t)
+    (eval-returns-22 t)
     (eval-enum-known-operand t)
-    (eval-returns-24 t)
+    (eval-returns-23 t)
     (eval-monadic-requires t)
     (eval-fresh-requires-9 t)
     (eval-variable-place-requires-3 t)
     (eval-enum-known-tested t)
     (eval-no-value-requires-8 t)
-    (eval-returns-25 t)
+    (eval-returns-24 t)
     (eval-type-test-requires t)
+    (eval-returns-25 t)
     (eval-returns-26 t)
     (eval-returns-27 t)
     (eval-returns-28 t)
@@ -1260,9 +1238,7 @@ pub +eval-find-spec : {M : Type 1} → statement M
     (eval-returns-34 t)
     (eval-returns-35 t)
     (eval-returns-36 t)
-    (eval-returns-37 t)
-    (eval-returns-38 t)
-    (eval-returns-39 t))
+    (eval-returns-37 t))
     λ t. find-lts.spec (find-claims t) (find_at t) find.Post
     (find-node-at-requires t)
     (find-cast-first t)

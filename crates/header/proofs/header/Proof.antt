@@ -6,7 +6,7 @@ use mathlib.Core.List.{List}
 use mathlib.Core.Path.{◌≡◌, ◌∙◌, sym, ap}
 use Prim.Native.Nat.{ℕ}
 use native.Mathlib.Omega.{arith}
-use borrow.Author.Tests.{lt-ltb, le-leb, lt-leb, eq-eqb, ne_eqb, not-true, not-false}
+use borrow.Author.Tests.{lt-ltb, le-leb, lt-leb, eq-eqb, ne_eqb}
 use Rattle.prelude.proofs.Choice.{choose_yes, choose_no, also_yes, also_left, also_right}
 use Rattle.header.specs.Header.{version_of, question1, question2, tables_of, third_answer, header_of}
 use Rattle.header.specs.declared.HeaderAnswer.TheVariants.{No}
@@ -16,7 +16,6 @@ use Rattle.header.proofs.header.Tie as tie
 use Rattle.header.proofs.header.Reads as reads
 use Rattle.header.proofs.header.Lts as lts
 use Rattle.header.proofs.tables_of.Reads as tables-of-reads
-use Rattle.image.proofs.is_version.Reads as is-version-reads
 use Rattle.image.proofs.word_at.Reads as word-at-reads
 
 module _ (image : List ℕ) where
@@ -33,13 +32,11 @@ module _ (image : List ℕ) where
   both_yes h k = choose_yes _ _ _ h ∙ choose_yes _ _ _ k
 
 abbrev image-of : tie.Else2 → List ℕ
-image-of c = c.before.before.before.before.before.args.image.now
+image-of c = c.before.before.before.before.args.image.now
 
 first_yes : (c : tie.Else2) → question1 (image-of c) ≡ true
 unfolding question1 version_of
-first_yes c =
-    also_yes (lt-ltb 0 (length (image-of c)) (omega arith))
-    (sym c.before.is-version.ensures ∙ not-false _ c.if2.false)
+first_yes c = also_yes (lt-ltb 0 (length (image-of c)) (omega arith)) (eq-eqb _ _ c.if2.false)
 
 second-yes : (c : tie.Else4) → question2 (image-of c.before.before.before) ≡ true
 unfolding question2
@@ -54,12 +51,9 @@ returns c = sym (first_no_lem _ (also_left _ (ap (λ (n : ℕ). ltb 0 n) c.if1.t
 shared-slice-read-version : tie.Need-shared-slice-read-version
 shared-slice-read-version c = search rules
 
-is-version-requires : tie.Need-is-version-requires
-is-version-requires c κs = search rules
-
 returns-2 : tie.Need-returns-2
 unfolding question1 version_of
-returns-2 c = sym (first_no_lem _ (also_right _ (sym c.before.is-version.ensures ∙ not-true _ c.if2.true)))
+returns-2 c = sym (first_no_lem _ (also_right _ (ne_eqb _ _ c.if2.true)))
 
 returns-3 : tie.Need-returns-3
 unfolding question2
@@ -101,7 +95,6 @@ header-spec =
     (tie.spec
     returns
     shared-slice-read-version
-    is-version-requires
     returns-2
     returns-3
     word-at-requires

@@ -16,9 +16,6 @@ integers-kind-requires c κs = search rules
 sets-kind-requires : tie.Need-sets-kind-requires
 sets-kind-requires c κs = search rules
 
-chars-kind-requires : tie.Need-chars-kind-requires
-chars-kind-requires c κs = search rules
-
 returns : tie.Need-returns
 unfolding dyadic_kind choose
 returns c = c.booleans-kind.ensures ∙ rw (c.before.before.match.keys1, c.before.match2.keys1)
@@ -53,17 +50,7 @@ returns-8 c = rw (c.before.match.keys3, ne_eqb _ 2 c.match5.rest.1)
 
 returns-9 : tie.Need-returns-9
 unfolding dyadic_kind choose
-returns-9 c = c.chars-kind.ensures ∙ rw (c.before.before.match.keys4, c.before.match6.keys1)
-
-returns-10 : tie.Need-returns-10
-unfolding dyadic_kind choose
-returns-10 c = rw (c.before.match.keys4, ne_eqb _ 3 c.match6.rest.1)
-
-returns-11 : tie.Need-returns-11
-unfolding dyadic_kind choose
-returns-11 c =
-    let m = c.match.rest in
-    rw (ne_eqb _ 0 m.0.0.0.1, ne_eqb _ 1 m.0.0.1, ne_eqb _ 2 m.0.1, ne_eqb _ 3 m.1)
+returns-9 c = let m = c.match.rest in rw (ne_eqb _ 0 m.0.0.1, ne_eqb _ 1 m.0.1, ne_eqb _ 2 m.1)
 
 pub dyadic-kind-spec : {M : Type 1} → statement M
 dyadic-kind-spec =
@@ -72,7 +59,6 @@ dyadic-kind-spec =
     booleans-kind-requires
     integers-kind-requires
     sets-kind-requires
-    chars-kind-requires
     returns
     returns-2
     returns-3
@@ -81,6 +67,4 @@ dyadic-kind-spec =
     returns-6
     returns-7
     returns-8
-    returns-9
-    returns-10
-    returns-11)
+    returns-9)

@@ -30,37 +30,7 @@ returns-5 c = rw (c.before.match.keys2, ne_eqb _ 0 c.match2.rest.1)
 
 returns-6 : tie.Need-returns-6
 unfolding monadic_kind choose
-returns-6 c = rw (c.before.match.keys3, c.match3.keys1)
-
-returns-7 : tie.Need-returns-7
-unfolding monadic_kind choose
-returns-7 c = rw (c.before.match.keys3, ne_eqb _ 3 c.match3.rest.1)
-
-returns-8 : tie.Need-returns-8
-unfolding monadic_kind choose
-returns-8 c = rw (c.before.match.keys4, c.match4.keys1)
-
-returns-9 : tie.Need-returns-9
-unfolding monadic_kind choose
-returns-9 c = rw (c.before.match.keys4, ne_eqb _ 1 c.match4.rest.1)
-
-returns-10 : tie.Need-returns-10
-unfolding monadic_kind choose
-returns-10 c =
-    let m = c.match.rest in
-    rw (ne_eqb _ 1 m.0.0.0.1, ne_eqb _ 2 m.0.0.1, ne_eqb _ 3 m.0.1, ne_eqb _ 4 m.1)
+returns-6 c = rw (ne_eqb _ 1 c.match.rest.0.1, ne_eqb _ 2 c.match.rest.1)
 
 pub monadic-kind-spec : {M : Type 1} → statement M
-monadic-kind-spec =
-    tie.close
-    (tie.spec
-    returns
-    returns-2
-    returns-3
-    returns-4
-    returns-5
-    returns-6
-    returns-7
-    returns-8
-    returns-9
-    returns-10)
+monadic-kind-spec = tie.close (tie.spec returns returns-2 returns-3 returns-4 returns-5 returns-6)

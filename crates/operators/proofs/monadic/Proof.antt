@@ -19,20 +19,11 @@ enum-known-operand-2 c = search rules
 subtract-requires : tie.Need-subtract-requires
 subtract-requires c κs = search rules
 
-chr-requires : tie.Need-chr-requires
-chr-requires c κs = search rules
-
 enum-known-operand-3 : tie.Need-enum-known-operand-3
 enum-known-operand-3 c = search rules
 
 complement-requires : tie.Need-complement-requires
 complement-requires c κs = search rules
-
-enum-known-operand-4 : tie.Need-enum-known-operand-4
-enum-known-operand-4 c = search rules
-
-ord-requires : tie.Need-ord-requires
-ord-requires c κs = search rules
 
 returns : tie.Need-returns
 unfolding monadic_of choose
@@ -51,32 +42,16 @@ returns-3 c =
 
 returns-4 : tie.Need-returns-4
 unfolding monadic_of choose
-returns-4 c =
-    let v = c.before.before.before.operand2.given in
-    c.chr.ensures ∙ rw (v.1, plain32 v.0.0 (search rules), c.before.match3.keys2)
+returns-4 c = rw (c.before.before.operand2.given.1, ne_eqb _ 1 c.match3.rest.1)
 
 returns-5 : tie.Need-returns-5
 unfolding monadic_of choose
 returns-5 c =
-    let m = c.match3.rest in
-    rw (c.before.before.operand2.given.1, ne_eqb _ 1 m.0.1, ne_eqb _ 4 m.1)
+    rw (c.complement.ensures, c.before.before.before.operand3.given.1, c.before.match4.keys1)
 
 returns-6 : tie.Need-returns-6
 unfolding monadic_of choose
-returns-6 c =
-    rw (c.complement.ensures, c.before.before.before.operand3.given.1, c.before.match4.keys1)
-
-returns-7 : tie.Need-returns-7
-unfolding monadic_of choose
-returns-7 c = rw (c.before.before.operand3.given.1, ne_eqb _ 1 c.match4.rest.1)
-
-returns-8 : tie.Need-returns-8
-unfolding monadic_of choose
-returns-8 c = rw (c.ord.ensures, c.before.before.before.operand4.given.1, c.before.match5.keys1)
-
-returns-9 : tie.Need-returns-9
-unfolding monadic_of choose
-returns-9 c = rw (c.before.before.operand4.given.1, ne_eqb _ 3 c.match5.rest.1)
+returns-6 c = rw (c.before.before.operand3.given.1, ne_eqb _ 1 c.match4.rest.1)
 
 pub monadic-spec : {M : Type 1} → statement M
 monadic-spec =
@@ -85,17 +60,11 @@ monadic-spec =
     enum-known-operand
     enum-known-operand-2
     subtract-requires
-    chr-requires
     enum-known-operand-3
     complement-requires
-    enum-known-operand-4
-    ord-requires
     returns
     returns-2
     returns-3
     returns-4
     returns-5
-    returns-6
-    returns-7
-    returns-8
-    returns-9)
+    returns-6)

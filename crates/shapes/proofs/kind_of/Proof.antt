@@ -1,7 +1,7 @@
 -- `shapes::kind_of` meets its contract: by the row's kind.
 use mathlib.Core.Path.{sym}
 use borrow.Author.Rules.{rules}
-use Rattle.shapes.proofs.Singles.{scalar_kind, char_kind, no_scalar}
+use Rattle.shapes.proofs.Singles.{scalar_kind, no_scalar}
 use Rattle.shapes.proofs.kind_of.Statement.{statement}
 use Rattle.shapes.proofs.kind_of.Tie as tie
 
@@ -12,10 +12,7 @@ returns : tie.Need-returns
 returns c = sym (scalar_kind _ c.if1.true)
 
 returns-2 : tie.Need-returns-2
-returns-2 c = sym (char_kind _ c.if2.true)
-
-returns-3 : tie.Need-returns-3
-returns-3 c = sym (no_scalar _ c.before.if1.false c.if2.false)
+returns-2 c = sym (no_scalar _ c.if1.false)
 
 pub kind-of-spec : {M : Type 1} → statement M
-kind-of-spec = tie.close (tie.spec cast-result returns returns-2 returns-3)
+kind-of-spec = tie.close (tie.spec cast-result returns returns-2)

@@ -1,5 +1,5 @@
 use Rattle.shapes.specs.Sizes.{size_by}
-use Rattle.shapes.proofs.Rows.{form_scalar, form_array, form_record, form_char, form_none}
+use Rattle.shapes.proofs.Rows.{form_scalar, form_array, form_record, form_none}
 use native.Mathlib.Omega.{arith}
 use borrow.Author.Rules.{rules}
 use Rattle.sizes.proofs.type_size.Statement.{statement}
@@ -45,17 +45,11 @@ returns-2 c = rw (form_record c.before.before.before.before.before.args.row c.be
 
 returns-3 : tie.Need-returns-3
 unfolding size_by
-returns-3 c = rw (form_char c.before.before.before.args.row c.match.keys3)
+returns-3 c = rw (form_scalar c.before.before.before.before.args.row (omega arith))
 
 returns-4 : tie.Need-returns-4
 unfolding size_by
-returns-4 c = rw (form_scalar c.before.before.before.before.args.row (omega arith))
-
-returns-5 : tie.Need-returns-5
-unfolding size_by
-returns-5 c =
-    let m = c.before.match.rest in
-    rw (form_none c.before.before.before.before.args.row (omega arith))
+returns-4 c = let m = c.before.match.rest in rw (form_none c.before.before.before.before.args.row (omega arith))
 
 pub type-size-spec : {M : Type 1} → statement M
 type-size-spec =
@@ -72,5 +66,4 @@ type-size-spec =
     returns
     returns-2
     returns-3
-    returns-4
-    returns-5)
+    returns-4)

@@ -1,10 +1,10 @@
--- `values::constant` meets its contract: by the half, then the kind.
-use mathlib.Core.Path.{◌≡◌, ◌∙◌}
+-- `values::constant` meets its contract: by the kind.
+use mathlib.Core.Path.{◌∙◌}
 use native.Mathlib.Omega.{arith}
 use Prim.Native.Nat.{◌+◌, ◌*◌}
 use borrow.Author.Tests.{ne_eqb}
 use Rattle.prelude.specs.Choice.{choose}
-use Rattle.values.specs.Values.{INTEGER, constant_of}
+use Rattle.values.specs.Values.{constant_of}
 use Rattle.values.proofs.Numbers.{plain32, of_nat64}
 use borrow.Author.Rules.{rules}
 use Rattle.values.proofs.constant.Statement.{statement}
@@ -25,43 +25,24 @@ boolean-cell-requires c κs = search rules
 signed-of-requires : tie.Need-signed-of-requires
 signed-of-requires c κs = search rules
 
-cast-char-cell : tie.Need-overflow-cast-char-cell
-cast-char-cell c = search rules
-
-char-cell-requires : tie.Need-char-cell-requires
-char-cell-requires c κs = search rules
-
 returns : tie.Need-returns
 unfolding constant_of choose
 returns c =
-    let a = c.before.before.before.args in
+    let a = c.before.before.args in
     c.boolean-cell.ensures ∙ rw (of_nat64 (a.b * 65536 + a.c) (omega arith), c.before.match.keys1)
 
 returns-2 : tie.Need-returns-2
 unfolding constant_of choose
 returns-2 c =
-    let zero = c.before.match.rest.1 in
-    let below = c.before.before.if1.true in
-    let one : c.before.before.before.args.kind ≡ INTEGER = omega arith in
-    rw (plain32 c.Signed-of.result (search rules), c.Signed-of.ensures, one)
+    rw (plain32 c.Signed-of.result (search rules), c.Signed-of.ensures, c.before.match.keys2)
 
 returns-3 : tie.Need-returns-3
 unfolding constant_of choose
-returns-3 c = rw c.match2.keys1
+returns-3 c = rw c.match.keys3
 
 returns-4 : tie.Need-returns-4
 unfolding constant_of choose
-returns-4 c =
-    let a = c.before.before.before.args in
-    c.char-cell.ensures ∙ rw (of_nat64 (a.b * 65536 + a.c) (omega arith), c.before.match2.keys2)
-
-returns-5 : tie.Need-returns-5
-unfolding constant_of choose
-returns-5 c =
-    let k = c.before.before.args.kind in
-    let high = c.before.if1.false in
-    let m = c.match2.rest in
-    rw (ne_eqb k 0 (omega arith), ne_eqb k 1 (omega arith), ne_eqb k 2 m.0.1, ne_eqb k 3 m.1)
+returns-4 c = let m = c.match.rest in rw (ne_eqb _ 0 m.0.0.1, ne_eqb _ 1 m.0.1, ne_eqb _ 2 m.1)
 
 pub constant-spec : {M : Type 1} → statement M
 constant-spec =
@@ -72,10 +53,7 @@ constant-spec =
     cast-boolean-cell
     boolean-cell-requires
     signed-of-requires
-    cast-char-cell
-    char-cell-requires
     returns
     returns-2
     returns-3
-    returns-4
-    returns-5)
+    returns-4)

@@ -26,12 +26,6 @@ enum-known-v-3 c = search rules
 cast-result-2 : tie.Need-overflow-cast-result-2
 cast-result-2 c = search rules
 
-enum-known-v-4 : tie.Need-enum-known-v-4
-enum-known-v-4 c = search rules
-
-cast-result-3 : tie.Need-overflow-cast-result-3
-cast-result-3 c = search rules
-
 returns-2 : tie.Need-returns-2
 unfolding number_of choose
 returns-2 c = rw (c.before.before.v.given.1, c.if1.false)
@@ -44,10 +38,6 @@ returns-4 : tie.Need-returns-4
 unfolding number_of
 returns-4 c = rw c.before.v3.given.1 (of_nat64 c.before.v3.given.0.0 (omega arith))
 
-returns-5 : tie.Need-returns-5
-unfolding number_of
-returns-5 c = rw c.before.v4.given.1 (of_nat64 c.before.v4.given.0.0 (omega arith))
-
 pub number-of-spec : {M : Type 1} → statement M
 number-of-spec =
     tie.close
@@ -58,9 +48,6 @@ number-of-spec =
     cast-result
     enum-known-v-3
     cast-result-2
-    enum-known-v-4
-    cast-result-3
     returns-2
     returns-3
-    returns-4
-    returns-5)
+    returns-4)

@@ -9,17 +9,16 @@ mod values;
 
 use crate::image::{most_rows, row};
 use crate::random::Random;
-use listing::{scalars, Row, Tables, NODES, STATEMENTS, TYPES, VARIABLES};
-use types::{Types, BOOLEAN, CHAR, INTEGER, SET};
+use listing::{Row, Tables, NODES, STATEMENTS, VARIABLES};
+use types::{Types, BOOLEAN, INTEGER, SET};
 
 pub const GLOBAL: u8 = 0;
 pub const LOCAL: u8 = 1;
 pub const VALUE: u8 = 2;
 pub const VAR: u8 = 3;
 
-/// Which version an image is to have, how large it is to be, and how often it may do what can trap.
+/// How large an image is to be, and how often it may do what can trap.
 pub struct Scale {
-    version: u8,
     types: usize,
     globals: usize,
     procedures: usize,
@@ -101,17 +100,14 @@ pub fn image(random: &mut Random) -> Tables {
 
 impl Scale {
     fn pick(random: &mut Random) -> Scale {
-        let version = random.between(1, 2) as u8;
         let size = random.weighted(&[(70, 0), (26, 1), (4, 2)]);
         let wide = random.chance(15);
         let hollow = random.chance(60);
         let few = random.below(10) * random.below(10).min(1);
         let full = |random: &mut Random| size == 2 && random.chance(500);
         let risk = random.weighted(&[(35, 1), (40, 8), (25, 40)]);
-        let types = [random.below(10), random.below(18), 61 - random.below(8) * random.below(2)][size];
         Scale {
-            version,
-            types: (scalars(version).len() + types).min(most_rows(TYPES)),
+            types: 3 + [random.below(10), random.below(18), 61 - random.below(8) * random.below(2)][size],
             globals: [few, random.below(20), random.below(40)][if wide { 2 } else { size }],
             procedures: 1 + [random.below(5), random.below(10), 63 - random.below(40) * random.below(2)][size],
             items: [8, 10, 12][size],
@@ -123,11 +119,6 @@ impl Scale {
             all_nodes: full(random),
             all_statements: full(random),
         }
-    }
-
-    /// How many scalar types there are.
-    fn scalars(&self) -> usize {
-        scalars(self.version).len()
     }
 }
 
@@ -203,7 +194,7 @@ impl Maker<'_> {
     /// A record that another one extends, where there is one.
     fn extended_type(&mut self) -> usize {
         let extended = |t: &usize| self.types.is_record(*t) && self.types.extensions(*t).len() > 1;
-        let choices: Vec<usize> = (0..self.types.list.len()).filter(extended).collect();
+        let choices: Vec<usize> = (3..self.types.list.len()).filter(extended).collect();
         match self.random.any(&choices) {
             Some(ty) => ty,
             None => self.declared_type(),
@@ -212,12 +203,12 @@ impl Maker<'_> {
 
     /// A type without cells, or one that holds some, where there is one.
     fn hollow_type(&mut self) -> Option<usize> {
-        let empty: Vec<usize> = (0..self.types.list.len()).filter(|t| self.types.list[*t].size == 0).collect();
+        let empty: Vec<usize> = (3..self.types.list.len()).filter(|t| self.types.list[*t].size == 0).collect();
         if self.random.chance(500) {
             return self.random.any(&empty);
         }
         let holds = |t: &usize| self.types.list[*t].size < 60 && empty.iter().any(|empty| self.types.holds(*t, *empty));
-        let around: Vec<usize> = (0..self.types.list.len()).filter(holds).collect();
+        let around: Vec<usize> = (3..self.types.list.len()).filter(holds).collect();
         self.random.any(&around)
     }
 
@@ -233,8 +224,7 @@ impl Maker<'_> {
         let ty = self.random.below(self.types.list.len());
         let most = if self.scale.wide { 4096 } else { 60 };
         if self.types.list[ty].size > most || self.random.chance(300) {
-            let char = if self.types.has_char() { 4 } else { 0 };
-            return self.random.weighted(&[(2, BOOLEAN), (5, INTEGER), (3, SET), (char, CHAR)]);
+            return self.random.weighted(&[(2, BOOLEAN), (5, INTEGER), (3, SET)]);
         }
         ty
     }
@@ -261,9 +251,7 @@ impl Maker<'_> {
         }
         let variables = self.variables.iter().map(|v| row(v.kind as usize, v.ty, 0, 0)).collect();
         let procedures = self.procedures.iter().zip(starts).map(|(p, start)| row(0, *start, p.parameters, p.locals));
-        let Types { rows: types, fields, .. } = self.types;
-        let rows = [types, fields, variables, procedures.collect(), self.nodes, self.statements];
-        Tables { version: self.scale.version, rows }
+        [self.types.rows, self.types.fields, variables, procedures.collect(), self.nodes, self.statements]
     }
 
     fn node_room(&self) -> usize {

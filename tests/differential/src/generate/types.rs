@@ -3,12 +3,11 @@
 use super::Scale;
 use crate::image::{most_rows, row};
 use crate::random::Random;
-use listing::{Row, FIELDS, KINDS_OF_SCALARS};
+use listing::{Row, FIELDS};
 
 pub const BOOLEAN: usize = 0;
 pub const INTEGER: usize = 1;
 pub const SET: usize = 2;
-pub const CHAR: usize = 3;
 
 /// The most cells that a type can have.
 const LARGEST: usize = 4096;
@@ -30,9 +29,8 @@ pub struct Type {
     depth: usize,
 }
 
+#[derive(Default)]
 pub struct Types {
-    /// The version's scalar types; they are the first rows.
-    pub scalars: usize,
     pub list: Vec<Type>,
     /// Of each type the types that it holds at any depth, itself too: a bit for each row.
     holds: Vec<u64>,
@@ -42,11 +40,10 @@ pub struct Types {
 
 impl Types {
     pub fn generate(random: &mut Random, scale: &Scale) -> Types {
-        let scalars = scale.scalars();
-        let mut types = Types { scalars, list: vec![], holds: vec![], rows: vec![], fields: vec![] };
-        for kind in &KINDS_OF_SCALARS[..scalars] {
+        let mut types = Types::default();
+        for kind in [BOOLEAN, INTEGER, SET] {
             let scalar = Type { shape: Shape::Scalar, size: 1, fields: vec![], depth: 0 };
-            types.add(scalar, row(*kind as usize, 0, 0, 0));
+            types.add(scalar, row(kind, 0, 0, 0));
         }
         while types.list.len() < scale.types {
             types.add_type(random, scale);
@@ -90,15 +87,11 @@ impl Types {
         self.add(array, row(3, element, length, 0));
     }
 
-    /// Mostly an array or a record, so that designators have several indexes, and arrays hold extensions; of version 2
-    /// often CHAR, so that there are names.
+    /// Mostly an array or a record, so that designators have several indexes, and arrays hold extensions.
     fn element(&self, random: &mut Random, scale: &Scale) -> usize {
-        if self.has_char() && random.chance(200) {
-            return CHAR;
-        }
         let not_deep = |t: &usize| self.list[*t].depth < 4;
         let (records, arrays): (Vec<usize>, Vec<usize>) =
-            (self.scalars..self.list.len()).filter(not_deep).partition(|t| self.is_record(*t));
+            (3..self.list.len()).filter(not_deep).partition(|t| self.is_record(*t));
         let choice = match random.below(10) {
             0..=2 => random.any(&arrays),
             3..=6 => random.any(&records),
@@ -149,7 +142,7 @@ impl Types {
     fn part(&self, random: &mut Random, scale: &Scale) -> usize {
         let part = random.below(self.list.len());
         if self.list[part].depth > 5 || random.chance(if scale.hollow { 200 } else { 500 }) {
-            return random.below(self.scalars);
+            return random.below(3);
         }
         part
     }
@@ -159,15 +152,11 @@ impl Types {
     }
 
     fn records(&self) -> Vec<usize> {
-        (self.scalars..self.list.len()).filter(|t| self.is_record(*t)).collect()
+        (3..self.list.len()).filter(|t| self.is_record(*t)).collect()
     }
 
     pub fn is_scalar(&self, t: usize) -> bool {
-        t < self.scalars
-    }
-
-    pub fn has_char(&self) -> bool {
-        self.is_scalar(CHAR)
+        t <= SET
     }
 
     fn is_array(&self, t: usize) -> bool {
@@ -180,7 +169,7 @@ impl Types {
 
     /// Whether an object of the type has an array in it, or is one.
     pub fn has_array(&self, t: usize) -> bool {
-        (0..=t).any(|u| self.is_array(u) && self.holds(t, u))
+        (3..=t).any(|u| self.is_array(u) && self.holds(t, u))
     }
 
     /// Whether an object of type t has one of type u in it, or is one.

@@ -1,6 +1,6 @@
 //! Random expressions of a scalar kind.
 
-use super::types::{BOOLEAN, CHAR, INTEGER, SET};
+use super::types::{BOOLEAN, INTEGER, SET};
 use super::Maker;
 use crate::image::row;
 
@@ -10,22 +10,12 @@ const EDGES: [i32; 14] =
 
 const DIV: usize = 4;
 pub const MOD: usize = 5;
-/// Monadic operators of version 2.
-const ORD: usize = 3;
-const CHR: usize = 4;
-
-/// How many CHARs there are.
-const CHARS: usize = 256;
 
 impl Maker<'_> {
     /// An expression of the kind, with about as many operators as fuel says.
     pub fn value(&mut self, kind: usize, fuel: usize) -> usize {
         if self.daring && kind != SET && self.random.chance(120) {
-            return match kind {
-                INTEGER => self.trapping(),
-                CHAR => self.character(fuel),
-                _ => self.element(fuel),
-            };
+            return if kind == INTEGER { self.trapping() } else { self.element(fuel) };
         }
         if fuel == 0 || self.random.chance(200) {
             return self.leaf(kind, fuel);
@@ -33,7 +23,6 @@ impl Maker<'_> {
         match kind {
             BOOLEAN => self.boolean(fuel),
             INTEGER => self.integer(fuel),
-            CHAR => self.character(fuel),
             _ => self.set(fuel),
         }
     }
@@ -56,12 +45,6 @@ impl Maker<'_> {
             INTEGER => {
                 let value = self.some_integer();
                 self.constant(INTEGER, value as u32)
-            }
-            CHAR => {
-                let any = self.random.below(CHARS) as u32;
-                let letter = u32::from(*self.random.pick(b"AZaz019 "));
-                let value = *self.random.pick(&[0, 255, letter, letter, 127, 128, any]);
-                self.constant(CHAR, value)
             }
             _ => {
                 let bits = self.random.next() as u32;
@@ -127,10 +110,6 @@ impl Maker<'_> {
     }
 
     fn integer(&mut self, fuel: usize) -> usize {
-        if self.types.has_char() && self.random.chance(120) {
-            let node = self.value(CHAR, fuel - 1);
-            return self.monadic(ORD, node);
-        }
         match self.random.weighted(&[(6, 1), (6, 2), (4, 3), (4, 4), (6, 5), (3, 0)]) {
             0 => {
                 let node = self.value(INTEGER, fuel - 1);
@@ -238,18 +217,6 @@ impl Maker<'_> {
         self.bounded(length, fuel)
     }
 
-    /// CHR, mostly of a number that it takes.
-    fn character(&mut self, fuel: usize) -> usize {
-        let node = match self.random.chance(3 * self.risk()) {
-            true => {
-                let outside = *self.random.pick(&[256, -1, 257, 65_601, -128, -191, i32::MAX, i32::MIN]);
-                self.signed(outside)
-            }
-            false => self.bounded(CHARS, fuel),
-        };
-        self.monadic(CHR, node)
-    }
-
     fn set(&mut self, fuel: usize) -> usize {
         match self.random.weighted(&[(4, 1), (4, 2), (4, 3), (4, 6), (5, 16), (3, 0)]) {
             0 => {
@@ -272,8 +239,7 @@ impl Maker<'_> {
             0 | 1 => self.comparison(fuel),
             2..=4 => {
                 let operator = self.random.between(9, 12);
-                let kind = if self.types.has_char() && self.random.chance(400) { CHAR } else { INTEGER };
-                self.both(kind, operator, fuel)
+                self.both(INTEGER, operator, fuel)
             }
             5..=7 => {
                 let operator = self.random.between(13, 14);
@@ -292,7 +258,7 @@ impl Maker<'_> {
     }
 
     fn comparison(&mut self, fuel: usize) -> usize {
-        let kind = self.random.below(self.types.scalars);
+        let kind = self.random.below(3);
         let operator = self.random.between(7, 8);
         self.both(kind, operator, fuel)
     }

@@ -6,7 +6,7 @@ use crate::random::Random;
 pub fn damage(random: &mut Random, bytes: &mut Vec<u8>) {
     match random.below(9) {
         0 => bytes.clear(),
-        1 => bytes[0] = *random.pick(&[0, 1, 2, 3, 255]),
+        1 => bytes[0] = *random.pick(&[0, 2, 255]),
         2 => bytes.truncate(random.below(6)),
         3 => wrong_length(random, bytes),
         4 => shorten(random, bytes),

@@ -2,12 +2,11 @@
 
 use crate::image::row;
 use crate::random::Random;
-use listing::{scalars, Row, Tables, FIELDS, NODES, PROCEDURES, STATEMENTS, TYPES, VARIABLES};
-use model::types::CHAR;
+use listing::{Row, Tables, FIELDS, NODES, PROCEDURES, STATEMENTS, TYPES, VARIABLES};
 
 type Mistake = fn(&mut Random, &mut Tables);
 
-const MISTAKES: [Mistake; 47] = [
+const MISTAKES: [Mistake; 34] = [
     other_constant_type,
     other_variable,
     other_variable,
@@ -17,7 +16,6 @@ const MISTAKES: [Mistake; 47] = [
     constant_to_variable,
     other_operator,
     other_operator,
-    operand_of_another_type,
     operand_of_another_type,
     operand_of_another_type,
     operand_of_another_type,
@@ -43,18 +41,6 @@ const MISTAKES: [Mistake; 47] = [
     guard_of_another_parameter,
     other_body,
     too_large,
-    other_version,
-    other_version,
-    three_types,
-    char_row,
-    char_constant,
-    char_constant,
-    char_operand,
-    char_operand,
-    char_operand,
-    char_operand,
-    char_relation,
-    char_arithmetic,
 ];
 
 pub fn damage(random: &mut Random, tables: &mut Tables) {
@@ -82,14 +68,11 @@ fn any_below(random: &mut Random, count: usize) -> u16 {
 }
 
 fn other_constant_type(random: &mut Random, tables: &mut Tables) {
-    let version = tables.version;
-    change(random, &mut tables[NODES], |node| node.kind == 0, |random, node| retype(random, version, node));
+    change(random, &mut tables[NODES], |node| node.kind == 0, retype);
 }
 
-/// Another of the version's scalar types.
-fn retype(random: &mut Random, version: u8, node: &mut Row) {
-    let types = scalars(version).len();
-    node.a = ((node.a as usize + random.between(1, types - 1)) % types) as u16;
+fn retype(random: &mut Random, node: &mut Row) {
+    node.a = (node.a % 3 + random.between(1, 2) as u16) % 3;
     if random.chance(800) {
         (node.b, node.c) = (0, node.c % 2);
     }
@@ -129,8 +112,7 @@ fn leaf_to_constant(random: &mut Random, tables: &mut Tables) {
     if let Some(at) = random.any(&leaves) {
         let named = tables[NODES][at].a as usize;
         let ty = tables[VARIABLES].get(named).map_or(0, |variable| variable.a as usize);
-        let most = scalars(tables.version).len() - 1;
-        tables[NODES][at] = row(0, ty.min(most), 0, random.below(2));
+        tables[NODES][at] = row(0, ty.min(2), 0, random.below(2));
     }
 }
 
@@ -154,7 +136,7 @@ fn halt_of_something(random: &mut Random, tables: &mut Tables) {
     tables[STATEMENTS][at].kind = 7;
     let node = tables[STATEMENTS][at].a as usize;
     if node < tables[NODES].len() && random.chance(700) {
-        retype(random, tables.version, &mut tables[NODES][node]);
+        retype(random, &mut tables[NODES][node]);
     }
 }
 
@@ -167,7 +149,7 @@ fn other_operator(random: &mut Random, tables: &mut Tables) {
         |random, node| {
             node.c = match node.kind {
                 5 => random.between(0, 17) as u16,
-                _ => random.between(0, 5) as u16,
+                _ => random.between(0, 3) as u16,
             };
         },
     );
@@ -176,14 +158,13 @@ fn other_operator(random: &mut Random, tables: &mut Tables) {
 /// Of an operator that is picked first, so that each is.
 fn operand_of_another_type(random: &mut Random, tables: &mut Tables) {
     let dyadic = random.between(1, 16);
-    let monadic = random.between(1, 4);
-    let (kind, operator) = *random.pick(&[(5, dyadic), (5, dyadic), (5, dyadic), (6, monadic), (6, monadic), (3, 0)]);
+    let (kind, operator) = *random.pick(&[(5, dyadic), (5, dyadic), (5, dyadic), (6, 1), (6, 2), (3, 0)]);
     let good = |node: &Row| node.kind == kind && node.c as usize == operator;
     let Some(at) = find(random, &tables[NODES], good) else { return };
     let node = tables[NODES][at];
     let operand = if kind == 3 || kind == 5 && random.chance(500) { node.b } else { node.a } as usize;
     if operand < at && tables[NODES][operand].kind == 0 {
-        retype(random, tables.version, &mut tables[NODES][operand]);
+        retype(random, &mut tables[NODES][operand]);
     } else if operand < at && tables[NODES][operand].kind == 1 {
         tables[NODES][operand].a = any_below(random, tables[VARIABLES].len());
     }
@@ -361,13 +342,12 @@ fn other_element(random: &mut Random, tables: &mut Tables) {
 
 /// A comparison of a variable that is mostly no scalar with itself.
 fn compared_objects(random: &mut Random, tables: &mut Tables) {
-    let types = scalars(tables.version).len();
-    let Some(variable) = find(random, &tables[VARIABLES], |variable| variable.a as usize >= types) else { return };
+    let Some(variable) = find(random, &tables[VARIABLES], |variable| variable.a > 2) else { return };
     let nodes = &mut tables[NODES];
     let leaf = |node: u16| nodes.get(node as usize).is_some_and(|node| node.kind < 2);
     let good = |node: &Row| node.kind == 5 && leaf(node.a) && leaf(node.b);
     if let Some(at) = find(random, nodes, good) {
-        nodes[at].c = random.between(7, 12) as u16;
+        nodes[at].c = random.between(7, 8) as u16;
         for operand in [nodes[at].a, nodes[at].b] {
             nodes[operand as usize] = row(1, variable, 0, 0);
         }
@@ -390,7 +370,7 @@ fn other_read(random: &mut Random, tables: &mut Tables) {
     let Some(at) = find(random, &tables[STATEMENTS], |statement| matches!(statement.kind, 5 | 6)) else { return };
     let node = tables[STATEMENTS][at].a as usize;
     match tables[NODES].get(node).map(|node| node.kind) {
-        Some(0) => retype(random, tables.version, &mut tables[NODES][node]),
+        Some(0) => retype(random, &mut tables[NODES][node]),
         Some(1) => tables[NODES][node].a = any_below(random, tables[VARIABLES].len()),
         _ => tables[STATEMENTS][at].kind = 11 - tables[STATEMENTS][at].kind,
     }
@@ -450,8 +430,7 @@ fn too_large(random: &mut Random, tables: &mut Tables) {
     }
     let count = tables[TYPES].len();
     let cells = *random.pick(&[2047, 2048, 2049, 4095, 4096]);
-    let scalar = random.below(scalars(tables.version).len());
-    tables[TYPES].push(row(3, scalar, cells, 0));
+    tables[TYPES].push(row(3, random.below(3), cells, 0));
     let fields = tables[FIELDS].len();
     if random.chance(500) {
         let length = *random.pick(&[1, 2, 3, 16, 17, 4096]);
@@ -461,90 +440,4 @@ fn too_large(random: &mut Random, tables: &mut Tables) {
         tables[FIELDS].push(row(0, count, 0, 0));
         tables[FIELDS].push(row(0, *random.pick(&[0, count]), 0, 0));
     }
-}
-
-/// The other version, mostly with a type row 3 that it takes.
-fn other_version(random: &mut Random, tables: &mut Tables) {
-    tables.version = if tables.version == 1 { 2 } else { 1 };
-    let row_3 = match tables.version {
-        1 => *random.pick(&[row(3, 1, 2, 0), row(4, 0, 0, 0)]),
-        _ => row(5, 0, 0, 0),
-    };
-    if random.chance(800) {
-        match tables[TYPES].get_mut(CHAR) {
-            Some(row) => *row = row_3,
-            None => tables[TYPES].push(row_3),
-        }
-    }
-}
-
-/// As many as only version 1 may have.
-fn three_types(_: &mut Random, tables: &mut Tables) {
-    tables[TYPES].truncate(CHAR);
-}
-
-/// A row of CHAR's kind behind the others or in place of one, or in its own place another, or with numbers.
-fn char_row(random: &mut Random, tables: &mut Tables) {
-    let types = &mut tables[TYPES];
-    if types.len() <= CHAR || random.chance(200) {
-        return types.push(row(5, 0, 0, 0));
-    }
-    let at = random.between(CHAR, types.len() - 1);
-    match random.below(6) {
-        0 => types[at] = row(5, 0, 0, 0),
-        1 => types[CHAR].zero = 1,
-        2 => types[CHAR].kind = *random.pick(&[0, 1, 2, 3, 4, 6]),
-        3 => types[CHAR].a = 1,
-        4 => types[CHAR].b = 1,
-        _ => types[CHAR].c = 1,
-    }
-}
-
-/// A constant of CHAR's type or the next, at the ends of CHAR's range or outside; mostly one that was a CHAR.
-fn char_constant(random: &mut Random, tables: &mut Tables) {
-    let (b, c) = *random.pick(&[(0, 255), (0, 256), (0, 256), (0, 65_535), (1, 0), (1, 65), (65_535, 65_535)]);
-    let chars = random.chance(700);
-    let good = |node: &Row| node.kind == 0 && (!chars || node.a as usize == CHAR);
-    let ty = if random.chance(100) { CHAR + 1 } else { CHAR };
-    change(random, &mut tables[NODES], good, |_, node| *node = row(0, ty, b, c));
-}
-
-/// A CHAR is an index, a condition, what is read or written, or HALT's number.
-fn char_operand(random: &mut Random, tables: &mut Tables) {
-    let (table, kind) = *random.pick(&[(NODES, 3), (STATEMENTS, 2), (STATEMENTS, 5), (STATEMENTS, 6), (STATEMENTS, 7)]);
-    let mut takers = names(tables);
-    takers.retain(|&(of, at, second)| (of, tables[of][at].kind) == (table, kind) && second == (of == NODES));
-    put_char(random, tables, takers);
-}
-
-/// An INTEGER's operator becomes a relation, and one of its operands a CHAR.
-fn char_relation(random: &mut Random, tables: &mut Tables) {
-    let good = |node: &Row| node.kind == 5 && matches!(node.c, 1..=5 | 9..=12);
-    if let Some(at) = find(random, &tables[NODES], good) {
-        tables[NODES][at].c = random.between(7, 12) as u16;
-        put_char(random, tables, vec![(NODES, at, false), (NODES, at, true)]);
-    }
-}
-
-/// One of these names, of a variable or a constant, becomes that of a CHAR.
-fn put_char(random: &mut Random, tables: &mut Tables, mut names: Vec<Name>) {
-    names.retain(|name| {
-        let node = *named_at(tables, *name) as usize;
-        tables[NODES].get(node).is_some_and(|node| node.kind < 2)
-    });
-    let Some(name) = random.any(&names) else { return };
-    let global = find(random, &tables[VARIABLES], |variable| variable.kind == 0 && variable.a as usize == CHAR);
-    let operand = *named_at(tables, name) as usize;
-    tables[NODES][operand] = match global {
-        Some(global) if random.chance(700) => row(1, global, 0, 0),
-        _ => row(0, CHAR, 0, 65),
-    };
-}
-
-/// CHARs are added, or are operands of another operator than a relation.
-fn char_arithmetic(random: &mut Random, tables: &mut Tables) {
-    let chars = tables[NODES].iter().map(|node| node.kind == 0 && node.a as usize == CHAR).collect::<Vec<bool>>();
-    let is_char = |node: u16| chars.get(node as usize) == Some(&true);
-    let good = |node: &Row| node.kind == 5 && (is_char(node.a) || is_char(node.b));
-    change(random, &mut tables[NODES], good, |random, node| node.c = *random.pick(&[1, 1, 2, 3, 4, 6, 13, 15, 16]));
 }

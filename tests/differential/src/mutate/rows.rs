@@ -2,7 +2,7 @@
 
 use crate::image::{most_rows, row};
 use crate::random::Random;
-use listing::{scalars, Row, Tables, FIELDS, STATEMENTS};
+use listing::{Row, Tables, FIELDS, STATEMENTS};
 
 pub fn damage(random: &mut Random, tables: &mut Tables) {
     let table = random.below(6);
@@ -95,12 +95,11 @@ fn insert(random: &mut Random, rows: &mut Vec<Row>) {
 fn append(random: &mut Random, tables: &mut Tables, table: usize) {
     let fields = tables[FIELDS].len();
     let statements = tables[STATEMENTS].len();
-    let types = scalars(tables.version).len();
-    let array = row(3, random.below(types), 2, 0);
+    let array = row(3, random.below(3), 2, 0);
     let added = [
         *random.pick(&[row(4, 0, fields, 0), array]),
-        row(0, random.below(types), 0, 0),
-        row(random.between(1, 3), random.below(types), 0, 0),
+        row(0, random.below(3), 0, 0),
+        row(random.between(1, 3), random.below(3), 0, 0),
         row(0, statements - usize::from(statements > 0), 0, 0),
         row(0, random.below(2), 0, 1),
         row(4, 0, 0, 0),

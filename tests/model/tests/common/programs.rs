@@ -10,7 +10,7 @@ pub const INPUT: [i32; 40] = [3; 40];
 pub fn programs() -> Vec<(String, Program)> {
     let vectors = Path::new(env!("CARGO_MANIFEST_DIR")).join("../../vectors");
     let mut programs = vec![];
-    for folder in ["special", "doorrun", "in", "division", "characters", "runs", "report", "input"] {
+    for folder in ["special", "doorrun", "in", "division", "runs", "report", "input"] {
         for entry in std::fs::read_dir(vectors.join(folder)).unwrap() {
             let path = entry.unwrap().path();
             let name = path.display().to_string();
