@@ -1,5 +1,7 @@
 // An accepted image as the machine reads it: its rows, and by its plan its sizes and places, of which none is added up
 // again.
+#![tactic(auto)]
+
 ghost use Rattle.std.specs.Prelude.{◌≡◌, ◌≤◌, ◌<◌, length};
 ghost use Rattle.prelude.specs.Cells.{Filled};
 ghost use Rattle.image.specs.Rows.{row_at, rows_of};

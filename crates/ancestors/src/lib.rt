@@ -1,4 +1,6 @@
 // Which types every type row extends, worked out once, as bits: a word for each row, of 32 rows that it may extend.
+#![tactic(auto)]
+
 ghost use Rattle.std.specs.Prelude.{◌≡◌, ◌+◌, ◌≤◌, ◌<◌, length, get_or};
 ghost use Rattle.prelude.specs.Bits.{bit_of};
 ghost use Rattle.prelude.specs.Cells.{Filled};

@@ -1,4 +1,6 @@
 // Calls: arguments, and the frame that they are passed in.
+#![tactic(auto)]
+
 ghost use Rattle.std.specs.Prelude.{◌≡◌, List, [], ◌∷◌, ℕ, ◌+◌, ◌-◌, ◌≤◌, ◌<◌, ℤ, pos, length, replicate};
 ghost use Rattle.image.specs.Rows.{row_at, rows_of};
 ghost use Rattle.shapes.specs.Sizes.{size_of};
@@ -18,7 +20,7 @@ use semantics::{Found, Registers};
 use values::{Answer, Trap};
 
 // What a step comes to.
-#[derive(Drop)]
+#[derive(Clone, Copy)]
 pub enum Step {
     Goes(Registers),
     Finished,
@@ -27,7 +29,7 @@ pub enum Step {
 }
 
 // What passing arguments comes to.
-#[derive(Drop)]
+#[derive(Clone, Copy)]
 pub enum Passing {
     Done,
     Trapped(Trap),

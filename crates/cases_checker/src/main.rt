@@ -1,4 +1,6 @@
 // Runs the whole check, questions 1 to 11, on the images of a pack and prints what it answers.
+#![tactic(auto)]
+
 use checker::CheckAnswer;
 
 fn main() {

@@ -1,5 +1,7 @@
 // Runs the machine on the records of a pack and prints what each run gives back: the nine numbers, every output place
 // and every cell. tools/pack has the format.
+#![tactic(auto)]
+
 ghost use Rattle.std.specs.Prelude.{◌≡◌, ◌+◌, ◌*◌, ◌≤◌, length};
 ghost use Rattle.semantics.specs.Running.{store_after, output_after};
 ghost use Rattle.cases_machine.specs.Records.{Inputs};

@@ -1,6 +1,8 @@
 // Asks the crates values and operators the cases of data/operators.bin, whose answers an independent script wrote,
 // and prints for each kind of question how many came out the same and how many did not. tests/operators.py has the
 // format.
+#![tactic(auto)]
+
 ghost use Rattle.std.specs.Prelude.{◌≡◌, ◌+◌, ◌*◌, ◌<◌, ◌≤◌, ◌/◌, length, get_or};
 ghost use Rattle.operators.specs.Operators.{dyadic_of};
 ghost use Rattle.cases_values.specs.Cases.{half_at, operand_at, wide_at, dyadic_case, monadic_case, cell_case};

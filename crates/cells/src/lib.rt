@@ -1,4 +1,6 @@
 // Cells of the lent store: reading one by its kind, and writing cells that follow one another.
+#![tactic(auto)]
+
 ghost use Rattle.std.specs.Prelude.{◌≡◌, List, [], ◌∷◌, ℕ, ◌+◌, ◌≤◌, ◌<◌, ℤ, pos, length, replicate};
 ghost use Rattle.semantics.specs.Memory.{mark_of, bare, value_at, mark_at, part_at, overwrite};
 

@@ -1,4 +1,6 @@
 // The check of an image: questions 1 to 11.
+#![tactic(auto)]
+
 ghost use Rattle.std.specs.Prelude.{◌≡◌, ℕ, ◌+◌, ◌*◌, ◌≤◌, ◌<◌, length, set};
 ghost use Rattle.image.specs.declared.Verdict.TheVariants.{Kept};
 ghost use Rattle.image.specs.Rows.{rows_of};
@@ -18,7 +20,7 @@ use image::Verdict;
 use sizes::{BOUNDS, CHECK_PLAN};
 
 // Accepted, or the number of the question that fails and its lowest row at fault.
-#[derive(Drop)]
+#[derive(Clone, Copy)]
 pub enum CheckAnswer {
     Accepted,
     Refused(u8, u16),

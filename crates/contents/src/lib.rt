@@ -1,6 +1,8 @@
 // Whether the cells of an object hold values of its layout. A lent table says of each type what its cells are. Cells of
 // one kind are one run, and a type that is nothing but a wrapper stands for what it wraps: each level of calls splits
 // cells in at least two, so that there are no more calls than cells.
+#![tactic(auto)]
+
 ghost use Rattle.std.specs.Prelude.{◌≡◌, [], map, ◌+◌, ◌≤◌, ◌<◌, length, get_or, drop, replicate};
 ghost use Rattle.prelude.specs.Cells.{Filled};
 ghost use Rattle.prelude.specs.Parts.{joined, sum};

@@ -1,5 +1,7 @@
 // Designators: for each node row the type of the object that it designates, and of a field where it begins in which
 // record. So a step climbs no chain of bases to find a field.
+#![tactic(auto)]
+
 ghost use Rattle.std.specs.Prelude.{◌≡◌, ◌+◌, ◌≤◌, length, get_or};
 ghost use Rattle.prelude.specs.Cells.{Filled};
 ghost use Rattle.prelude.specs.Rec.{below};

@@ -1,4 +1,6 @@
 // What C calls: the check, the run and its continuation, in one library.
+#![tactic(auto)]
+
 ghost use Rattle.std.specs.Prelude.{◌≡◌};
 ghost use Rattle.checker.specs.Check.{check_of, number_of};
 ghost use Rattle.semantics.specs.Running.{result_of, store_after, output_after};

@@ -1,4 +1,6 @@
 // Runs the image on standard input and prints the nine numbers of the run on a line, then one output per line.
+#![tactic(auto)]
+
 ghost use Rattle.std.specs.Prelude.{◌≡◌, [], pos, replicate};
 ghost use Rattle.semantics.specs.Running.{result_of, output_after};
 

@@ -1,4 +1,6 @@
 // Finding a designator and evaluating an expression.
+#![tactic(auto)]
+
 ghost use Rattle.std.specs.Prelude.{◌≡◌, ◌+◌, ◌≤◌, ◌<◌, length};
 ghost use Rattle.image.specs.Rows.{row_at, rows_of};
 ghost use Rattle.shapes.specs.Forms.{kind_in};

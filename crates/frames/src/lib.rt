@@ -1,4 +1,6 @@
 // Variables and procedures: questions 5 and 6.
+#![tactic(auto)]
+
 ghost use Rattle.std.specs.Prelude.{true, false, ◌≡◌, ℕ, ◌+◌, ◌≤◌, ◌<◌, length};
 ghost use Rattle.image.specs.Faults.{all_from};
 ghost use Rattle.image.specs.Rows.{rows_of};

@@ -1,15 +1,17 @@
 // The header of an image: questions 1 to 3 of the check, and the parts that the six tables are.
+#![tactic(auto)]
+
 ghost use Rattle.std.specs.Prelude.{◌≡◌, ◌+◌, ◌≤◌, length};
 ghost use Rattle.header.specs.Header.{version_of, table_from, tables_of, header_of, part_of};
 
 // Where a table's rows stand in the image.
-#[derive(Drop)]
+#[derive(Clone, Copy)]
 pub struct Table {
     pub start: usize,
     pub end: usize,
 }
 
-#[derive(Drop)]
+#[derive(Clone, Copy)]
 pub struct Tables {
     pub types: Table,
     pub fields: Table,
@@ -19,20 +21,20 @@ pub struct Tables {
     pub statements: Table,
 }
 
-#[derive(Drop)]
+#[derive(Clone, Copy)]
 pub enum TableAnswer {
     Unfit,
     Found(Table),
 }
 
-#[derive(Drop)]
+#[derive(Clone, Copy)]
 pub enum TablesAnswer {
     Amiss,
     Six(Tables),
 }
 
 // The question that fails, or the six tables.
-#[derive(Drop)]
+#[derive(Clone, Copy)]
 pub enum HeaderAnswer {
     No(u8),
     Yes(Tables),

@@ -1,10 +1,12 @@
 // The rows of an image's tables, and what a question says of a table.
+#![tactic(auto)]
+
 ghost use Rattle.std.specs.Prelude.{◌≡◌, ◌+◌, ◌*◌, ◌≤◌, ◌<◌, length};
 ghost use Rattle.image.specs.Rows.{number_at, word_at, rows_of, row_at};
 ghost use Rattle.image.specs.Versions.{scalar_rows, monadics};
 
 // A row of a table.
-#[derive(Drop)]
+#[derive(Clone, Copy)]
 pub struct Row {
     pub kind: u8,
     pub zero: u8,
@@ -14,7 +16,7 @@ pub struct Row {
 }
 
 // What a question says of a table: every row keeps its rule, or the lowest row that does not.
-#[derive(Drop)]
+#[derive(Clone, Copy)]
 pub enum Verdict {
     Kept,
     Fault(u16),

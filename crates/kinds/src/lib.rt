@@ -1,9 +1,11 @@
 // The type rules of the operators: which kinds they take, and the kind that they give.
+#![tactic(auto)]
+
 ghost use Rattle.std.specs.Prelude.{◌≡◌};
 ghost use Rattle.kinds.specs.Kinds.{integers_kind, sets_kind, booleans_kind, dyadic_kind, monadic_kind};
 
 // The kind that an operator gives, or that it does not take such operands.
-#[derive(Drop)]
+#[derive(Clone, Copy)]
 pub enum KindAnswer {
     Untyped,
     Kind(u16),

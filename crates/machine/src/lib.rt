@@ -1,4 +1,6 @@
 // The run and the continuation: the check, the fresh state or an earlier one, and steps until the last.
+#![tactic(auto)]
+
 ghost use Rattle.std.specs.Prelude.{◌≡◌, ◌+◌, ◌≤◌, max};
 ghost use Rattle.prelude.specs.Choice.{choose};
 ghost use Rattle.checker.specs.Check.{refusal_of, row_of};

@@ -1,4 +1,6 @@
 // Names: question 9, with a byte for each node.
+#![tactic(auto)]
+
 ghost use Rattle.std.specs.Prelude.{[], ◌∷◌, ◌≡◌, ℕ, ◌≤◌, ltb, eqb, length, get_or};
 ghost use Rattle.prelude.specs.Choice.{choose};
 ghost use Rattle.image.specs.Faults.{lowest_fault};

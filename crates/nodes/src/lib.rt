@@ -1,4 +1,6 @@
 // Nodes: question 7.
+#![tactic(auto)]
+
 ghost use Rattle.std.specs.Prelude.{◌≡◌, ℕ, ◌≤◌};
 ghost use Rattle.image.specs.Rows.{rows_of};
 ghost use Rattle.nodes.specs.Nodes.{is_designator, is_argument, child_kept, designator_kept, constant_kept};

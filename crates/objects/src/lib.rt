@@ -3,6 +3,8 @@
 // words are put together from those of its parts, which stand in lower rows. By them a look at a type's parts settles
 // the answer, or leads to one part: what begins there is the answer. Contracts of looks say it for any test `deeper` of
 // which the tables are the edges.
+#![tactic(auto)]
+
 ghost use Rattle.std.specs.Prelude.{◌≡◌, Bool, false, List, ◌++◌, map, ℕ, ◌+◌, ◌-◌, ◌*◌, ◌≤◌, ◌<◌, eqb, length, get_or, replicate};
 ghost use Rattle.std.specs.Int.Bits.{bit_or};
 ghost use Rattle.prelude.specs.Bits.{bit_of};
@@ -23,7 +25,7 @@ pub const ROWS: usize = 64;
 pub type Words = [u64; ROWS];
 
 // The words of one row.
-#[derive(Drop)]
+#[derive(Clone, Copy)]
 pub struct EdgeWords {
     pub starts: u64,
     pub ends: u64,
@@ -31,7 +33,7 @@ pub struct EdgeWords {
 
 // What a look at the parts of an object settles: one begins there, none does, or the answer is that of a part of this
 // type, so many cells into it.
-#[derive(Drop)]
+#[derive(Clone, Copy)]
 pub enum Look {
     Yes,
     No,

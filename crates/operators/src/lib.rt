@@ -1,4 +1,6 @@
 // The operators on values of the scalar kinds, by operator number and operand kind.
+#![tactic(auto)]
+
 ghost use Rattle.std.specs.Prelude.{◌≡◌};
 ghost use Rattle.operators.specs.Operators.{compare_of, integers_of, sets_of, booleans_of, membership_of, monadic_of};
 ghost use Rattle.operators.specs.Operators.{decides as decidesOf};

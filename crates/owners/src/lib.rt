@@ -1,4 +1,6 @@
 // Whose variables a node uses: one span of variable rows a node, from the low rows up.
+#![tactic(auto)]
+
 ghost use Rattle.std.specs.Prelude.{◌≡◌, ◌≤◌, length, leb};
 ghost use Rattle.prelude.specs.Choice.{choose};
 ghost use Rattle.image.specs.Rows.{rows_of};
@@ -8,7 +10,7 @@ ghost use Rattle.owners.specs.Owners.{span_in, Spans};
 use image::Row;
 
 // The variables from `least` on and below `past`; none where there are none.
-#[derive(Drop)]
+#[derive(Clone, Copy)]
 pub struct Span {
     least: u16,
     past: u16,

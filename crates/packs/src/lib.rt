@@ -1,4 +1,6 @@
 // Reads the records of a pack, as tools/pack writes it, and prints answers.
+#![tactic(auto)]
+
 ghost use Rattle.std.specs.Prelude.{◌≡◌, ◌+◌, ◌≤◌, ◌<◌, length, pos, ◌-ℤ◌};
 ghost use Rattle.image.specs.Rows.{word_at};
 ghost use Rattle.packs.specs.Records.{NextRecord};

@@ -1,4 +1,6 @@
 // Places of variables and sizes of frames: the plan's part of variables and procedures.
+#![tactic(auto)]
+
 ghost use Rattle.std.specs.Prelude.{◌≡◌, ◌+◌, ◌≤◌, ◌<◌, length};
 ghost use Rattle.image.specs.Rows.{rows_of};
 ghost use Rattle.sizes.specs.Cells.{PLACES};

@@ -1,1 +1,2 @@
 // Definitions and laws that every layer shares; there is no code here.
+#![tactic(auto)]

@@ -1,4 +1,6 @@
 // Whether the VAR parameters of all frames refer to objects.
+#![tactic(auto)]
+
 ghost use Rattle.std.specs.Prelude.{◌≡◌, List, ◌∷◌, ℕ, suc, ◌+◌, ◌-◌, ◌≤◌, ◌<◌, leb, get_or, drop};
 ghost use Rattle.prelude.specs.Choice.{◌also◌};
 ghost use Rattle.prelude.specs.Bits.{bit_of};

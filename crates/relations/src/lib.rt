@@ -1,4 +1,6 @@
 // Relations of types: extension, and the fields of a record.
+#![tactic(auto)]
+
 ghost use Rattle.std.specs.Prelude.{◌≡◌};
 ghost use Rattle.relations.specs.Extends.{extends as extendsOf};
 ghost use Rattle.relations.specs.Fields.{planned_own, planned_field};
@@ -6,7 +8,7 @@ ghost use Rattle.relations.specs.Fields.{planned_own, planned_field};
 use sizes::{INHERITED, OFFSETS};
 
 // A field: where it begins in its record, and its type; or that there is none.
-#[derive(Drop)]
+#[derive(Clone, Copy)]
 pub enum FieldAnswer {
     Missing,
     Field(u32, u16),

@@ -1,4 +1,6 @@
 // Question 14: whether a run can go on from an earlier result and the store that it left.
+#![tactic(auto)]
+
 ghost use Rattle.std.specs.Prelude.{◌≡◌, suc, ◌+◌, ◌≤◌, ◌<◌, length, drop};
 ghost use Rattle.image.specs.Rows.{row_at, rows_of};
 ghost use Rattle.frames.specs.Procedures.{first_variable, claimed_by};

@@ -1,4 +1,6 @@
 // Question 11: the type and variable rules of the statements.
+#![tactic(auto)]
+
 ghost use Rattle.std.specs.Prelude.{◌≡◌, ℕ, ◌+◌, ◌≤◌, ◌<◌, length, get_or};
 ghost use Rattle.image.specs.declared.Verdict.TheVariants.{Kept};
 ghost use Rattle.image.specs.Faults.{all_from};

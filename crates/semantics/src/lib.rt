@@ -1,9 +1,11 @@
 // What the machine's definitions and its code share: numbers, places and answers.
+#![tactic(auto)]
+
 use values::Trap;
 
 // Where a run stands: the next statement, the newest frame and its end, and what was read and written.
 #[repr(C)]
-#[derive(Drop)]
+#[derive(Clone, Copy)]
 pub struct Registers {
     pub row: u32,
     pub base: u32,
@@ -13,7 +15,7 @@ pub struct Registers {
 }
 
 // An object: its first cell, the type it is used with, and its dynamic type.
-#[derive(Drop)]
+#[derive(Clone, Copy)]
 pub struct Place {
     pub address: u32,
     pub declared: u16,
@@ -21,7 +23,7 @@ pub struct Place {
 }
 
 // What finding a designator gives.
-#[derive(Drop)]
+#[derive(Clone, Copy)]
 pub enum Found {
     At(Place),
     Trap(Trap),
@@ -29,7 +31,7 @@ pub enum Found {
 }
 
 // The number of a link, an address or a type.
-#[derive(Drop)]
+#[derive(Clone, Copy)]
 pub enum Mark {
     Number(u16),
     Nothing,
@@ -37,7 +39,7 @@ pub enum Mark {
 
 // The numbers of a run; `fault` is the row of refusal, `at` is where the run ended, `mark` how many cells it needed.
 #[repr(C)]
-#[derive(Drop)]
+#[derive(Clone, Copy)]
 pub struct RunResult {
     pub refusal: u32,
     pub fault: u32,

@@ -1,4 +1,6 @@
 // Elements of a SET: IN, a range, a complement.
+#![tactic(auto)]
+
 ghost use Rattle.std.specs.Prelude.{◌≡◌, ◌<◌};
 ghost use Rattle.sets.specs.Sets.{is_element, contains_of, elements_of, range_of, complement_of};
 

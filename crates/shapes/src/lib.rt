@@ -1,4 +1,6 @@
 // The rows of the types table, with their own fields: the rule of each.
+#![tactic(auto)]
+
 ghost use Rattle.std.specs.Prelude.{◌≡◌, ◌+◌, ◌≤◌, ◌<◌};
 ghost use Rattle.image.specs.Faults.{all_from};
 ghost use Rattle.image.specs.Rows.{rows_of};

@@ -1,4 +1,6 @@
 // Cells of the plan, and the size of a type from the sizes of lower rows that the plan holds.
+#![tactic(auto)]
+
 ghost use Rattle.std.specs.Prelude.{map, ◌≡◌, ◌+◌, ◌*◌, ◌≤◌, ◌<◌, get_or};
 ghost use Rattle.prelude.specs.Parts.{sum};
 ghost use Rattle.shapes.specs.Forms.{form_of, of_base, own_types};

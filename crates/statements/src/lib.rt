@@ -1,4 +1,6 @@
 // Statements: question 8.
+#![tactic(auto)]
+
 ghost use Rattle.std.specs.Prelude.{◌≡◌, List, ℕ, ◌+◌, ◌≤◌, ◌<◌, length, get_or};
 ghost use Rattle.prelude.specs.Choice.{choose};
 ghost use Rattle.image.specs.Rows.{rows_of};

@@ -1,4 +1,6 @@
 // One step: the eight statements.
+#![tactic(auto)]
+
 ghost use Rattle.std.specs.Prelude.{◌≡◌, List, [], ◌∷◌, ◌<◌, ℤ};
 ghost use Rattle.image.specs.Rows.{rows_of};
 ghost use Rattle.semantics.specs.Memory.{bare};

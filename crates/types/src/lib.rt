@@ -1,4 +1,6 @@
 // The types table: question 4, and the plan that it fills.
+#![tactic(auto)]
+
 ghost use Rattle.std.specs.Prelude.{◌≡◌, ◌+◌, ◌≤◌, ◌<◌, length, get_or};
 ghost use Rattle.image.specs.Rows.{rows_of, row_at};
 ghost use Rattle.shapes.specs.Forms.{of_base};

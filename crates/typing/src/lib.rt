@@ -1,4 +1,6 @@
 // Question 10: the types of the nodes, from the low rows up.
+#![tactic(auto)]
+
 ghost use Rattle.std.specs.Prelude.{◌≡◌, ◌≤◌, length};
 ghost use Rattle.image.specs.Rows.{row_at, rows_of};
 ghost use Rattle.types.specs.Question.{TypesAccepted};

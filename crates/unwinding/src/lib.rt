@@ -1,5 +1,7 @@
 // The frames of a foreign state, found by their links, which may hold any numbers; and a table by which loops over the
 // variables of frames pass over those without cells.
+#![tactic(auto)]
+
 ghost use Rattle.std.specs.Prelude.{◌≡◌, true, List, [], ◌∷◌, ℕ, suc, ◌+◌, ◌-◌, ◌≤◌, ◌<◌, ltb, length};
 ghost use Rattle.prelude.specs.Choice.{◌also◌};
 ghost use Rattle.prelude.specs.Cells.{Filled};
@@ -19,7 +21,7 @@ use access::Plan;
 use semantics::Mark;
 
 // A frame: its procedure, and where it begins.
-#[derive(Drop)]
+#[derive(Clone, Copy)]
 pub struct Spot {
     pub procedure: u16,
     pub base: u32,

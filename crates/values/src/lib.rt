@@ -1,10 +1,12 @@
 // Values of the scalar kinds: how a cell and a constant hold them.
+#![tactic(auto)]
+
 ghost use Rattle.std.specs.Prelude.{◌≡◌};
 ghost use Rattle.values.specs.Values.{trap_number, number_of, boolean_cell, integer_cell, set_cell, cell_of};
 ghost use Rattle.values.specs.Values.{is_integer, signed_of, constant_of};
 
 // A value of a scalar kind.
-#[derive(Drop)]
+#[derive(Clone, Copy)]
 pub enum Value {
     Bool(bool),
     Int(i32),
@@ -12,7 +14,7 @@ pub enum Value {
 }
 
 // Why a step ended early, in document 01's order.
-#[derive(Drop)]
+#[derive(Clone, Copy)]
 pub enum Trap {
     Index,
     Guard,
@@ -27,7 +29,7 @@ pub enum Trap {
 }
 
 // What an evaluation gives. Stuck: no rule applies.
-#[derive(Drop)]
+#[derive(Clone, Copy)]
 pub enum Answer {
     Val(Value),
     Trap(Trap),
