@@ -1,5 +1,5 @@
 -- Question 7: the form of a node.
-use Rattle.std.specs.Prelude.{ℕ, ◌+◌, Bool, true, false, not, List, ltb, leb, eqb}
+use Rattle.std.specs.Prelude.{ℕ, Bool, true, false, not, List, ltb, leb, eqb}
 use Rattle.prelude.specs.Choice.{choose, ◌also◌}
 use Rattle.image.specs.declared.Row.{Row}
 use Rattle.image.specs.declared.Verdict.{Verdict}

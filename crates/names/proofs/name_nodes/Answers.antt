@@ -1,0 +1,28 @@
+use mathlib.Core.Path.{◌≡◌}
+use native.Mathlib.Omega.{arith}
+use Rattle.image.specs.Rows.{rows_of}
+use Rattle.names.specs.Names.{names_from}
+use Rattle.names.proofs.Naming.{named_none, named_next}
+use Rattle.names.proofs.name_nodes.Goals as goal
+
+pub loop-i-init : goal.loop-i-init
+unfolding names_from
+loop-i-init c = (omega arith, named_none _)
+
+pub loop-i-smaller : goal.loop-i-smaller
+loop-i-smaller c = omega arith
+
+pub loop-i-preserved : goal.loop-i-preserved
+loop-i-preserved c =
+    let this = c.row_at-row.ensures in
+    (omega arith, named_next _ _ c.loop-i.invariant.1 c.name_node.ensures (rw this))
+
+pub shape_of-often : goal.shape_of-often
+shape_of-often c = c.loop-i.invariant.1.rows
+
+pub returns : goal.returns
+returns c =
+    let l = c.loop-i in
+    let rows = c.rows_of-nodes.ensures in
+    let all : l.i ≡ rows_of c.args.n.now = omega arith in
+    rw all at l.invariant.1
