@@ -1,0 +1,50 @@
+use Rattle.owners.specs.Owners.{gather, no_span, variable_span, join_span, span_in}
+use Prim.Native.Nat.{ℕ}
+use Rattle.prelude.specs.Choice.{choose}
+use borrow.Author.Tests.{ne_eqb}
+use mathlib.Core.Path.{sym, ◌∙◌, ap}
+use Rattle.owners.proofs.node_span.Goals as goal
+
+pub returns-in-1 : goal.returns-in-1
+unfolding gather choose
+returns-in-1 c = let s = c.args in
+    c.variable_span.ensures ∙ sym (ap (λ (j : ℕ). gather no_span (variable_span s.v.now) join_span (span_in s.least.now s.past.now) j s.row) c.in-1.is)
+
+pub returns-in-2 : goal.returns-in-2
+unfolding gather choose
+returns-in-2 c = let s = c.args in
+    c.span_at.ensures ∙ sym (ap (λ (j : ℕ). gather no_span (variable_span s.v.now) join_span (span_in s.least.now s.past.now) j s.row) c.in-2.is)
+
+pub returns-in-3 : goal.returns-in-3
+unfolding gather choose
+returns-in-3 c = let s = c.args in
+    c.both_spans.ensures ∙ sym (ap (λ (j : ℕ). gather no_span (variable_span s.v.now) join_span (span_in s.least.now s.past.now) j s.row) c.in-3.is)
+
+pub returns-in-4 : goal.returns-in-4
+unfolding gather choose
+returns-in-4 c = let s = c.args in
+    c.variable_span-in-4.ensures ∙ sym (ap (λ (j : ℕ). gather no_span (variable_span s.v.now) join_span (span_in s.least.now s.past.now) j s.row) c.in-4.is)
+
+pub returns-in-5 : goal.returns-in-5
+unfolding gather choose
+returns-in-5 c = let s = c.args in
+    c.both_spans-in-5.ensures ∙ sym (ap (λ (j : ℕ). gather no_span (variable_span s.v.now) join_span (span_in s.least.now s.past.now) j s.row) c.in-5.is)
+
+pub returns-in-6 : goal.returns-in-6
+unfolding gather choose
+returns-in-6 c = let s = c.args in
+    c.span_at-in-6.ensures ∙ sym (ap (λ (j : ℕ). gather no_span (variable_span s.v.now) join_span (span_in s.least.now s.past.now) j s.row) c.in-6.is)
+
+pub returns-in-7 : goal.returns-in-7
+unfolding gather choose
+returns-in-7 c = let s = c.args in
+    c.variable_span-in-7.ensures ∙ sym (ap (λ (j : ℕ). gather no_span (variable_span s.v.now) join_span (span_in s.least.now s.past.now) j s.row) c.in-7.is)
+
+pub returns-in-8 : goal.returns-in-8
+unfolding gather choose
+returns-in-8 c = let s = c.args in
+    c.span_at-in-8.ensures ∙ sym (ap (λ (j : ℕ). gather no_span (variable_span s.v.now) join_span (span_in s.least.now s.past.now) j s.row) c.in-8.is)
+
+pub returns-in_default : goal.returns-in_default
+unfolding gather choose
+returns-in_default c = rw (ne_eqb _ 1 c.in_default.in_default-own.rest.0.0.0.0.0.0.0.1, ne_eqb _ 2 c.in_default.in_default-own.rest.0.0.0.0.0.0.1, ne_eqb _ 3 c.in_default.in_default-own.rest.0.0.0.0.0.1, ne_eqb _ 4 c.in_default.in_default-own.rest.0.0.0.0.1, ne_eqb _ 5 c.in_default.in_default-own.rest.0.0.0.1, ne_eqb _ 6 c.in_default.in_default-own.rest.0.0.1, ne_eqb _ 7 c.in_default.in_default-own.rest.0.1, ne_eqb _ 8 c.in_default.in_default-own.rest.1)
