@@ -1,9 +1,9 @@
 -- What IN, a range and a complement give: a BOOLEAN or a SET in its range, or a trap.
 use mathlib.Core.Path.{◌≡◌, sym, ◌∙◌}
-use mathlib.Core.Bool.{Bool, true, false, not}
+use mathlib.Core.Bool.{Bool, true, false}
 use Prim.Native.Nat.{ℕ, ◌+◌, ◌-◌, ◌^◌, ◌<◌}
 use native.Mathlib.Omega.{arith}
-use borrow.Author.Tests.{ltb-true, le-ltb, le-leb, not-true, not-false}
+use borrow.Author.Tests.{ltb-true, le-ltb, le-leb}
 use lib.Pow.{pow_mono}
 use lib.Dec.{ltb, T}
 use lib.IntN.{ℤ, pos, negsuc, nat_abs}
@@ -34,13 +34,13 @@ element_below (negsuc i) h = clash (sym h)
 
 -- where the code asks whether the number in 32 bits is one, and casts it
 module _ {x : ℤ} (fits : SFits w32 x) {b : Bool} (is : b ≡ is_element (to_z w32 (of_z w32 x))) where
-  pub element_no : not b ≡ true → is_element x ≡ false
-  element_no h = rw (plain32 x fits) at (sym is ∙ not-true b h)
+  pub element_no : b ≡ false → is_element x ≡ false
+  element_no h = rw (plain32 x fits) at (sym is ∙ h)
 
-  pub element_yes : not b ≡ false → is_element x ≡ true
-  element_yes h = rw (plain32 x fits) at (sym is ∙ not-false b h)
+  pub element_yes : b ≡ true → is_element x ≡ true
+  element_yes h = rw (plain32 x fits) at (sym is ∙ h)
 
-  pub element_cast : not b ≡ false → T (non_neg (to_z w32 (of_z w32 x))) × Fits w32 (nat_abs (to_z w32 (of_z w32 x)))
+  pub element_cast : b ≡ true → T (non_neg (to_z w32 (of_z w32 x))) × Fits w32 (nat_abs (to_z w32 (of_z w32 x)))
   element_cast h = rw (plain32 x fits) (to_unsigned x (element_not_negative x (element_yes h)) fits)
 
 -- ---- what the operators give

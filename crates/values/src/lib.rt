@@ -39,6 +39,7 @@ pub enum Answer {
 // ---- cells, constants and numbers
 
 // Document 01's number of a trap.
+#[tactic(auto, unfolding(crate::specs::Values::trap_number))]
 pub fn trap_number(t: Trap) -> u8
     ensures { result ≡ trap_number t }
 {
