@@ -1,0 +1,22 @@
+use lib.ListN.{length}
+use Prim.Native.Nat.{◌≤◌}
+use lib.Seq.{length-take-le}
+use Rattle.checker.proofs.Asking.{types_left, types_room, rules_all}
+use Rattle.checker.proofs.Chain.{asked_fault, chain_next, chain_stop, chain_last}
+use Rattle.checker.specs.Check.{table_question}
+use Rattle.prelude.specs.Choice.{choose}
+use mathlib.Core.Path.{refl, sym, ◌∙◌}
+use Rattle.checker.proofs.check_meaning.Goals as goal
+
+pub returns-in_default : goal.returns-in_default
+unfolding table_question choose
+returns-in_default c = let k = c.check_typing-typed.ensures in
+    let fault = c.in_default.is in record { by_index = λ version. c.answer_of.ensures ∙ asked_fault _ _ _ fault ∙ sym (chain_stop _ 10 1 k.value fault); types = types_left _ _ _ _ _ _ _ k.types k.value }
+
+pub returns : goal.returns
+unfolding table_question choose
+returns c = let nodes = c.rows_of-nodes in
+    let k = c.check_typing-typed.ensures in
+    let kept = c.in-Kept.is in
+    let all = rules_all _ _ _ _ _ _ _ k.types c.requires.4 c.args.p.now c.args.s.now kept in record { by_index = λ version. c.answer_of-2.ensures
+          ∙ sym (chain_next _ 10 1 k.value kept ∙ chain_last _ 11 0 (c.check_rules-ruled.ensures ∙ rw nodes.ensures all) refl); types = types_left _ _ _ _ _ _ _ k.types k.value }
