@@ -3,7 +3,7 @@
 
 ghost use Rattle.std.specs.Prelude.{◌≡◌};
 ghost use Rattle.operators.specs.Operators.{compare_of, integers_of, sets_of, booleans_of, membership_of, monadic_of};
-ghost use Rattle.operators.specs.Operators.{decides as decidesOf};
+ghost use Rattle.operators.specs.Operators.{decides as decides_of};
 
 use values::{Answer, Value};
 
@@ -91,7 +91,7 @@ pub fn monadic(op: u16, operand: Value) -> Answer
 
 // Whether the left operand of & or OR decides, so that the right one is skipped.
 pub fn decides(op: u16, left: Value) -> bool
-    ensures { result ≡ decidesOf op left }
+    ensures { result ≡ decides_of op left }
 {
     let Value::Bool(p) = left else {
         return false;
