@@ -1,0 +1,10 @@
+use Rattle.objects.specs.Looking.{told_by}
+use Rattle.objects.proofs.told.Goals as goal
+
+pub returns-then-b : goal.returns-then-b
+unfolding told_by
+returns-then-b c = rw c.if-b.true
+
+pub returns : goal.returns
+unfolding told_by
+returns c = rw c.if-b.false
