@@ -1,14 +1,11 @@
 -- What looks at parts that follow one another answer.
 use mathlib.Core.Path.{◌≡◌, refl, sym, ◌∙◌, ap}
 use mathlib.Core.Bool.{Bool, true, false}
-use mathlib.Core.List.{List, [], ◌∷◌}
-use mathlib.Core.Logic.{⊎_elim}
+use mathlib.Core.List.{List, ◌∷◌}
 use Prim.Native.Nat.{ℕ, zero, suc, ◌+◌, ◌-◌, ◌*◌, ◌≤◌, ◌<◌}
 use native.Mathlib.Nat.{zero-mul, suc-mul, lt_of_mul-lt-mul_right}
 use native.Mathlib.Omega.{arith}
 use native.Mathlib.Decide.{dec_lt}
-use denote.Enum.Declared.{tag_of}
-use types.Run.{OneOf}
 use lib.ListN.{length, get_or, replicate}
 use Rattle.prelude.specs.Bits.{bit_of}
 use Rattle.prelude.proofs.Parts.{nth_replicate}
@@ -21,7 +18,6 @@ use Rattle.objects.specs.declared.Look.TheVariants as Ls
 use Rattle.objects.specs.Looking.{held, Edges, LowTypes, Fields, Ahead, told_by, settled}
 use Rattle.objects.specs.Looking.{Below, Below.yes_below, Below.no_below, Below.inside_below}
 use Rattle.objects.specs.Tables.{ROWS}
-use Rattle.objects.specs.contracts.Look.{the_type as look_type}
 use Rattle.objects.proofs.Following.{among_here, among_stop, among_next, among_past, some_among}
 use Rattle.objects.proofs.Following.{many_size, many_before, nth_many, many_none, many_empty, many_inside}
 
@@ -54,20 +50,20 @@ module _ (deeper : ℕ → ℕ → Bool) where
   looks_on e h = rw e at h
 
 -- one that leads nowhere comes to the same answer whatever lies deeper
-settled_by : (d : ℕ → ℕ → Bool) (x : Look) → OneOf (0 ∷ 1 ∷ []) (tag_of look_type x)
+settled_by : (d : ℕ → ℕ → Bool) (x : Look) → ((u o : ℕ) → x ≡ Ls.Inside u o → ⊥)
     → settled (λ u o. false) x ≡ settled d x
 unfolding settled
 settled_by d Ls.Yes h = refl
 settled_by d Ls.No h = refl
-settled_by d (Ls.Inside u o) h = ⊎_elim (λ e. absurd (omega arith)) (λ e. absurd (omega arith)) h
+settled_by d (Ls.Inside u o) h = absurd (h u o refl)
 
 pub looks_end : (deeper : ℕ → ℕ → Bool) (x : Look) {b y : Bool} → y ≡ settled (λ u o. false) x
-    → OneOf (0 ∷ 1 ∷ []) (tag_of look_type x) → settled deeper x ≡ b → y ≡ b
+    → ((u o : ℕ) → x ≡ Ls.Inside u o → ⊥) → settled deeper x ≡ b → y ≡ b
 looks_end deeper x is nowhere h = is ∙ settled_by deeper x nowhere ∙ h
 
-pub settled_no : (x : Look) → OneOf (1 ∷ 2 ∷ []) (tag_of look_type x) → settled (λ u o. false) x ≡ false
+pub settled_no : (x : Look) → (x ≡ Ls.Yes → ⊥) → settled (λ u o. false) x ≡ false
 unfolding settled
-settled_no Ls.Yes h = ⊎_elim (λ e. absurd (omega arith)) (λ e. absurd (omega arith)) h
+settled_no Ls.Yes h = absurd (h refl)
 settled_no Ls.No h = refl
 settled_no (Ls.Inside u o) h = refl
 

@@ -1,5 +1,4 @@
 use mathlib.Core.Path.{refl, sym, ◌∙◌}
-use Prim.Native.Nat.{◌-◌}
 use native.Mathlib.Omega.{arith}
 use Rattle.objects.specs.Looking.{Below.yes_below, Below.inside_below}
 use Rattle.objects.proofs.Looks.{looks_yes, looks_inside, looks_told, below_told, field_low, fields_next}
@@ -18,18 +17,24 @@ bounds-plan-u c = ahead_planned c.loop-rest.invariant.1 c.a_at-u.ensures
 
 pub returns-then-rest-size-2 : goal.returns-then-rest-size-2
 returns-then-rest-size-2 c = let l = c.loop-rest in
-    let this = c.a_at-u.ensures in record { by_index = λ deeper e m edges fields.
+    let this = c.a_at-u.ensures in record {
+      by_index = λ deeper e m edges fields.
           looks_inside deeper _ _ (l.invariant.3 deeper e m edges fields
-          ∙ turn_in edges (l.invariant.2 e m fields) this refl c.if-rest-size-2.true); lower = λ e m fields. inside_below (field_low (l.invariant.2 e m fields) this) l.invariant.0 c.if-rest-size-2.true }
+          ∙ turn_in edges (l.invariant.2 e m fields) this refl c.if-rest-size-2.true);
+      lower = λ e m fields. inside_below (field_low (l.invariant.2 e m fields) this) l.invariant.0 c.if-rest-size-2.true;
+    }
 
 pub marked-requires : goal.marked-requires
 marked-requires c = (c.requires.1, ahead_few c.loop-rest.invariant.1 c.a_at-u.ensures)
 
 pub returns-then-marked : goal.returns-then-marked
-returns-then-marked c = let l = c.loop-rest in record { by_index = λ deeper e m edges fields.
-          looks_yes deeper (l.invariant.3 deeper e m edges fields
-          ∙ turn_yes edges (l.invariant.2 e m fields) c.a_at-u.ensures refl (omega arith) c.marked.ensures
-          c.if-marked.true); lower = λ e m fields. yes_below }
+returns-then-marked c = let l = c.loop-rest in record {
+  by_index = λ deeper e m edges fields.
+      looks_yes deeper (l.invariant.3 deeper e m edges fields
+      ∙ turn_yes edges (l.invariant.2 e m fields) c.a_at-u.ensures refl (omega arith) c.marked.ensures
+      c.if-marked.true);
+  lower = λ e m fields. yes_below;
+}
 
 pub overflow_add-j : goal.overflow_add-j
 overflow_add-j c = omega (arith, ahead_small c.loop-rest.invariant.1)
@@ -42,12 +47,15 @@ among_first-requires c = (
 
 pub returns-then-rest-size : goal.returns-then-rest-size
 returns-then-rest-size c = let l = c.loop-rest in
-    let this = c.a_at-u.ensures in record { by_index = λ deeper e m edges fields.
+    let this = c.a_at-u.ensures in record {
+      by_index = λ deeper e m edges fields.
           let here = l.invariant.2 e m fields in
           let first = c.among_first.ensures deeper e m _ edges (fields_next here this refl (omega arith)) in
           looks_told deeper c.told.ensures (first ∙ sym (l.invariant.3 deeper e m edges fields
           ∙ turn_end edges here this refl (omega arith) c.marked.ensures
-          c.if-marked.false)); lower = λ e m fields. below_told _ c.told.ensures }
+          c.if-marked.false));
+      lower = λ e m fields. below_told _ c.told.ensures;
+    }
 
 pub overflow_add-j-in-loop-rest : goal.overflow_add-j-in-loop-rest
 overflow_add-j-in-loop-rest c = omega (arith, ahead_small c.loop-rest.invariant.1)

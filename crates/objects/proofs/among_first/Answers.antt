@@ -1,5 +1,4 @@
 use mathlib.Core.Path.{refl, sym, ◌∙◌}
-use Prim.Native.Nat.{◌-◌}
 use native.Mathlib.Omega.{arith}
 use Rattle.objects.proofs.Looks.{fields_next, ahead_row, ahead_small, ahead_planned, ahead_few, ahead_next}
 use Rattle.objects.proofs.Looks.{first_yes, first_no_lem, first_next}

@@ -10,21 +10,30 @@ pub returns-then-inside-gt0 : goal.returns-then-inside-gt0
 returns-then-inside-gt0 c = let o = c.args.o in
     let size = c.cell-size.result in
     let is = c.cell-size.ensures in
-    let less : o % size < size = mod-lt o (omega (arith, is, c.requires.2)) in record { by_index = λ deeper m n edges low within.
+    let less : o % size < size = mod-lt o (omega (arith, is, c.requires.2)) in record {
+      by_index = λ deeper m n edges low within.
           looks_inside deeper _ _
-          (parted_inside edges low n is (o / size) (o % size) (div-add-mod' o size) within c.if-inside-gt0.true less); lower = λ m low. inside_below {o = o % size} low c.if-inside-gt0.true (omega (arith, is, less)) }
+          (parted_inside edges low n is (o / size) (o % size) (div-add-mod' o size) within c.if-inside-gt0.true less);
+      lower = λ m low. inside_below {o = o % size} low c.if-inside-gt0.true (omega (arith, is, less));
+    }
 
 pub returns-then-marked : goal.returns-then-marked
 returns-then-marked c = let o = c.args.o in
     let size = c.cell-size.result in
-    let is = c.cell-size.ensures in record { by_index = λ deeper m n edges low within.
+    let is = c.cell-size.ensures in record {
+      by_index = λ deeper m n edges low within.
           looks_yes deeper (parted_yes edges low n is (o / size) (o % size) (div-add-mod' o size) within
-          (omega arith) c.marked.ensures c.if-marked.true); lower = λ m low. yes_below }
+          (omega arith) c.marked.ensures c.if-marked.true);
+      lower = λ m low. yes_below;
+    }
 
 pub returns : goal.returns
 returns c = let o = c.args.o in
     let size = c.cell-size.result in
-    let is = c.cell-size.ensures in record { by_index = λ deeper m many edges low within.
+    let is = c.cell-size.ensures in record {
+      by_index = λ deeper m many edges low within.
           looks_told deeper c.told.ensures (parted_both edges low many is (o / size) (o % size)
           (div-add-mod' o size) within (omega arith) c.marked.ensures c.if-marked.false
-          (omega (arith, is, c.requires.2)) c.requires.3 c.marked-2.ensures); lower = λ m low. below_told _ c.told.ensures }
+          (omega (arith, is, c.requires.2)) c.requires.3 c.marked-2.ensures);
+      lower = λ m low. below_told _ c.told.ensures;
+    }

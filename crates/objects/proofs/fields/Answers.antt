@@ -13,22 +13,25 @@ pub base_cells-before-requires : goal.base_cells-before-requires
 base_cells-before-requires c = base_room c.requires.0 c.args.r c.requires.2 c.requires.3 c.row_at-row.ensures
 
 pub among-requires : goal.among-requires
-among-requires c = let known = c.struct_known-1.given in (
-      own_ahead c.requires.0 c.args.r c.requires.2 c.requires.3 c.row_at-row.ensures c.base_cells-before.ensures
-          (omega arith) c.requires.5 (omega (arith, known)),
-      c.requires.1,
-      omega arith,
-    )
+among-requires c = (
+  own_ahead c.requires.0 c.args.r c.requires.2 c.requires.3 c.row_at-row.ensures c.base_cells-before.ensures
+      (omega arith) c.requires.5 (omega arith),
+  c.requires.1,
+  omega arith,
+)
 
 pub returns-then-before-o : goal.returns-then-before-o
 returns-then-before-o c = let row = c.row_at-row.ensures in
     let before = c.base_cells-before.result in
     let size = c.base_cells-before.ensures in
     let place : before + (c.args.o - before) ≡ c.args.o = omega arith in
-    let own = own_fields c.requires.0 c.args.r c.requires.2 c.requires.3 row size place c.requires.5 in record { result_value = λ edges.
+    let own = own_fields c.requires.0 c.args.r c.requires.2 c.requires.3 row size place c.requires.5 in record {
+      result_value = λ edges.
           c.among.ensures.by_index _ _ c.args.r edges own
           ∙ record_own c.requires.0 c.args.r c.requires.2 c.requires.3 row _ size c.args.o edges
-          c.if-before-o.true; lower = c.among.ensures.lower _ c.args.r own }
+          c.if-before-o.true;
+      lower = c.among.ensures.lower _ c.args.r own;
+    }
 
 pub overflow_sub-base : goal.overflow_sub-base
 overflow_sub-base c = let some = base_some _ _ c.base_cells-before.ensures (omega arith) in omega arith
@@ -37,46 +40,55 @@ pub returns-then-o-before : goal.returns-then-o-before
 returns-then-o-before c = let row = c.row_at-row.ensures in
     let a = c.row_at-row.result.a in
     let size = c.base_cells-before.ensures in
-    let some : 0 < a = base_some _ _ size (omega arith) in record { result_value = λ edges.
+    let some : 0 < a = base_some _ _ size (omega arith) in record {
+      result_value = λ edges.
           looks_inside _ _ _ (base_inside c.requires.0 c.args.w c.args.r c.requires.2 c.requires.3 row c.args.o
-          some c.requires.4 size c.if-o-before.true); lower = inside_below {u = a - 1} {o = c.args.o}
+          some c.requires.4 size c.if-o-before.true);
+      lower = inside_below {u = a - 1} {o = c.args.o}
           (base_lower c.requires.0 c.args.r c.requires.2 c.requires.3 row some).0 c.requires.4
-          (omega (arith, size, of_base_lem 0 (held c.args.plan.now) a some)) }
+          (omega (arith, size, of_base_lem 0 (held c.args.plan.now) a some));
+    }
 
 pub marked-requires : goal.marked-requires
 marked-requires c = (
-      c.requires.1,
-      omega (
-        arith,
-        base_few c.requires.0 c.args.r c.requires.2 c.requires.3 c.row_at-row.ensures,
-        base_some _ _ c.base_cells-before.ensures (omega arith),
-      ),
-    )
+  c.requires.1,
+  omega (
+    arith,
+    base_few c.requires.0 c.args.r c.requires.2 c.requires.3 c.row_at-row.ensures,
+    base_some _ _ c.base_cells-before.ensures (omega arith),
+  ),
+)
 
 pub returns-then-marked : goal.returns-then-marked
 returns-then-marked c = let row = c.row_at-row.ensures in
     let size = c.base_cells-before.ensures in
-    let last : c.args.o ≡ c.base_cells-before.result = omega arith in record { result_value = λ edges.
+    let last : c.args.o ≡ c.base_cells-before.result = omega arith in record {
+      result_value = λ edges.
           looks_yes _ (record_yes c.requires.0 c.args.r c.requires.2 c.requires.3 row _ size c.args.o
           (sym (base_end c.requires.0 c.args.w c.args.r c.requires.2 c.requires.3 row c.args.o edges
           (base_some _ _ size (omega arith)) c.requires.4 (last ∙ size))
-          ∙ sym c.marked.ensures ∙ c.if-marked.true)); lower = yes_below }
+          ∙ sym c.marked.ensures ∙ c.if-marked.true));
+      lower = yes_below;
+    }
 
 pub among_first-requires : goal.among_first-requires
-among_first-requires c = let known = c.struct_known-1.given in (
-      own_ahead c.requires.0 c.args.r c.requires.2 c.requires.3 c.row_at-row.ensures
-          c.base_cells-before.ensures (omega arith) c.requires.5 (omega (arith, known)),
-      c.requires.1,
-    )
+among_first-requires c = (
+  own_ahead c.requires.0 c.args.r c.requires.2 c.requires.3 c.row_at-row.ensures
+      c.base_cells-before.ensures (omega arith) c.requires.5 (omega arith),
+  c.requires.1,
+)
 
 pub returns : goal.returns
 returns c = let row = c.row_at-row.ensures in
     let size = c.base_cells-before.ensures in
     let last : c.args.o ≡ c.base_cells-before.result = omega arith in
-    let place : c.base_cells-before.result + 0 ≡ c.args.o = omega arith in record { result_value = λ edges.
+    let place : c.base_cells-before.result + 0 ≡ c.args.o = omega arith in record {
+      result_value = λ edges.
           let own = own_fields c.requires.0 c.args.r c.requires.2 c.requires.3 row size place c.requires.5 in
           looks_told _ c.told.ensures (c.among_first.ensures _ _ c.args.r _ edges own
           ∙ record_no c.requires.0 c.args.r c.requires.2 c.requires.3 row _ size c.args.o
           (sym (base_end c.requires.0 c.args.w c.args.r c.requires.2 c.requires.3 row c.args.o edges
           (base_some _ _ size (omega arith)) c.requires.4 (last ∙ size))
-          ∙ sym c.marked.ensures ∙ c.if-marked.false) last); lower = below_told _ c.told.ensures }
+          ∙ sym c.marked.ensures ∙ c.if-marked.false) last);
+      lower = below_told _ c.told.ensures;
+    }

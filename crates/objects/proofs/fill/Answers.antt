@@ -1,4 +1,3 @@
-use Prim.Native.Nat.{◌-◌}
 use native.Mathlib.Omega.{arith}
 use Rattle.objects.proofs.Looks.{edges_less}
 use Rattle.objects.proofs.Deciding.{beyond_none, beyond_next, beyond_more}
@@ -46,7 +45,9 @@ loop-r-preserved c = let l = c.loop-r in
 
 pub returns : goal.returns
 returns c = let l = c.loop-r in
-    let rows = c.rows_of-rows.ensures in let all = (
-      record { each = λ w. edges_less (omega (arith, rows)) (l.invariant.3 w) },
-      (beyond_more (omega (arith, rows)) l.invariant.1, beyond_more (omega (arith, rows)) l.invariant.2),
-    ) in record { all_edges = all.0; starts = all.1; ends = all.2 }
+    let rows = c.rows_of-rows.ensures in
+    record {
+      all_edges = record { each = λ w. edges_less (omega (arith, rows)) (l.invariant.3 w) };
+      starts = beyond_more (omega (arith, rows)) l.invariant.1;
+      ends = beyond_more (omega (arith, rows)) l.invariant.2;
+    }

@@ -8,4 +8,4 @@ unfolding settled
 returns-in-Yes c = rw c.in-Yes.is
 
 pub returns-in_default : goal.returns-in_default
-returns-in_default c = sym (settled_no c.args.x c.in_default.in_default-own.keys2)
+returns-in_default c = sym (settled_no c.args.x c.in_default.not-Yes)

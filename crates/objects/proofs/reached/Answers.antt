@@ -15,7 +15,7 @@ parts-look-requires c = (c.requires.0, c.requires.1, in_table c.requires.2 c.loo
 pub returns-in_default : goal.returns-in_default
 returns-in_default c = let l = c.loop-u in
     λ edges.
-    looks_end _ _ c.is_yes.ensures c.in_default.in_default-own.keys2
+    looks_end _ _ c.is_yes.ensures c.in_default.not-Inside
     (c.parts-look.ensures.result_value (edges_less l.invariant.0 edges))
     ∙ sym (l.invariant.3 edges)
 
