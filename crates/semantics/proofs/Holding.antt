@@ -67,6 +67,7 @@ module _ {A B : Type 0} {R : A → B → Type 0} where
       rw whole at (matched_append (matched_take at h) (matched_append k (matched_drop (at + length new) h)))
 
   matched_nth : (d : A) {l : List A} {w : List B} {n : ℕ} {b : B} → Matched R l w → Nth w n b → R (get_or l n d) b
+  matched_nth d no_more x = elim x [ ]
   matched_nth d (one_more r h) here = r
   matched_nth d (one_more r h) (there k) = matched_nth d h k
 
