@@ -1,0 +1,31 @@
+use mathlib.Core.Path.{◌≡◌, refl, sym}
+use Prim.Native.Nat.{◌+◌, ◌-◌, ◌<◌}
+use native.Mathlib.Omega.{arith}
+use borrow.Author.Rules.{rules}
+use lib.IntN.{pos}
+use lib.ListN.{length, get_or, length-set}
+use Rattle.values.proofs.Numbers.{plain64}
+use Rattle.semantics.specs.Memory.{part_at}
+use Rattle.cells.proofs.Overwriting.{overwrite_none, copy_next}
+use Rattle.cells.proofs.copy_down.Goals as goal
+
+pub loop-i-init : goal.loop-i-init
+unfolding part_at
+loop-i-init c = (search rules, refl, sym (overwrite_none _ _))
+
+pub loop-i-preserved : goal.loop-i-preserved
+loop-i-preserved c =
+    let (few, size, same) = c.loop-i.invariant in
+    let z = get_or c.loop-i.store (c.args.from + c.loop-i.i) (pos 0) in
+    let plain = plain64 z (record { sfits = c.store-1.given }) in
+    let more : c.args.from + c.loop-i.i < length c.args.store.now = omega (arith, c.requires.0) in
+    (search rules, simp length-set size, rw (plain, same) (copy_next _ _ _ _ (pos 0) more c.requires.1))
+
+pub shape_of-store : goal.shape_of-store
+shape_of-store c = c.loop-i.invariant.1
+
+pub returns : goal.returns
+returns c =
+    let (few, size, same) = c.loop-i.invariant in
+    let all : c.loop-i.i ≡ c.args.n = omega arith in
+    rw (← all) same
