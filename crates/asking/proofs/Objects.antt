@@ -179,7 +179,7 @@ module _ (g : Program)
   begins_object {at = at} x itself = let q : at + 0 ≡ at = omega arith in rw q x
   begins_object {fs} {at = at} x (in_part {r = r} {u = u} {n = n} {o = o} h b) =
       let q : at + (before r n + o) ≡ at + before r n + o = omega arith in
-      rw q (begins_object (part_object x h) b)
+      rw q (begins_object {at = at + before r n} (part_object x h) b)
 
   -- ---- whole variables, and what begins in them
 
@@ -205,7 +205,7 @@ module _ (g : Program)
     begun : Within r outer into
     is : start + into ≡ at
 
-  begins_more : {r u v o x : ℕ} → Within u r o → Within v u x → Within v r (o + x)
+  begins_more : {u r v o x : ℕ} → Within u r o → Within v u x → Within v r (o + x)
   begins_more {x = x} itself y = let q : 0 + x ≡ x = omega arith in rw q y
   begins_more {x = x} (in_part {r = r} {n = n} {o = o} h b) y =
       let q : before r n + o + x ≡ before r n + (o + x) = omega arith in

@@ -111,7 +111,7 @@ module _ (g : Program)
   kept_slots {fs} {cells = cells} (suc n) k rest st (one_more {b = ws} {r = more} s others) h =
       let p = split_at ws (joined more) rest h in
       let first = kept_slot (raw p.right ++ rest) st s p.before in
-      let later = kept_slots n (k + 1) rest st others p.after in
+      let later = kept_slots {slots = more} {cells = p.right} n (k + 1) rest st others p.after in
       let width : width_of g.types g.fields g.variables k ≡ length ws = sym (slot_width g s) in
       also_yes (ap (λ l. slot_kept g (procedures_of fs) k l) p.whole ∙ first)
       (ap (λ l. slots_kept g (procedures_of fs) (k + 1) n l) (rw width p.behind) ∙ later)
@@ -168,7 +168,7 @@ module _ (g : Program)
   kept_stack [] rest st h = kept_values _ rest h
   kept_stack {cells} (f ∷ fs) rest (a_frame st low called slots) h =
       let p = older f fs rest h in
-      let below = kept_stack fs (raw p.right ++ rest) st p.before in
+      let below = kept_stack {cells = p.left} fs (raw p.right ++ rest) st p.before in
       let this = kept_frame f fs rest (a_frame st low called slots) p.after in
       let end : room_of g (procedures_of fs) ≡ room g fs = sym (room_is g ok st) in
       also_yes (ap (λ l. stack_kept g (procedures_of fs) l) p.whole ∙ below)
@@ -220,17 +220,17 @@ module _ (g : Program)
   chain_is f fs rest zero st h low = absurd (omega arith)
   chain_is f [] rest (suc n) (a_frame st low (is_first none c b o) slots) h less =
       ap (λ l. f.procedure ∷ l) (choose_yes _ _ _ (eq-eqb _ 0 none))
-  chain_is f (c ∷ fs) rest (suc n) (a_frame st low (is_called r kind this one two caller back base) slots) h less =
+  chain_is {cells = cells} f (c ∷ fs) rest (suc n) (a_frame st low (is_called r kind this one two caller back base) slots) h less =
       let p = older f (c ∷ fs) rest h in
       let (first, third) = links_at f (c ∷ fs) rest p in
       let end = room_is g ok st in
       let q = natural_same _ _ (rw end at first) ∙ caller in
       let b = natural_same _ _ (rw end at third) ∙ base ∙ older_room st in
       let up = room_up c.procedure (procedures_of fs) in
-      let later = chain_is c fs (raw p.right ++ rest) n st p.before (omega arith) in
+      let later = chain_is {cells = p.left} c fs (raw p.right ++ rest) n st p.before (omega arith) in
       ap (λ l. f.procedure ∷ l)
       (choose_no _ _ _ (ne_eqb _ 0 (called_other f.procedure c.procedure r kind this one))
-      ∙ rw (q, b, p.whole) later)
+      ∙ rw (q, b) (ap (λ l. chain g l n c.procedure (room_of g (procedures_of fs))) p.whole ∙ later))
 
   -- ---- the state
 

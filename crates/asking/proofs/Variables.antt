@@ -91,7 +91,7 @@ module _ (g : Program) (test : ℕ → List ℤ → Bool) where
         let same : at + 0 ≡ at = omega arith in
         let row : i + 1 + m ≡ i + suc m = omega arith in
         let more = rw same at (along_more h (omega arith) (free i (drop at store) here) (sym here)) in
-        rw row at (skipped m more (omega arith) (λ r low high. bare r (omega arith) (omega arith)))
+        rw row at (skipped {i = i + 1} m more (omega arith) (λ r low high. bare r (omega arith) (omega arith)))
 
     module _ {j : ℕ} (h : Ahead store k n from j at) where
       pub ahead_here : j < k + n → Along store k n from j at
