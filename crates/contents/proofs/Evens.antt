@@ -177,9 +177,9 @@ module _ (t f : List ℕ) where
       → Told m (joint_from k (map (even_of t f) types)) (l ++ joined (map (layout_of t f) types))
   unfolding joint_from joined
   told_fields l none p = rw (append-nil l) p
-  told_fields l (more {x = u} {l = types} here each) p =
+  told_fields {k = k} l (more {x = u} {l = types} here each) p =
       rw (← append_assoc l (layout_of t f u) (joined (map (layout_of t f) types)))
-      (told_fields (l ++ layout_of t f u) each (told_joint l (layout_of t f u) p here))
+      (told_fields {k = joint k (even_of t f u)} (l ++ layout_of t f u) each (told_joint l (layout_of t f u) p here))
 
   told_base : {r a : ℕ} → Based t r a → ((b : ℕ) → b < r → Told r (even_of t f b) (layout_of t f b))
       → Told r (of_base EMPTY (even_of t f) a) (of_base [] (layout_of t f) a)
