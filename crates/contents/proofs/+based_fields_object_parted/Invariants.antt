@@ -1,0 +1,28 @@
+use Rattle.contents.proofs.Parting.{Elements, Fields}
+use Prim.Native.Nat.{◌+◌, ◌-◌, ◌*◌}
+use Rattle.contents.proofs.+based_fields_object_parted.Given as goal
+
+abbrev pub decreases-based : goal.decreases-based
+decreases-based l = 3 * l.b
+
+abbrev pub decreases-fields : goal.decreases-fields
+decreases-fields l = 3 * l.r
+
+abbrev pub decreases-object : goal.decreases-object
+decreases-object l = 3 * l.r + 2
+
+abbrev pub decreases-parted : goal.decreases-parted
+decreases-parted l = 3 * l.r + 1
+
+abbrev pub invariant-fields-loop-j : goal.invariant-fields-loop-j
+invariant-fields-loop-j l = Fields l.t.now l.f.now l.store.now l.k l.n l.a l.j l.at
+
+abbrev pub decreases-fields-loop-j : goal.decreases-fields-loop-j
+decreases-fields-loop-j l = l.end - l.j
+
+abbrev pub invariant-parted-loop-left : goal.invariant-parted-loop-left
+invariant-parted-loop-left l =
+    Elements l.t.now l.f.now l.store.now l.r l.a l.core l.size l.left l.at
+
+abbrev pub decreases-parted-loop-left : goal.decreases-parted-loop-left
+decreases-parted-loop-left l = l.left
