@@ -1,5 +1,4 @@
 use mathlib.Core.Path.{◌≡◌}
-use Prim.Native.Nat.{◌-◌}
 use native.Mathlib.Omega.{arith}
 use Rattle.prelude.proofs.Cells.{filled_none}
 use Rattle.image.specs.Rows.{rows_of}
