@@ -1,10 +1,6 @@
 -- Laws of let .. else: answers with an object, and those without an object or a value.
 use mathlib.Core.Path.{◌≡◌, refl, ap}
-use mathlib.Core.List.{[], ◌∷◌}
-use native.Mathlib.Omega.{arith}
 use borrow.Author.Tests.{ne_eqb, eq-eqb}
-use denote.Enum.Declared.{tag_of}
-use types.Run.{OneOf}
 use lib.IntN.{ℤ}
 use Rattle.prelude.proofs.Choice.{choose_same, choose_yes, choose_no}
 use Rattle.image.specs.Rows.{row_at}
@@ -12,30 +8,28 @@ use Rattle.values.specs.declared.Value.{Value}
 use Rattle.values.specs.declared.Value.TheVariants as Vs
 use Rattle.values.specs.declared.Answer.{Answer}
 use Rattle.values.specs.declared.Answer.TheVariants as As
-use Rattle.values.specs.contracts.Value.{the_type as value_type}
-use Rattle.values.specs.contracts.Answer.{the_type as answer_type}
-use Rattle.values.proofs.Binding.{neither}
-use Rattle.values.proofs.Cases.{is_integer_lem, no_integer}
+use Rattle.values.specs.declared.Trap.{Trap}
+use Rattle.values.specs.Values.{as_integer}
+use Rattle.values.proofs.Cases.{is_integer_lem}
 use Rattle.semantics.specs.declared.Place.{Place}
 use Rattle.semantics.specs.declared.Found.{Found}
 use Rattle.semantics.specs.declared.Found.TheVariants as Fs
 use Rattle.semantics.specs.Layout.{Program}
 use Rattle.semantics.specs.Finding.{reach, content, index, element_place, array_place}
-use Rattle.semantics.specs.contracts.Found.{the_type as found_type}
 use Rattle.finding.specs.Missed.{no_place, no_value}
 
 -- an answer without a trap, where an object was sought
-pub no_trap_place : (x : Answer) → OneOf (0 ∷ 2 ∷ []) (tag_of answer_type x) → no_place x ≡ Fs.Stuck
+pub no_trap_place : (x : Answer) → ((t : Trap) → x ≡ As.Trap t → ⊥) → no_place x ≡ Fs.Stuck
 unfolding no_place
 no_trap_place (As.Val v) t = refl
-no_trap_place (As.Trap u) t = neither (omega arith) (omega arith) t
+no_trap_place (As.Trap u) t = absurd (t u refl)
 no_trap_place As.Stuck t = refl
 
 -- and where a value was sought
-pub no_trap_value : (x : Found) → OneOf (0 ∷ 2 ∷ []) (tag_of found_type x) → no_value x ≡ As.Stuck
+pub no_trap_value : (x : Found) → ((t : Trap) → x ≡ Fs.Trap t → ⊥) → no_value x ≡ As.Stuck
 unfolding no_value
 no_trap_value (Fs.At place) t = refl
-no_trap_value (Fs.Trap u) t = neither (omega arith) (omega arith) t
+no_trap_value (Fs.Trap u) t = absurd (t u refl)
 no_trap_value Fs.Stuck t = refl
 
 -- what follows from an object: another one
@@ -50,41 +44,43 @@ unfolding content
 content_object e next = ap (λ (y : Found). content y next) e
 
 -- from what is no object follows no other
-pub reach_other : (x : Found) → OneOf (1 ∷ 2 ∷ []) (tag_of found_type x) → (next : Place → Found) → reach x next ≡ x
+pub reach_other : (x : Found) → ((p : Place) → x ≡ Fs.At p → ⊥) → (next : Place → Found) → reach x next ≡ x
 unfolding reach
-reach_other (Fs.At place) t next = neither (omega arith) (omega arith) t
+reach_other (Fs.At place) t next = absurd (t place refl)
 reach_other (Fs.Trap u) t next = refl
 reach_other Fs.Stuck t next = refl
 
 -- and no value
-pub content_other : (x : Found) → OneOf (1 ∷ 2 ∷ []) (tag_of found_type x) → (next : Place → Answer)
+pub content_other : (x : Found) → ((p : Place) → x ≡ Fs.At p → ⊥) → (next : Place → Answer)
     → content x next ≡ no_value x
 unfolding content no_value
-content_other (Fs.At place) t next = neither (omega arith) (omega arith) t
+content_other (Fs.At place) t next = absurd (t place refl)
 content_other (Fs.Trap u) t next = refl
 content_other Fs.Stuck t next = refl
 
 -- an answer without a value is no index
-pub index_other : (x : Answer) → OneOf (1 ∷ 2 ∷ []) (tag_of answer_type x) → (next : ℤ → Found)
+pub index_other : (x : Answer) → ((v : Value) → x ≡ As.Val v → ⊥) → (next : ℤ → Found)
     → index x next ≡ no_place x
 unfolding index no_place
-index_other (As.Val v) t next = neither (omega arith) (omega arith) t
+index_other (As.Val v) t next = absurd (t v refl)
 index_other (As.Trap u) t next = refl
 index_other As.Stuck t next = refl
 
 -- so that the element's value is that answer
-pub index_handed : (x : Answer) → OneOf (1 ∷ 2 ∷ []) (tag_of answer_type x) → (next : ℤ → Found) (value : Place → Answer)
+pub index_handed : (x : Answer) → ((v : Value) → x ≡ As.Val v → ⊥) → (next : ℤ → Found) (value : Place → Answer)
     → content (index x next) value ≡ x
 unfolding index content
-index_handed (As.Val v) t next value = neither (omega arith) (omega arith) t
+index_handed (As.Val v) t next value = absurd (t v refl)
 index_handed (As.Trap u) t next value = refl
 index_handed As.Stuck t next value = refl
 
 -- and neither is a value that is no INTEGER
-pub index_none : {x : Answer} (v : Value) → x ≡ As.Val v → OneOf (0 ∷ 2 ∷ []) (tag_of value_type v)
+pub index_none : {x : Answer} (v : Value) → x ≡ As.Val v → ((z : ℤ) → v ≡ Vs.Int z → ⊥)
     → (next : ℤ → Found) → index x next ≡ Fs.Stuck
-unfolding index
-index_none v e t next = rw e (no_integer _ v next t)
+unfolding index as_integer
+index_none (Vs.Bool b) e t next = rw e
+index_none (Vs.Int z) e t next = absurd (t z refl)
+index_none (Vs.Set s) e t next = rw e
 
 -- an INTEGER is one
 pub index_value : {x : Answer} {v : Value} {z : ℤ} → x ≡ As.Val v → v ≡ Vs.Int z → (next : ℤ → Found)
