@@ -8,7 +8,6 @@ use native.Mathlib.Decide.{dec_lt}
 use borrow.Author.Tests.{leb-true, eq-eqb, ne_eqb}
 use lib.IntN.{ℤ}
 use lib.ListN.{drop}
-use Rattle.prelude.specs.Choice.{◌also◌}
 use Rattle.prelude.proofs.Choice.{choose_yes, choose_no, also_true, also_yes}
 use Rattle.image.specs.declared.Row.{Row}
 use Rattle.image.specs.Rows.{row_at, rows_of}

@@ -76,8 +76,9 @@ module _ (g : Program) where
   from_older none q qs at h = choose_yes _ _ _ (le-leb _ _ h)
 
   -- none of these frames begins higher than the newest
-  older_room : {p q : ℕ} {older qs : List ℕ} → Oldest (p ∷ older) (q ∷ qs) → room_of g older ≤ room_of g qs
+  older_room : {p : ℕ} {older : List ℕ} {q : ℕ} {qs : List ℕ} → Oldest (p ∷ older) (q ∷ qs) → room_of g older ≤ room_of g qs
   older_room all = omega arith
+  older_room (newer {qs = []} oldest) = elim oldest [ ]
   older_room {qs = c ∷ qs} (newer oldest) = omega (arith, older_room oldest, room_more g c qs)
 
   -- none of these frames begins at an address or behind it

@@ -16,7 +16,7 @@ use Rattle.statements.proofs.Accepted.{call_is}
 use Rattle.semantics.specs.Layout.{Program}
 use Rattle.semantics.specs.Running.{program_of}
 use Rattle.semantics.proofs.Demand3.{program_accepted}
-use Rattle.asking.specs.Asking.{room_of, object_at}
+use Rattle.asking.specs.Asking.{room_of}
 use Rattle.asking.specs.State.{natural_of, chain, call_kept, ends_at}
 use Rattle.asking.specs.Passes.{linked, Walked, newest_below}
 use Rattle.asking.proofs.Objects.{object_older}
@@ -145,11 +145,12 @@ module _ (g : Program) where
 
   -- of walked frames the oldest, from that of procedure p on, are walked too and end no higher; what is sought at an
   -- address that is no higher than where this one begins is sought among them
-  pub going_from : {p from : ℕ} {qs older : List ℕ} {store : List ℤ} {b e : ℕ} → Walked g qs store b e
+  pub going_from : {p from : ℕ} {older qs : List ℕ} {store : List ℤ} {b e : ℕ} → Walked g qs store b e
       → Oldest (p ∷ older) qs → from ≡ room_of g older → (at : ℕ) → at ≤ from
       → (end : ℕ) × (end ≤ e) × Going g store (λ rest. newest_below g qs at ≡ newest_below g rest at) p from end
   going_from {older = older} {e = e} w all is at low =
       (e, omega arith, record { older = older; walked = rw (is ∙ sym (walked_base g w)) w; told = refl })
+  going_from w (newer {qs = []} oldest) is at low = elim oldest [ ]
   going_from {qs = q ∷ c ∷ qs} w (newer oldest) is at low =
       let (end, most, h) = going_from (walked_older g w) oldest is at low in
       let own = walked_links g w in

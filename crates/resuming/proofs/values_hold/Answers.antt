@@ -1,0 +1,56 @@
+use mathlib.Core.Path.{sym, ◌∙◌}
+use native.Mathlib.Omega.{arith}
+use Rattle.prelude.specs.Choice.{choose}
+use Rattle.access.specs.Ready.{table_of}
+use Rattle.access.proofs.Bounds.{types_few, procedures_some}
+use Rattle.prelude.proofs.Choice.{also_left, also_pass}
+use Rattle.asking.specs.Passes.{values_pass}
+use Rattle.referents.proofs.Lending.{typed_plan}
+use Rattle.resuming.proofs.Passing.{readable_by, globals_first, globals_there, globals_room}
+use Rattle.resuming.proofs.values_hold.Goals as goal
+
+pub fill_even-requires : goal.fill_even-requires
+unfolding table_of choose
+fill_even-requires c =
+    let p = c.requires.0.planned in
+    rw (c.table-2.ensures, c.table.ensures)
+    (types_few p, (typed_plan p).kept, types_few p)
+
+pub first_variable-globals-requires : goal.first_variable-globals-requires
+first_variable-globals-requires c =
+    (c.requires.0.planned, procedures_some c.requires.0.planned)
+
+pub variables_hold-requires : goal.variables_hold-requires
+unfolding table_of choose
+variables_hold-requires c =
+    let types = c.table.ensures in
+    let evens = rw (c.table-2.ensures, types) at c.fill_even.ensures in
+    let p = c.requires.0.planned in
+    rw (c.first_variable-globals.ensures, globals_first _) (
+      readable_by p (types_few p) evens c.requires.3,
+      c.requires.1,
+      globals_there p,
+      omega (arith, globals_room _ _ _ _ _ c.requires.4, c.requires.2),
+    )
+
+pub returns-then-not-variables_hold : goal.returns-then-not-variables_hold
+unfolding values_pass
+returns-then-not-variables_hold c =
+    let held = rw (c.first_variable-globals.ensures, globals_first _)
+    at c.variables_hold.ensures in
+    sym (also_left _ (sym held ∙ c.if-not-variables_hold.true))
+
+pub frames_hold-requires : goal.frames_hold-requires
+unfolding table_of choose
+frames_hold-requires c =
+    let types = c.table.ensures in
+    let evens = rw (c.table-2.ensures, types) at c.fill_even.ensures in
+    let p = c.requires.0.planned in
+    (readable_by p (types_few p) evens c.requires.3, c.requires.1, c.requires.2, c.requires.4)
+
+pub returns : goal.returns
+unfolding values_pass
+returns c =
+    let held = rw (c.first_variable-globals.ensures, globals_first _)
+    at c.variables_hold.ensures in
+    c.frames_hold.ensures ∙ sym (also_pass _ (sym held ∙ c.if-not-variables_hold.false))

@@ -1,0 +1,6 @@
+use Rattle.unwinding.specs.Links.{caller_of}
+use Rattle.unwinding.proofs.caller.Goals as goal
+
+pub returns : goal.returns
+unfolding caller_of
+returns c = rw (c.link-procedure.ensures, c.link-older.ensures)

@@ -1,0 +1,36 @@
+use native.Mathlib.Omega.{arith}
+use Rattle.unwinding.proofs.Seeking.{seeking_start, seeking_on}
+use Rattle.unwinding.proofs.caller_below.Goals as goal
+
+pub loop-older-init : goal.loop-older-init
+loop-older-init c = (
+  c.requires.1,
+  λ g qs older p start e walked within few above oldest is high. seeking_start walked within oldest is high,
+)
+
+pub caller-older-requires : goal.caller-older-requires
+caller-older-requires c = (c.requires.0, c.loop-older.invariant.0)
+
+pub returns-then-start-at : goal.returns-then-start-at
+returns-then-start-at c = λ g qs older p start e walked within few above oldest is high.
+    let l = c.loop-older in
+    let s = l.invariant.1 g qs older p start e walked within few above oldest is high in
+    (seeking_on few above l.invariant.0 s c.caller-older.ensures).1 c.if-start-at.true
+
+pub returns-then-b-start : goal.returns-then-b-start
+returns-then-b-start c = λ g qs older p start e walked within few above oldest is high.
+    let l = c.loop-older in
+    let s = l.invariant.1 g qs older p start e walked within few above oldest is high in
+    let less = (seeking_on few above l.invariant.0 s c.caller-older.ensures).0 in
+    absurd (omega (arith, c.if-b-start.true))
+
+pub loop-older-smaller : goal.loop-older-smaller
+loop-older-smaller c = c.if-b-start.false
+
+pub loop-older-preserved : goal.loop-older-preserved
+loop-older-preserved c = let l = c.loop-older in (
+  omega (arith, l.invariant.0, c.if-b-start.false),
+  λ g qs older p start e walked within few above oldest is high.
+      let s = l.invariant.1 g qs older p start e walked within few above oldest is high in
+      (seeking_on few above l.invariant.0 s c.caller-older.ensures).2 c.if-start-at.false,
+)
