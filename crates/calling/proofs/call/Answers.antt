@@ -1,0 +1,50 @@
+use borrow.Enum.Refused.{opened}
+use Prim.Native.Nat.{◌+◌, ◌≤◌}
+use native.Mathlib.Omega.{arith}
+use lib.ListN.{length}
+use Rattle.places.specs.Places.{frame_size}
+use Rattle.semantics.specs.Layout.{Program}
+use Rattle.semantics.specs.Running.{program_of}
+use Rattle.calling.proofs.Arguments.{stands_kept}
+use Rattle.calling.proofs.Calls.{first_low, parameter_roomy, shows_beyond, call_ended, call_entered}
+use Rattle.calling.proofs.call.Goals as goal
+
+-- `calling::call` meets its contract: the store check, the arguments, the frame.
+
+pub returns-then-store-end : goal.returns-then-store-end
+returns-then-store-end c = λ output.
+    shows_beyond (program_of c.args.image.now.now) c.args.statement c.args.s c.args.store.now output
+    (rw (← c.new_top-end.ensures) c.if-store-end.true)
+
+pub pass_all-passing-requires : goal.pass_all-passing-requires
+pass_all-passing-requires c =
+    let row = c.procedure_at-procedure in
+    let begin = c.first_variable-first in (
+      c.requires.0,
+      c.requires.1,
+      omega arith,
+      first_low c.requires.0.planned _ c.requires.2 row.result row.ensures _ begin.ensures,
+      omega arith,
+      parameter_roomy c.requires.0.planned _ c.requires.2 _ row.ensures _ begin.ensures _ _ (rw (← c.new_top-end.ensures) c.if-store-end.false),
+    )
+
+pub returns-in_default : goal.returns-in_default
+returns-in_default c = λ output.
+    let row = c.procedure_at-procedure.ensures in
+    let ended = call_ended (program_of c.args.image.now.now) c.args.statement c.args.s
+    c.args.store.now output (rw (← c.new_top-end.ensures) c.if-store-end.false) _ row _ c.first_variable-first.ensures (opened c.in_default.in_default-own.keys2)
+    (c.pass_all-passing.ensures output) in
+    rw c.ended_by.ensures ended
+
+pub enter-requires : goal.enter-requires
+enter-requires c =
+    let many = c.pass_all-passing.auto.store in
+    (c.requires.0, stands_kept c.requires.1 many, c.requires.2, c.requires.3, rw many (rw (← c.new_top-end.ensures) c.if-store-end.false))
+
+pub returns : goal.returns
+returns c = λ output.
+    let row = c.procedure_at-procedure.ensures in
+    let all = c.pass_all-passing in
+    let passes = rw c.in-Done.is at (all.ensures output) in
+    call_entered (program_of c.args.image.now.now) c.args.statement c.args.s c.args.store.now
+    output (rw (← c.new_top-end.ensures) c.if-store-end.false) _ row _ c.first_variable-first.ensures passes (c.enter.ensures output)

@@ -1,0 +1,37 @@
+use borrow.Enum.Refused.{opened}
+use mathlib.Core.Path.{sym, ◌∙◌}
+use native.Mathlib.Omega.{arith}
+use Rattle.access.proofs.Bounds.{size_low}
+use Rattle.finding.proofs.Low.{find_within}
+use Rattle.calling.proofs.Arguments.{standing, place_lost, place_beyond, place_copied}
+use Rattle.calling.proofs.pass_cells.Goals as goal
+
+-- `calling::pass_cells` meets its contract: the cells, copied, or what the operand's loss comes to.
+pub find_at-found-requires : goal.find_at-found-requires
+find_at-found-requires c = standing c.requires.0 c.requires.1
+
+pub returns-in_default : goal.returns-in_default
+returns-in_default c = λ output.
+    rw (c.lost_place.ensures, ← c.find_at-found.ensures)
+    (place_lost _ _ _ (opened c.in_default.in_default-own.keys2))
+
+pub overflow_add-end : goal.overflow_add-end
+overflow_add-end c =
+    let found = sym c.find_at-found.ensures ∙ c.in-At.is in
+    let here = standing c.requires.0 c.requires.1 in
+    let within = find_within here c.args.k c.in-At.object found in
+    omega (arith, c.size_of-size.ensures, within.low, size_low c.requires.0.planned c.args.r c.requires.2)
+
+pub returns-then-top-end : goal.returns-then-top-end
+returns-then-top-end c =
+    let found = sym c.find_at-found.ensures ∙ c.in-At.is in
+    λ output.
+    place_beyond _ c.args.place _ found (rw c.size_of-size.ensures at c.if-top-end.true)
+
+pub returns : goal.returns
+returns c =
+    let found = sym c.find_at-found.ensures ∙ c.in-At.is in
+    let size = c.size_of-size.ensures in
+    λ output.
+    place_copied _ c.args.place _ found (rw size at c.if-top-end.false)
+    (rw size at c.copy_above.ensures)

@@ -1,0 +1,32 @@
+use borrow.Enum.Refused.{opened}
+use mathlib.Core.Path.{sym, ◌∙◌}
+use mathlib.Core.List.{[], ◌∷◌}
+use Prim.Native.Nat.{◌<◌}
+use native.Mathlib.Omega.{arith}
+use borrow.Author.Rules.{rules}
+use lib.IntN.{pos}
+use Rattle.values.proofs.Numbers.{of_nat64}
+use Rattle.cells.proofs.Overwriting.{overwrite_lent}
+use Rattle.calling.proofs.Arguments.{standing, place_lost, place_written}
+use Rattle.calling.proofs.pass_object.Goals as goal
+
+-- `calling::pass_object` meets its contract: two cells of the lent part, or what the operand's loss comes to.
+pub find_at-found-requires : goal.find_at-found-requires
+find_at-found-requires c = standing c.requires.0 c.requires.1
+
+pub returns-in_default : goal.returns-in_default
+returns-in_default c = λ output.
+    rw (c.lost_place.ensures, ← c.find_at-found.ensures)
+    (place_lost _ _ _ (opened c.in_default.in_default-own.keys2))
+
+pub returns : goal.returns
+returns c =
+    let found = sym c.find_at-found.ensures ∙ c.in-At.is in
+    let room = c.requires.1.top in
+    let object = c.in-At.object in
+    let a : object.address < 9223372036854775808 = search rules in
+    let d : object.dynamic < 9223372036854775808 = omega (arith, c.struct_known-2-1.given) in
+    let e = rw (of_nat64 object.address a, of_nat64 object.dynamic d) at c.put_pair.ensures in
+    λ output.
+    place_written _ c.args.place (λ o. pos o.address ∷ pos o.dynamic ∷ []) found
+    (overwrite_lent _ _ _ c.args.s.top c.args.place room e)
