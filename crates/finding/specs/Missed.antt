@@ -3,7 +3,6 @@ use Rattle.values.specs.declared.Answer.{Answer}
 use Rattle.values.specs.declared.Answer.TheVariants as As
 use Rattle.semantics.specs.declared.Found.{Found}
 use Rattle.semantics.specs.declared.Found.TheVariants as Fs
-use Rattle.values.specs.declared.Value.{Value}
 
 -- a value's trap, where an object was sought
 unfoldable pub no_place : Answer → Found
