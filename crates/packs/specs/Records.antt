@@ -1,8 +1,8 @@
 -- What reading the next record of a pack answers, and what it leaves in the buffer.
 use Rattle.std.specs.Prelude.{ℕ, ◌+◌, ◌≤◌, ◌≡◌, List, length, drop}
 
--- a buffer whose first n bytes were read: those behind are as they were. What was read is not said, since the kit's
--- `io::read_full` promises a count alone.
+-- a buffer whose first n bytes were read: those behind are as they were. What was read is not said, since no clause
+-- knows the bytes of a file.
 pub record ReadTo (n : ℕ) (old new : List ℕ) : Type 0 where
   pub within : n ≤ length old
   pub same : length new ≡ length old
