@@ -249,9 +249,19 @@ fn main(rt: HostRuntime) -> io::Result<()> {
     file.take(200000).read_to_end(&mut bytes)?;
     let cases = bytes.as_slice();
     report(&rt, "dyadic", count(cases, 0, true), count(cases, 0, false))?;
-    report(&rt, "monadic", count(cases, 1, true), count(cases, 1, false))?;
+    report(
+        &rt,
+        "monadic",
+        count(cases, 1, true),
+        count(cases, 1, false),
+    )?;
     report(&rt, "cell", count(cases, 2, true), count(cases, 2, false))?;
-    report(&rt, "constant", count(cases, 3, true), count(cases, 3, false))?;
+    report(
+        &rt,
+        "constant",
+        count(cases, 3, true),
+        count(cases, 3, false),
+    )?;
     report(&rt, "number", count(cases, 4, true), count(cases, 4, false))?;
     Ok(())
 }
