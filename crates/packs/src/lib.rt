@@ -3,7 +3,7 @@
 
 ghost use Rattle.std.specs.Prelude.{◌≡◌, ◌+◌, ◌≤◌, ◌<◌, length, pos, ◌-ℤ◌, IfOk};
 ghost use Rattle.image.specs.Rows.{word_at};
-ghost use Rattle.packs.specs.Records.{NextRecord};
+ghost use Rattle.packs.specs.Records.{NextRecord, Taken};
 
 use std::io;
 use std::io::Read;
@@ -22,7 +22,9 @@ pub fn signed_at(s: &[u8], at: usize) -> i32
 // read that fails ends the pack.
 pub fn next_record<R: Read>(reader: &mut R, buffer: &mut [u8]) -> usize
     requires { length buffer.old < 4294967296 }
-    ensures { NextRecord buffer.old result buffer.new }
+    ensures answer { NextRecord buffer.old result buffer.new }
+    ensures bytes { result ≤ length buffer.old
+        → Taken (R.remaining reader.old) (R.remaining reader.new) result buffer.new }
 {
     let size = buffer.len();
     let mut head = [0u8; 4];

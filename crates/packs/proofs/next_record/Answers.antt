@@ -19,14 +19,15 @@ lent old part n h size =
       behind = drop_at part (drop n old) n many;
     }
 
-pub returns-then-is_err : goal.returns-then-is_err
-returns-then-is_err g c = none
+pub returns-then-is_err-clause-answer : goal.returns-then-is_err-clause-answer
+returns-then-is_err-clause-answer g c = none
 
-pub returns-then-size-n : goal.returns-then-size-n
-returns-then-size-n g c = none
+pub returns-then-size-n-clause-answer : goal.returns-then-size-n-clause-answer
+returns-then-size-n-clause-answer g c = none
 
-pub returns-then-is_err-2 : goal.returns-then-is_err-2
-returns-then-is_err-2 g c = cut (lent _ c.read_exact-2.new.buf _ c.if-size-n.false c.read_exact-2.auto.buf)
+pub returns-then-is_err-2-clause-answer : goal.returns-then-is_err-2-clause-answer
+returns-then-is_err-2-clause-answer g c =
+    cut (lent _ c.read_exact-2.new.buf _ c.if-size-n.false c.read_exact-2.auto.buf)
 
-pub returns : goal.returns
-returns g c = whole (lent _ c.read_exact-2.new.buf _ c.if-size-n.false c.read_exact-2.auto.buf)
+pub returns-clause-answer : goal.returns-clause-answer
+returns-clause-answer g c = whole (lent _ c.read_exact-2.new.buf _ c.if-size-n.false c.read_exact-2.auto.buf)
