@@ -1,7 +1,8 @@
 // Runs the image on standard input and prints the nine numbers of the run on a line, then one output per line.
 #![tactic(auto)]
 
-ghost use Rattle.std.specs.Prelude.{◌≡◌, ◌≤◌, [], length, pos, replicate};
+ghost use Rattle.std.specs.Prelude.{◌≡◌, ◌≤◌, [], length, pos, replicate, take};
+ghost use Rattle.std.specs.Io.KnownBytes.{Consumes};
 ghost use Rattle.semantics.specs.Running.{result_of, output_after};
 
 use semantics::RunResult;
@@ -21,18 +22,17 @@ fn run_image(image: &[u8], output: &mut [i32]) -> RunResult
 
 // Reads until the image is full, the input ends or a read fails, and answers how many bytes were read.
 fn read_image<R: Read>(input: &mut R, image: &mut [u8]) -> usize
-    ensures { result ≤ length image.new }
+    ensures within { result ≤ length image.new }
+    ensures bytes { Consumes (R.remaining input.old) (R.remaining input.new)
+        (take result image.new) }
 {
     let mut done: usize = 0;
     while done < image.len() {
-        let n = match input.read(&mut image[done..]) {
-            Ok(n) => n,
-            Err(_) => 0,
-        };
-        if n == 0 {
-            return done;
+        match input.read(&mut image[done..]) {
+            Ok(0) => return done,
+            Ok(n) => done += n,
+            Err(_) => return done,
         }
-        done = done + n;
     }
     done
 }
