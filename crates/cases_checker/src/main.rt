@@ -2,27 +2,30 @@
 #![tactic(auto)]
 
 use checker::CheckAnswer;
+use std::fs::File;
+use std::io;
 
-fn main() {
-    let name = b"images.pack";
-    let fd = os::open_read(name);
-    if fd < 0 {
-        os::fail(name);
-        return;
-    }
+fn main(rt: HostRuntime) -> io::Result<()> {
+    let name = "images.pack";
+    let mut file = match File::open(&rt, name) {
+        Ok(file) => file,
+        Err(error) => return eprintln!(rt; "{name}: {error}"),
+    };
     let mut buffer = [0u8; 29714];
     let mut left: usize = 10000;
     while 0 < left {
-        let n = packs::next_record(fd, &mut buffer);
+        let n = packs::next_record(&mut file, &mut buffer);
         if buffer.len() < n {
-            return;
+            return Ok(());
         }
         match checker::check(&buffer[..n]) {
-            CheckAnswer::Accepted => packs::print_answer(0),
+            CheckAnswer::Accepted => packs::print_answer(&rt, 0)?,
             CheckAnswer::Refused(refusal, row) => packs::print_answer(
+                &rt,
                 (refusal as u32) * 65536 + (row as u32),
-            ),
+            )?,
         }
         left = left - 1;
     }
+    Ok(())
 }

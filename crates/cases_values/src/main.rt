@@ -3,13 +3,15 @@
 // format.
 #![tactic(auto)]
 
-ghost use Rattle.std.specs.Prelude.{◌≡◌, ◌+◌, ◌*◌, ◌<◌, ◌≤◌, ◌/◌, length, get_or};
+ghost use Rattle.std.specs.Prelude.{◌≡◌, ◌+◌, ◌*◌, ◌<◌, ◌≤◌, ◌/◌, length, get_or, IfOk};
 ghost use Rattle.operators.specs.Operators.{dyadic_of};
 ghost use Rattle.cases_values.specs.Cases.{half_at, operand_at, wide_at, dyadic_case, monadic_case, cell_case};
 ghost use Rattle.cases_values.specs.Cases.{number_case, answer_of, same_value, same_as, agrees as agreesOf};
 ghost use Rattle.cases_values.specs.Cases.{is_good, weight_at, counted};
 
-use libc::STDOUT_FILENO;
+use std::fs::File;
+use std::io;
+use std::io::Read;
 use values::{Answer, Value};
 
 // ---- a case's parts
@@ -230,31 +232,36 @@ fn count(cases: &[u8], what: u16, good: bool) -> usize
 }
 
 // Prints a line, and gives back how many were different.
-fn report(name: &[u8], same: usize, different: usize) -> usize
-    ensures { result ≡ different }
+fn report(rt: &impl Print, name: &str, same: usize, different: usize) -> io::Result<usize>
+    ensures { IfOk result (λ n. n ≡ different) }
 {
-    io::write_all(STDOUT_FILENO, name);
-    io::write_all(STDOUT_FILENO, b" ");
-    io::print_decimal(STDOUT_FILENO, same as u64);
-    io::write_all(STDOUT_FILENO, b" same, ");
-    io::print_decimal(STDOUT_FILENO, different as u64);
-    io::write_all(STDOUT_FILENO, b" different\n");
-    different
+    println!(rt; "{name} {same} same, {different} different")?;
+    Ok(different)
 }
 
-fn main() {
-    let fd = os::open_read(b"operators.bin");
-    if fd < 0 {
-        os::fail(b"operators.bin");
-        return;
-    }
-    let mut bytes = [0u8; 200000];
-    let n = io::read_full(fd, &mut bytes);
-    libc::close(fd);
-    let cases = &bytes[..n];
-    report(b"dyadic", count(cases, 0, true), count(cases, 0, false));
-    report(b"monadic", count(cases, 1, true), count(cases, 1, false));
-    report(b"cell", count(cases, 2, true), count(cases, 2, false));
-    report(b"constant", count(cases, 3, true), count(cases, 3, false));
-    report(b"number", count(cases, 4, true), count(cases, 4, false));
+fn main(rt: HostRuntime) -> io::Result<()> {
+    let name = "operators.bin";
+    let file = match File::open(&rt, name) {
+        Ok(file) => file,
+        Err(error) => return eprintln!(rt; "{name}: {error}"),
+    };
+    let mut bytes = Vec::new(rt.alloc());
+    file.take(200000).read_to_end(&mut bytes)?;
+    let cases = bytes.as_slice();
+    report(&rt, "dyadic", count(cases, 0, true), count(cases, 0, false))?;
+    report(
+        &rt,
+        "monadic",
+        count(cases, 1, true),
+        count(cases, 1, false),
+    )?;
+    report(&rt, "cell", count(cases, 2, true), count(cases, 2, false))?;
+    report(
+        &rt,
+        "constant",
+        count(cases, 3, true),
+        count(cases, 3, false),
+    )?;
+    report(&rt, "number", count(cases, 4, true), count(cases, 4, false))?;
+    Ok(())
 }

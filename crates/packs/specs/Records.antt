@@ -1,8 +1,9 @@
 -- What reading the next record of a pack answers, and what it leaves in the buffer.
-use Rattle.std.specs.Prelude.{ℕ, ◌+◌, ◌≤◌, ◌≡◌, List, length, drop}
+use Rattle.std.specs.Prelude.{ℕ, ◌+◌, ◌≤◌, ◌≡◌, Option, List, ◌++◌, length, take, drop}
+use Rattle.std.specs.Io.KnownBytes.{Consumes}
+use Rattle.image.specs.Rows.{word_at}
 
--- a buffer whose first n bytes were read: those behind are as they were. What was read is not said, since the kit's
--- `io::read_full` promises a count alone.
+-- a buffer whose first n bytes were read: those behind are as they were. What was read is said by `Taken`
 pub record ReadTo (n : ℕ) (old new : List ℕ) : Type 0 where
   pub within : n ≤ length old
   pub same : length new ≡ length old
@@ -16,3 +17,11 @@ pub data NextRecord (old : List ℕ) : ℕ → List ℕ → Type 0 where
   none : NextRecord old (length old + 1) old
   -- the pack ends within a record of n bytes
   cut : {n : ℕ} {new : List ℕ} → ReadTo n old new → NextRecord old (length old + 2) new
+
+-- what a reader loses by a record of n bytes at the start of the buffer, where its bytes are known: the record's length
+-- in 4 bytes, and then its bytes
+pub record Taken (before after : Option (List ℕ)) (n : ℕ) (new : List ℕ) : Type 0 where
+  pub head : List ℕ
+  pub size : length head ≡ 4
+  pub says : word_at head 0 ≡ n
+  pub bytes : Consumes before after (head ++ take n new)

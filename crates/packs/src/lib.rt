@@ -1,11 +1,12 @@
 // Reads the records of a pack, as tools/pack writes it, and prints answers.
 #![tactic(auto)]
 
-ghost use Rattle.std.specs.Prelude.{◌≡◌, ◌+◌, ◌≤◌, ◌<◌, length, pos, ◌-ℤ◌};
+ghost use Rattle.std.specs.Prelude.{◌≡◌, ◌+◌, ◌≤◌, ◌<◌, length, pos, ◌-ℤ◌, IfOk};
 ghost use Rattle.image.specs.Rows.{word_at};
-ghost use Rattle.packs.specs.Records.{NextRecord};
+ghost use Rattle.packs.specs.Records.{NextRecord, Taken};
 
-use libc::STDOUT_FILENO;
+use std::io;
+use std::io::Read;
 
 // The signed number at a byte, which is packed with 2,147,483,648 added to it.
 pub fn signed_at(s: &[u8], at: usize) -> i32
@@ -17,34 +18,32 @@ pub fn signed_at(s: &[u8], at: usize) -> i32
 }
 
 // Puts the next record at the start of the buffer and answers its length. At the end of the pack, or where the buffer
-// is too short, it answers one more than the buffer's length, and where the pack ends within the record, two more.
-pub fn next_record(fd: i32, buffer: &mut [u8]) -> usize
+// is too short, it answers one more than the buffer's length, and where the pack ends within the record, two more. A
+// read that fails ends the pack.
+pub fn next_record<R: Read>(reader: &mut R, buffer: &mut [u8]) -> usize
     requires { length buffer.old < 4294967296 }
-    ensures { NextRecord buffer.old result buffer.new }
+    ensures answer { NextRecord buffer.old result buffer.new }
+    ensures bytes { result ≤ length buffer.old
+        → Taken (R.remaining reader.old) (R.remaining reader.new) result buffer.new }
 {
     let size = buffer.len();
     let mut head = [0u8; 4];
-    let got = io::read_full(fd, &mut head);
-    if got < 4 {
+    if reader.read_exact(&mut head).is_err() {
         return size + 1;
     }
     let n = image::word_at(&head, 0) as usize;
     if size < n {
         return size + 1;
     }
-    let read = io::read_full(fd, &mut buffer[..n]);
-    if read < n {
+    if reader.read_exact(&mut buffer[..n]).is_err() {
         return size + 2;
     }
     n
 }
 
 // Prints an answer of the check, refusal * 65,536 + row, as two numbers on a line.
-pub fn print_answer(answer: u32)
-    ensures { result ≡ tt }
+pub fn print_answer(rt: &impl Print, answer: u32) -> io::Result<()>
+    ensures { IfOk result (λ x. x ≡ tt) }
 {
-    io::print_decimal(STDOUT_FILENO, (answer / 65536) as u64);
-    io::write_all(STDOUT_FILENO, b" ");
-    io::print_decimal(STDOUT_FILENO, (answer % 65536) as u64);
-    io::write_all(STDOUT_FILENO, b"\n");
+    println!(rt; "{} {}", answer / 65536, answer % 65536)
 }
