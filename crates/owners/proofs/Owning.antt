@@ -5,11 +5,10 @@ use mathlib.Core.List.{List}
 use Prim.Native.Nat.{ℕ, ◌+◌, ◌≤◌, ◌<◌}
 use native.Mathlib.Omega.{arith}
 use native.Mathlib.Decide.{dec_lt, dec_le}
-use borrow.Author.Tests.{lt-ltb, le-ltb, lt-leb, le-leb, leb-true, leb-false}
+use borrow.Author.Tests.{lt-ltb, le-ltb, lt-leb, le-leb}
 use lib.Dec.{leb, ltb, eqb}
 use Rattle.prelude.specs.Choice.{choose, ◌also◌}
-use Rattle.prelude.proofs.Choice.{choose_yes, choose_no, also_yes, also_left, also_right, also_pass}
-use Rattle.prelude.specs.Rec.{rec}
+use Rattle.prelude.proofs.Choice.{choose_yes, choose_no, also_yes, also_left, also_right}
 use Rattle.prelude.proofs.Rec.{rec_rel}
 use Rattle.image.specs.declared.Row.{Row}
 use Rattle.image.specs.Rows.{row_at, rows_of}

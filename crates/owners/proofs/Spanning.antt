@@ -1,17 +1,15 @@
 -- Laws of the loop that fills the tables of spans.
-use mathlib.Core.Path.{◌≡◌, refl, sym, ◌∙◌, ap, fun_ext}
-use mathlib.Core.Bool.{Bool, true, false}
+use mathlib.Core.Path.{◌≡◌, sym, ◌∙◌, ap, fun_ext}
 use mathlib.Core.List.{List}
 use Prim.Native.Nat.{ℕ, suc, ◌+◌, ◌≤◌, ◌<◌}
 use native.Mathlib.Omega.{arith}
 use native.Mathlib.Decide.{dec_lt}
-use borrow.Author.Tests.{lt-ltb, le-ltb, ne_eqb}
-use lib.Dec.{eqb}
-use lib.ListN.{length, get_or, take, set, length-set}
+use borrow.Author.Tests.{lt-ltb, le-ltb}
+use lib.ListN.{length, take, set, length-set}
 use lib.Seq.{length-take-le, get_or-take}
 use Rattle.prelude.specs.Choice.{choose}
 use Rattle.prelude.proofs.Choice.{choose_yes, choose_no, also_yes, also_left}
-use Rattle.prelude.specs.Rec.{below, rec}
+use Rattle.prelude.specs.Rec.{below}
 use Rattle.prelude.proofs.Rec.{below_low, below_high, rec_eq}
 use Rattle.prelude.proofs.Cells.{filled_none, filled_next, filled_at}
 use Rattle.image.specs.declared.Row.{Row}

@@ -1,5 +1,5 @@
 -- Whose variables a node and the nodes below it use.
-use Rattle.std.specs.Prelude.{ℕ, ◌+◌, ◌<◌, ◌≤◌, ◌≡◌, Bool, true, false, List, ltb, leb, eqb, length, get_or}
+use Rattle.std.specs.Prelude.{ℕ, ◌+◌, Bool, true, List, ltb, leb, eqb, length, get_or}
 use Rattle.prelude.specs.Choice.{choose, ◌also◌}
 use Rattle.prelude.specs.Rec.{rec}
 use Rattle.prelude.specs.Cells.{Filled}

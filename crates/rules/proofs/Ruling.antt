@@ -1,18 +1,18 @@
 -- Laws of a statement's rules.
-use mathlib.Core.Path.{◌≡◌, refl, sym, ◌∙◌, ap, fun_ext}
-use mathlib.Core.Bool.{Bool, true, false}
+use mathlib.Core.Path.{◌≡◌, sym, ◌∙◌, ap, fun_ext}
+use mathlib.Core.Bool.{Bool, false}
 use mathlib.Core.List.{List}
-use Prim.Native.Nat.{ℕ, ◌+◌, ◌-◌, ◌≤◌, ◌<◌}
+use Prim.Native.Nat.{ℕ, ◌+◌, ◌≤◌, ◌<◌}
 use native.Mathlib.Omega.{arith}
 use native.Mathlib.Decide.{dec_lt}
 use lib.Dec.{eqb}
 use lib.ListN.{length, get_or, take, replicate, length-replicate}
 use Rattle.image.specs.declared.Row.{Row}
 use Rattle.image.specs.Rows.{row_at, rows_of}
-use Rattle.image.specs.Faults.{all_from, KeptIn}
+use Rattle.image.specs.Faults.{all_from}
 use Rattle.image.proofs.Bytes.{row_missing}
-use Rattle.image.proofs.Faults.{kept_none, kept_next, each_all, not_all}
-use Rattle.frames.specs.Procedures.{first_variable, claimed_by}
+use Rattle.image.proofs.Faults.{kept_none, each_all}
+use Rattle.frames.specs.Procedures.{first_variable}
 use Rattle.frames.proofs.Accepted.{ProceduresKept, procedures_kept}
 use Rattle.statements.specs.Statements.{procedure_at}
 use Rattle.statements.proofs.Bodies.{InBody, in_body}

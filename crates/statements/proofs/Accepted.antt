@@ -1,22 +1,22 @@
 -- What question 8 says of an accepted statement row.
-use mathlib.Core.Path.{◌≡◌, refl, sym, ◌∙◌, ap}
-use mathlib.Core.Bool.{Bool, true, false, not}
+use mathlib.Core.Path.{◌≡◌, sym, ◌∙◌, ap}
+use mathlib.Core.Bool.{true}
 use mathlib.Core.List.{List}
 use mathlib.Core.Logic.{⊎_elim}
 use Prim.Native.Nat.{ℕ, ◌+◌, ◌≤◌, ◌<◌}
 use native.Mathlib.Omega.{arith}
 use borrow.Author.Tests.{ltb-true, leb-true, eqb-true, eq-eqb, not-true}
-use lib.Dec.{ltb, leb, eqb}
-use Rattle.prelude.specs.Choice.{choose, ◌also◌}
+use lib.Dec.{eqb}
+use Rattle.prelude.specs.Choice.{choose}
 use Rattle.prelude.proofs.Choice.{choose_yes, choose_cases, also_true, clash}
 use Rattle.image.specs.declared.Row.{Row}
 use Rattle.image.specs.declared.Verdict.TheVariants.{Kept}
 use Rattle.image.specs.Rows.{row_at, rows_of}
-use Rattle.image.specs.Faults.{all_from, KeptIn}
+use Rattle.image.specs.Faults.{KeptIn}
 use Rattle.image.proofs.Faults.{all_each, verdict_kept}
 use Rattle.frames.specs.Procedures.{body_end}
 use Rattle.frames.proofs.Accepted.{ProceduresKept}
-use Rattle.nodes.specs.Nodes.{is_designator, is_argument}
+use Rattle.nodes.specs.Nodes.{is_argument}
 use Rattle.nodes.proofs.Accepted.{Plain, Designator, designator_is, argument_not}
 use Rattle.statements.specs.Statements.{procedure_at, is_node, target_kept, arguments_kept, assign_kept, call_kept}
 use Rattle.statements.specs.Statements.{jump_kept, goto_kept, return_kept, read_kept, value_kept, form_kept, last_kept}

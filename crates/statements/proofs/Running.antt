@@ -6,13 +6,13 @@ use Prim.Native.Nat.{ℕ, zero, suc, ◌+◌, ◌-◌, ◌≤◌, ◌<◌}
 use native.Mathlib.Omega.{arith}
 use native.Mathlib.Decide.{dec_lt, dec_le}
 use borrow.Author.Tests.{ne_eqb, le-leb, lt-leb}
-use lib.Dec.{leb, eqb}
+use lib.Dec.{leb}
 use lib.ListN.{length, get_or, set, take, length-set, get_or-eq_default}
 use lib.Seq.{length-take-le, get_or-take, get_or-set_same, get_or-set_other}
 use Rattle.prelude.specs.Choice.{choose}
-use Rattle.prelude.proofs.Choice.{choose_yes, choose_no}
-use Rattle.image.specs.Rows.{row_at, rows_of}
-use Rattle.image.specs.Faults.{all_from, KeptIn}
+use Rattle.prelude.proofs.Choice.{choose_no}
+use Rattle.image.specs.Rows.{rows_of}
+use Rattle.image.specs.Faults.{all_from}
 use Rattle.image.proofs.Bytes.{row_missing}
 use Rattle.image.proofs.Faults.{each_all, not_all}
 use Rattle.nodes.specs.Nodes.{is_argument}

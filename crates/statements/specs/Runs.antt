@@ -1,5 +1,5 @@
 -- Runs of arguments: a table of them lets question 8 look at each node once, however many calls name it.
-use Rattle.std.specs.Prelude.{◌≡◌, Bool, true, false, List, ℕ, zero, suc, ◌+◌, ◌-◌, ◌≤◌, ◌<◌, length, get_or}
+use Rattle.std.specs.Prelude.{◌≡◌, Bool, List, ℕ, zero, suc, ◌+◌, ◌-◌, ◌≤◌, ◌<◌, length, get_or}
 use Rattle.prelude.specs.Choice.{choose}
 use Rattle.image.specs.Rows.{rows_of}
 use Rattle.nodes.specs.Nodes.{is_argument}

@@ -1,6 +1,5 @@
 -- Laws of the loop that fills the table of types.
 use mathlib.Core.Path.{◌≡◌, refl, sym, ◌∙◌, ap, fun_ext}
-use mathlib.Core.Bool.{Bool, true, false}
 use mathlib.Core.List.{List}
 use Prim.Native.Nat.{ℕ, ◌+◌, ◌≤◌, ◌<◌}
 use native.Mathlib.Omega.{arith}
@@ -10,18 +9,17 @@ use lib.ListN.{length, get_or, take, set, length-set}
 use lib.Seq.{length-take-le, get_or-take, get_or-set_same, get_or-set_other}
 use Rattle.prelude.proofs.Choice.{choose_yes, choose_no}
 use Rattle.prelude.specs.Choice.{choose}
-use Rattle.prelude.specs.Rec.{below, rec}
+use Rattle.prelude.specs.Rec.{below}
 use Rattle.prelude.proofs.Rec.{below_low, below_high, rec_eq}
 use Rattle.image.specs.declared.Row.{Row}
-use Rattle.image.specs.declared.Verdict.{Verdict}
 use Rattle.image.specs.declared.Verdict.TheVariants.{Kept, Fault}
 use Rattle.image.specs.Rows.{row_at, rows_of}
 use Rattle.image.proofs.Bytes.{row_missing}
-use Rattle.image.specs.Faults.{KeptIn, lowest_fault}
+use Rattle.image.specs.Faults.{KeptIn}
 use Rattle.image.proofs.Faults.{kept_none, kept_next, scan_bad, scan_end}
 use Rattle.kinds.specs.declared.KindAnswer.{KindAnswer}
 use Rattle.kinds.specs.declared.KindAnswer.TheVariants.{Untyped, Kind}
-use Rattle.typing.specs.Typing.{type_by, type_of, has_type, question10, type_in, passed, Typed}
+use Rattle.typing.specs.Typing.{type_by, type_of, has_type, question10, type_in, Typed}
 
 -- a table of the lower rows' types
 table_below : (type : ℕ → KindAnswer) (m : ℕ) (old types : List ℕ) → Typed type m old types → m ≤ length types

@@ -1,5 +1,4 @@
 use mathlib.Core.Path.{sym, ◌∙◌}
-use Prim.Native.Nat.{◌-◌}
 use native.Mathlib.Omega.{arith}
 use Rattle.frames.proofs.Claiming.{claimed_none, body_bad, own_bad, claimed_next, variables_bad, variables_all}
 use Rattle.frames.proofs.check_procedures.Goals as goal

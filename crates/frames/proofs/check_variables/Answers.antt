@@ -1,4 +1,3 @@
-use Prim.Native.Nat.{◌-◌}
 use native.Mathlib.Omega.{arith}
 use Rattle.frames.proofs.Scanning.{passed_none, variable_bad, passed_next, variables_good}
 use Rattle.frames.proofs.check_variables.Goals as goal

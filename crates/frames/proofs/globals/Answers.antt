@@ -1,5 +1,4 @@
 use mathlib.Core.Path.{sym, ◌∙◌}
-use Prim.Native.Nat.{◌-◌}
 use native.Mathlib.Omega.{arith}
 use Rattle.frames.specs.Variables.{globals_of}
 use Rattle.frames.proofs.Scanning.{globals_more, globals_stop, globals_end}

@@ -1,4 +1,3 @@
-use Rattle.owners.specs.Owners.{join_span}
 use Rattle.owners.proofs.both_spans.Goals as goal
 
 pub returns : goal.returns

@@ -1,7 +1,6 @@
 use Rattle.owners.proofs.Spanning.{spanned_none, spanned_next, spanned_all}
 use lib.Seq.{length-take-le}
 use native.Mathlib.Omega.{arith}
-use Prim.Native.Nat.{◌-◌}
 use mathlib.Core.Path.{sym}
 use Rattle.owners.proofs.fill_spans.Goals as goal
 

@@ -1,5 +1,4 @@
 use mathlib.Core.Path.{◌≡◌}
-use Prim.Native.Nat.{◌-◌}
 use native.Mathlib.Omega.{arith}
 use Rattle.image.specs.Rows.{rows_of}
 use Rattle.places.proofs.Framing.{framed_none, run_fits, run_rows, framed_more}

@@ -1,5 +1,4 @@
 use mathlib.Core.Path.{◌≡◌}
-use Prim.Native.Nat.{◌-◌}
 use native.Mathlib.Omega.{arith}
 use Rattle.places.proofs.Running.{run_none, run_room, run_next, run_small}
 use Rattle.places.proofs.place_run.Goals as goal

@@ -1,7 +1,6 @@
-use Rattle.rules.specs.Rules.{argument_rule}
 use Rattle.image.proofs.Faults.{kept_none, kept_next, each_all, not_all}
 use native.Mathlib.Omega.{arith}
-use Prim.Native.Nat.{◌+◌, ◌-◌}
+use Prim.Native.Nat.{◌+◌}
 use mathlib.Core.Path.{◌≡◌, sym, ◌∙◌}
 use Rattle.rules.proofs.arguments_rule.Goals as goal
 

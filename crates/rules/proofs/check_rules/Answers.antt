@@ -1,7 +1,4 @@
-use Prim.Native.Nat.{◌≤◌}
-use Rattle.rules.proofs.Ruling.{zeros, room, ready}
-use lib.Seq.{length-take-le}
-use mathlib.Core.Path.{sym}
+use Rattle.rules.proofs.Ruling.{zeros, ready}
 use Rattle.rules.proofs.check_rules.Goals as goal
 
 pub rules_by-requires : goal.rules_by-requires

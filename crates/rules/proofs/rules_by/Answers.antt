@@ -3,7 +3,6 @@ use Rattle.rules.specs.Rules.{rules_by}
 use Rattle.statements.proofs.Scanning.{procedure_first, procedure_next, procedure_few}
 use Rattle.image.proofs.Faults.{kept_none, kept_next, scan_bad, scan_end}
 use native.Mathlib.Omega.{arith}
-use Prim.Native.Nat.{◌-◌}
 use mathlib.Core.Path.{sym, ◌∙◌}
 use Rattle.rules.proofs.rules_by.Goals as goal
 

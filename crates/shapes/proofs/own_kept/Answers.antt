@@ -1,6 +1,6 @@
 use Rattle.image.proofs.Faults.{kept_none, kept_next}
 use mathlib.Core.Path.{◌≡◌, sym, ◌∙◌}
-use Prim.Native.Nat.{◌+◌, ◌-◌}
+use Prim.Native.Nat.{◌+◌}
 use native.Mathlib.Omega.{arith}
 use Rattle.image.proofs.Faults.{each_all, not_all}
 use Rattle.shapes.specs.Shapes.{field_kept}

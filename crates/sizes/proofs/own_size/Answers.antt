@@ -1,6 +1,6 @@
 use Rattle.image.specs.declared.Row.{Row}
 use mathlib.Core.Path.{◌∙◌, ap}
-use Prim.Native.Nat.{◌+◌, ◌-◌}
+use Prim.Native.Nat.{◌+◌}
 use native.Mathlib.Omega.{arith}
 use lib.ListN.{get_or}
 use native.Mathlib.Nat.{add-sub_cancel_left}

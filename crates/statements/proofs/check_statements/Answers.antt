@@ -1,7 +1,3 @@
-use mathlib.Core.Path.{sym}
-use Prim.Native.Nat.{◌≤◌}
-use lib.ListN.{length}
-use lib.Seq.{length-take-le}
 use Rattle.statements.proofs.Running.{runs_all}
 use Rattle.statements.proofs.check_statements.Goals as goal
 

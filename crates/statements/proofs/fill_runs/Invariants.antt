@@ -1,4 +1,3 @@
-use Prim.Native.Nat.{◌-◌}
 use Rattle.statements.proofs.Running.{Written}
 use Rattle.statements.proofs.fill_runs.Given as goal
 

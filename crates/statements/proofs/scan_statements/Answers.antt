@@ -1,5 +1,4 @@
 use mathlib.Core.Path.{refl, sym, ◌∙◌}
-use Prim.Native.Nat.{◌-◌}
 use native.Mathlib.Omega.{arith}
 use Rattle.image.proofs.Faults.{kept_none, kept_next, scan_bad, scan_end}
 use Rattle.statements.specs.Statements.{procedure_at, question8}

@@ -1,6 +1,5 @@
 use mathlib.Core.Path.{sym, ◌∙◌}
 use native.Mathlib.Omega.{arith}
-use Prim.Native.Nat.{◌-◌}
 use Rattle.types.proofs.Checking.{sofar_none, used_small, shape_bad, size_bad, ready, sofar_next}
 use Rattle.types.proofs.Checking.{fields_bad, fields_good}
 use Rattle.types.proofs.check_types.Goals as goal

@@ -2,7 +2,6 @@ use Rattle.typing.specs.Typing.{passed}
 use Rattle.typing.proofs.Passing.{filled_none, untyped_bad, filled_next, all_typed, filled_all}
 use lib.Seq.{length-take-le}
 use native.Mathlib.Omega.{arith}
-use Prim.Native.Nat.{◌-◌}
 use mathlib.Core.Path.{sym}
 use Rattle.typing.proofs.check_typing.Goals as goal
 
