@@ -151,7 +151,7 @@ def write():
 
 
 def plain(text):
-    """A text without what a quotation need not keep: bold, backticks, the form of hyphen, minus and quotes, white space."""
+    """A text without what a quotation need not keep: bold, backticks, the form of hyphen, minus and quotes, spaces."""
     return flat(re.sub('[*`]', '', text.replace('\u2212', '-').replace('_', '-').replace('"', "'")))
 
 
