@@ -2,7 +2,7 @@
  * and 02 (docs/spec/) ask for them. For C99 and C++11 and later. docs/FIRMWARE.md is the guide, examples/firmware.c a
  * reader's main loop.
  *
- * Link libdoor.a. `rt staticlib door` writes it for x86-64 to target/staticlib/, and `bash tools/targets` for this and
+ * Link libdoor.a. `bash tools/library` writes it for x86-64 to target/staticlib/, and `bash tools/targets` for this and
  * for ARM and RISC-V processors to target/targets/NAME/; the interface is the same for all, which are little-endian. Of
  * other libraries it needs memset, and for some processors memcpy and a division (docs/FIRMWARE.md, "Targets"). There
  * is no heap, no file, no clock and no state between calls: nothing is touched but what is lent, and the stack. So
@@ -25,7 +25,7 @@ extern "C" {
 #define DOOR_VERSION "1.0.0"
 
 /* The library's own word for both, "door 1.0.0 interface 3": in the libraries that tools/targets makes; the one that
- * `rt staticlib door` writes has none. */
+ * `tools/library` writes has none. */
 extern const char door_version[];
 
 /* The longest image that is accepted, in bytes; the largest store that is taken, in cells. */

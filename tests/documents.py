@@ -17,7 +17,7 @@ And of two tables:
   its value, and crates/sizes/specs/Cells.antt has the same constants;
 - that between two comments in docs/PROOFS.md is what opened.py finds; --write writes it.
 And of the crates: what a comment has in double quotes stands in a paragraph of document 01 or 02 (docs/spec/), word for
-word up to white space, the signs * and `, and the form of minus and quotes; `..` stands for what is left out.
+word up to white space, the signs * and `, and the form of hyphen, minus and quotes; `..` stands for what is left out.
 Each mistake is a line; the exit status is 1 where there is one."""
 import pathlib
 import re
@@ -151,8 +151,8 @@ def write():
 
 
 def plain(text):
-    """A text without what a quotation need not keep: bold, backticks, the form of minus and of quotes, white space."""
-    return flat(re.sub('[*`]', '', text.replace('\u2212', '-').replace('"', "'")))
+    """A text without what a quotation need not keep: bold, backticks, the form of hyphen, minus and quotes, spaces."""
+    return flat(re.sub('[*`]', '', text.replace('\u2212', '-').replace('_', '-').replace('"', "'")))
 
 
 def paragraphs():
@@ -175,7 +175,8 @@ def wrong_quotations(text, papers):
 def quotations():
     """The mistakes of the crates' quotations, each behind its file."""
     papers = paragraphs()
-    for path in sorted(path for ending in ('antt', 'rt') for path in CRATES.rglob(f'*.{ending}')):
+    for path in sorted(path for part in ('src/**/*.rt', 'specs/**/*.antt', 'proofs/**/*.antt')
+                       for path in CRATES.glob(f'*/{part}')):
         yield from ((path, wrong) for wrong in wrong_quotations(path.read_text(encoding='utf-8'), papers))
 
 
@@ -192,8 +193,8 @@ BROKEN = [
     'Of `crates/sets/src/lib.rt`:\n\n    // The elements a to b.\n    ..\n    // Whether x is an element that a SET can have.\n',
     '`sets::remember`',
     '`sets/None`',
-    '`sets/Sets`: `containsOf` and `remember`',
-    '`sets/Members`: `member-elements`, `member`',
+    '`sets/Sets`: `contains_of` and `remember`',
+    '`sets/Members`: `member_elements`, `member`',
     '`sets/must-fail/none`',
     'D17 and D999',
 ]
@@ -205,9 +206,9 @@ BROKEN_CELLS = [
     ('| 384 | `PLACES` | |\n| 640 | `FRAMES` | |', {'PLACES': 384}),
 ]
 BROKEN_ROWS = [
-    (f'{BEGIN}| `sets` | `image`: `rowAt` |\n{END}', ['| `sets` | `image`: `rowAt`, `rowsOf` |']),
-    (f'{BEGIN}| `sets` | `image`: `rowAt` |\n{END}', []),
-    (f'{BEGIN}{END}', ['| `sets` | `image`: `rowAt` |']),
+    (f'{BEGIN}| `sets` | `image`: `row_at` |\n{END}', ['| `sets` | `image`: `row_at`, `rows_of` |']),
+    (f'{BEGIN}| `sets` | `image`: `row_at` |\n{END}', []),
+    (f'{BEGIN}{END}', ['| `sets` | `image`: `row_at` |']),
 ]
 # Comments with one mistake each, against a paper of one paragraph.
 PAPER = plain('The **first** "no" decides; the row is `at` \u2212 1, 0 for 1 to 3.')
@@ -220,14 +221,23 @@ BROKEN_QUOTATIONS = [
 WHOLE_QUOTATIONS = '-- "The first \'no\' decides; .. at - 1,\n-- 0 for 1 to 3.": laws\nlaw : "no comment"\n'
 # A module of proofs that opens two definitions of a lower crate, and one of its own.
 OPENING = '''
-use Rattle·image.specs.Rows.{rowAt as row, rowsOf}
-use Rattle·sets·specs.specs.Sets.{containsOf}
+use Rattle.image.specs.Rows.{row_at as row, rows_of}
+use Rattle.sets.specs.Sets.{contains_of}
 
-  law : (t : List ℕ) → rowsOf t ≡ 0
+  law : (t : List ℕ) → rows_of t ≡ 0
       → row t 0 ≡ row t 1
-  unfolding row containsOf
-      rowsOf
+  unfolding row contains_of
+      rows_of
   law t h = refl
+'''
+# A source whose first function opens one, and one of its own.
+OPENING_CODE = '''
+#[tactic(auto, using(Rattle.image.proofs.Bytes.{row_small}), unfolding(image::specs::Rows::row_at,
+    crate::specs::Sets::contains_of))]
+#[cycle(first_second)]
+pub fn first() {}
+#[tactic(auto)]
+fn second() {}
 '''
 
 
@@ -238,8 +248,11 @@ def missed():
     yield from (text for text, rows in BROKEN_ROWS if len(list(wrong_rows(text, rows))) != 1)
     yield from (text for text in BROKEN_QUOTATIONS if len(list(wrong_quotations(text, [PAPER]))) != 1)
     yield from (WHOLE_QUOTATIONS for wrong in wrong_quotations(WHOLE_QUOTATIONS, [PAPER]))
-    if {(found.lower, found.name) for found in opened.openings(OPENING)} != {('image', 'rowAt'), ('image', 'rowsOf')}:
+    both = {('image', 'row_at'), ('image', 'rows_of')}
+    if {(found.lower, found.name) for found in opened.openings(OPENING, 'sets')} != both:
         yield OPENING
+    if [(found.name, function) for found, function in opened.openings_of_code(OPENING_CODE)] != [('row_at', 'first')]:
+        yield OPENING_CODE
 
 
 def main(arguments):

@@ -13,7 +13,7 @@ const TARGETS: [(&str, &str, &str); 6] = [
 ];
 
 const HELP: &str = "\
-In the repository `rt staticlib door` builds it for x86-64 Linux, and `bash tools/targets` for the other targets. Or set
+In the repository `bash tools/library` builds it for x86-64 Linux, and `bash tools/targets` for the other targets. Or set
 DOOR_LIBRARY to the file, or DOOR_LIBRARIES to a folder of NAME/libdoor.a.";
 
 fn main() {

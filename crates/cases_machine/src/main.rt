@@ -32,6 +32,7 @@ fn run_case(
     output: &mut [i32],
     steps: u32,
 ) -> io::Result<()>
+    ensures value { IfOk result (λ x. x ≡ tt) }
     ensures store { store.new ≡ store_after image.now input.now
         store.old output.old steps }
     ensures output { output.new ≡ output_after image.now input.now

@@ -198,7 +198,7 @@ fn run(image: &str) -> door::Numbers {
 #[test]
 fn the_first_command_prints_what_the_readme_has() {
     let document = text_of("README.md");
-    let (_, command) = document.split_once("target/bin/doorrun <").expect("the first command");
+    let (_, command) = document.split_once("rt run) <").expect("the first command");
     let (numbers, output) = run_with_output(command.lines().next().unwrap());
     let shown = printed(&numbers, &output);
     assert_eq!(shown, block_with(&document, shown.lines().next().unwrap()));
