@@ -6,14 +6,13 @@ use Prim.Native.Nat.{ℕ, ◌+◌, ◌≤◌, ◌<◌}
 use native.Mathlib.Omega.{arith}
 use Rattle.prelude.specs.Choice.{choose}
 use Rattle.prelude.proofs.Choice.{clash}
-use Rattle.image.specs.declared.Verdict.{Verdict}
-use Rattle.image.specs.declared.Verdict.TheVariants.{Kept, Fault}
+use Rattle.image.specs.declared.Verdict.TheVariants.{Kept}
 use Rattle.image.specs.Rows.{rows_of}
 use Rattle.image.proofs.Versions.{three_rows}
 use Rattle.header.specs.declared.HeaderAnswer.{HeaderAnswer}
 use Rattle.header.specs.declared.HeaderAnswer.TheVariants.{Yes}
 use Rattle.header.specs.Header.{version_of, question1, question2, question3, tables_in, header_of}
-use Rattle.header.proofs.Fitting.{Fits, header_fits, HeaderCase, HeaderCase.first_no_lem, HeaderCase.second_no, HeaderCase.third_no}
+use Rattle.header.proofs.Fitting.{header_fits, HeaderCase, HeaderCase.first_no_lem, HeaderCase.second_no, HeaderCase.third_no}
 use Rattle.header.proofs.Fitting.{HeaderCase.all_yes, header_case}
 use Rattle.kinds.specs.declared.KindAnswer.TheVariants.{Kind}
 use Rattle.shapes.proofs.Accepted.{TypesKept}
@@ -36,7 +35,7 @@ use Rattle.checker.specs.declared.CheckAnswer.TheVariants.{Accepted}
 use Rattle.checker.specs.Check.{types_in, fields_in, variables_in, procedures_in, nodes_in, statements_in}
 use Rattle.checker.specs.Check.{yes_or_no, table_question, question_of, check_of}
 use Rattle.checker.specs.Prepared.{CountsFit}
-use Rattle.checker.proofs.Chain.{AllKept, accepted_all}
+use Rattle.checker.proofs.Chain.{accepted_all}
 use Rattle.checker.proofs.Asking.{counts_fit}
 
 -- questions 4 to 11 of the six tables of an image of a version

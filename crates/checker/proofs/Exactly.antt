@@ -23,7 +23,7 @@ use Rattle.rules.specs.Rules.{rules_by, question11}
 use Rattle.checker.specs.declared.CheckAnswer.TheVariants.{Accepted, Refused}
 use Rattle.checker.specs.Check.{yes_or_no, table_question, question_of, check_of}
 use Rattle.checker.specs.Exactly.{rule_of, rows_asked, Faultless, FirstAtFault}
-use Rattle.checker.proofs.Chain.{AllKept, FirstFault, accepted_all, all_accepted, refused_first, first_refused}
+use Rattle.checker.proofs.Chain.{accepted_all, all_accepted, refused_first, first_refused}
 
 -- ---- each question asks its rule of its rows
 

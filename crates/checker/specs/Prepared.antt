@@ -1,17 +1,14 @@
 -- What the check leaves in a lent plan.
-use Rattle.std.specs.Prelude.{ℕ, ◌≤◌, ◌≡◌, List, eqb, length}
+use Rattle.std.specs.Prelude.{ℕ, ◌≤◌, ◌≡◌, List, eqb}
 use Rattle.prelude.specs.Choice.{choose}
 use Rattle.prelude.specs.Cells.{Filled}
 use Rattle.image.specs.Rows.{rows_of}
-use Rattle.image.specs.declared.Verdict.TheVariants.{Kept}
 use Rattle.header.specs.declared.HeaderAnswer.TheVariants.{No}
 use Rattle.header.specs.declared.Tables.{Tables}
 use Rattle.header.specs.Header.{version_of, header_of, tables_in}
 use Rattle.sizes.specs.Cells.{BOUNDS}
 use Rattle.types.specs.Plan.{Plan, Rest, passed}
 use Rattle.types.specs.Question.{question4}
-use Rattle.frames.specs.Variables.{question5}
-use Rattle.frames.specs.Procedures.{question6}
 use Rattle.places.specs.Places.{Places}
 use Rattle.checker.specs.declared.CheckAnswer.{CheckAnswer}
 use Rattle.checker.specs.declared.CheckAnswer.TheVariants.{Accepted, Refused}

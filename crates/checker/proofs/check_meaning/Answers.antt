@@ -1,7 +1,4 @@
-use lib.ListN.{length}
-use Prim.Native.Nat.{◌≤◌}
-use lib.Seq.{length-take-le}
-use Rattle.checker.proofs.Asking.{types_left, types_room, rules_all}
+use Rattle.checker.proofs.Asking.{types_left, rules_all}
 use Rattle.checker.proofs.Chain.{asked_fault, chain_next, chain_stop, chain_last}
 use Rattle.checker.specs.Check.{table_question}
 use Rattle.prelude.specs.Choice.{choose}
@@ -18,5 +15,8 @@ unfolding table_question choose
 returns c = let nodes = c.rows_of-nodes in
     let k = c.check_typing-typed.ensures in
     let kept = c.in-Kept.is in
-    let all = rules_all _ _ _ _ _ _ _ k.types c.requires.4 c.args.p.now c.args.s.now kept in record { by_index = λ version. c.answer_of-2.ensures
-          ∙ sym (chain_next _ 10 1 k.value kept ∙ chain_last _ 11 0 (c.check_rules-ruled.ensures ∙ rw nodes.ensures all) refl); types = types_left _ _ _ _ _ _ _ k.types k.value }
+    let all = rules_all _ _ _ _ _ _ _ k.types c.requires.4 c.args.p.now c.args.s.now kept in record {
+      by_index = λ version. c.answer_of-2.ensures
+          ∙ sym (chain_next _ 10 1 k.value kept ∙ chain_last _ 11 0 (c.check_rules-ruled.ensures ∙ rw nodes.ensures all) refl);
+      types = types_left _ _ _ _ _ _ _ k.types k.value;
+    }

@@ -15,8 +15,7 @@ returns-in_default c = let k = c.check_types-types.ensures in
 
 pub check_rows-answer-requires : goal.check_rows-answer-requires
 check_rows-answer-requires c = let k = c.check_types-types.ensures in
-    let kept = c.in-Kept.is in
-    (
+    let kept = c.in-Kept.is in (
       c.requires.0,
       record { version = _; passes = sym k.value ∙ kept },
       plan_all _ _ _ _ _ _ k.value k.plan k.rest kept,

@@ -2,7 +2,7 @@ use mathlib.Core.Path.{refl}
 use native.Mathlib.Omega.{arith}
 use Rattle.prelude.specs.Choice.{choose}
 use Rattle.checker.specs.Prepared.{bound_of}
-use Rattle.checker.proofs.Bounds.{Bounded, bounded_none, bounded_fits, bounded_more}
+use Rattle.checker.proofs.Bounds.{bounded_none, bounded_fits, bounded_more}
 use Rattle.checker.proofs.fill_bounds.Goals as goal
 
 pub put_bounds-requires : goal.put_bounds-requires
