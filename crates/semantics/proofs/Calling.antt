@@ -36,7 +36,7 @@ use Rattle.semantics.specs.Stepping.{entered, called}
 use Rattle.semantics.specs.Sound.{Want, Want.any_value, Want.exactly, Fits, Fits.fits_exactly, Matched}
 use Rattle.semantics.specs.Sound.{Matched.no_more, Matched.one_more, Frame, values_of, frame_wants}
 use Rattle.names.specs.Names.{rows_from}
-use Rattle.semantics.specs.Sound.{wants, room, Inside, Slot, Slot.by_value, Slot.by_reference, Called.is_called}
+use Rattle.semantics.specs.Sound.{wants, Inside, Slot, Slot.by_value, Slot.by_reference, Called.is_called}
 use Rattle.semantics.specs.Sound.{Stack, Stack.a_frame, Sound}
 use Rattle.semantics.proofs.Holding.{matched_length, matched_append, put_above, put_length}
 use Rattle.semantics.specs.Demand3.{Unchanged, NextOk, NextOk.ok_goes, NextOk.ok_trapped}

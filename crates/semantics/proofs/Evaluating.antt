@@ -1,26 +1,25 @@
 -- Finding and evaluating from a sound state: an object of the node's type, a value of its kind, or a trap; and what
 -- cells below top read as.
 use mathlib.Core.Path.{◌≡◌, refl, sym, ◌∙◌, subst}
-use mathlib.Core.Bool.{Bool, true, false, ◌&&◌}
+use mathlib.Core.Bool.{true}
 use mathlib.Core.List.{[], List, ◌∷◌}
-use mathlib.Core.Logic.{◌⊎◌, inl, inr, ⊎_elim}
+use mathlib.Core.Logic.{⊎_elim}
 use Prim.Native.Nat.{ℕ, ◌+◌, ◌≤◌, ◌<◌}
 use native.Mathlib.Omega.{arith}
 use native.Mathlib.Decide.{dec_le}
-use borrow.Author.Tests.{lt-ltb, le-leb, lt-leb, eq-eqb, ne_eqb, eqb-true, leb-true, ltb-true}
-use lib.Dec.{ltb, leb, eqb}
+use borrow.Author.Tests.{lt-ltb, le-leb, lt-leb, eq-eqb, ne_eqb, ltb-true}
+use lib.Dec.{ltb}
 use lib.IntN.{ℤ, pos, negsuc}
 use lib.ListN.{take, length, length-append}
 use Rattle.prelude.specs.Choice.{choose}
 use Rattle.prelude.specs.Parts.{Part}
-use Rattle.prelude.proofs.Choice.{choose_yes, choose_no, choose_cases, choose_has, also_yes, clash}
+use Rattle.prelude.proofs.Choice.{choose_yes, choose_no, choose_has, also_yes}
 use Rattle.prelude.proofs.Rec.{rec_ind}
 use Rattle.image.specs.declared.Row.{Row}
 use Rattle.image.specs.Rows.{Bytes, row_at, rows_of}
 use Rattle.image.proofs.Bytes.{row_small}
 use Rattle.image.proofs.Versions.{three_rows}
 use Rattle.shapes.specs.Forms.{kind_in, is_single}
-use Rattle.shapes.proofs.Layouts.{decide}
 use Rattle.shapes.proofs.Singles.{kind_single, single_layout}
 use Rattle.types.proofs.Accepted.{scalar_row}
 use Rattle.relations.specs.declared.FieldAnswer.TheVariants.{Field}
@@ -30,7 +29,6 @@ use Rattle.relations.proofs.Extension.{extends_refl, extends_trans}
 use Rattle.values.specs.Values.{BOOLEAN, INTEGER, Scalar, Scalar.a_boolean, Scalar.an_integer, kind_of, InRange}
 use Rattle.values.specs.Values.{Gives, Gives.value, Gives.trapped, bind, cell_of}
 use Rattle.values.specs.declared.Value.{Value}
-use Rattle.values.specs.declared.Value.TheVariants as Vs
 use Rattle.values.specs.declared.Trap.{Trap}
 use Rattle.values.specs.declared.Answer.{Answer}
 use Rattle.values.specs.declared.Answer.TheVariants as As
@@ -40,7 +38,7 @@ use Rattle.values.proofs.Ranges.{constant_typed}
 use Rattle.values.proofs.Cases.{integer_only}
 use Rattle.values.proofs.Scalars.{scalar_below, below_scalar}
 use Rattle.kinds.specs.declared.KindAnswer.{KindAnswer}
-use Rattle.kinds.specs.declared.KindAnswer.TheVariants.{Untyped, Kind}
+use Rattle.kinds.specs.declared.KindAnswer.TheVariants.{Kind}
 use Rattle.kinds.proofs.Scalars.{dyadic_scalar, monadic_scalar}
 use Rattle.operators.specs.Operators.{monadic_of, applied_to}
 use Rattle.operators.proofs.Typed.{monadic_typed as operator_typed}

@@ -6,7 +6,7 @@ use Prim.Native.Nat.{ℕ, ◌+◌, ◌≤◌, ◌<◌}
 use native.Mathlib.Omega.{arith}
 use borrow.Author.Tests.{eqb-false, le-leb}
 use lib.IntN.{ℤ, pos}
-use lib.ListN.{length, take, get_or, set, length-set}
+use lib.ListN.{length, take, get_or, length-set}
 use Rattle.prelude.specs.Choice.{choose}
 use Rattle.prelude.specs.Parts.{joined, Part}
 use Rattle.prelude.proofs.Choice.{choose_yes, clash}
@@ -16,7 +16,7 @@ use Rattle.image.specs.Rows.{Bytes, row_at, rows_of}
 use Rattle.shapes.specs.Forms.{form, kind_in, is_single}
 use Rattle.shapes.specs.Sizes.{size_of}
 use Rattle.relations.specs.Extends.{extends}
-use Rattle.relations.proofs.Extension.{Extends.same, extends_refl}
+use Rattle.relations.proofs.Extension.{extends_refl}
 use Rattle.values.specs.Values.{BOOLEAN, INTEGER, Scalar, Scalar.a_boolean, Scalar.an_integer, kind_of, is_integer}
 use Rattle.values.specs.Values.{InRange, InRange.integer, Gives, Gives.value, Gives.trapped as gives_trap}
 use Rattle.values.specs.declared.Value.{Value}

@@ -16,7 +16,6 @@ use Rattle.image.specs.declared.Row.{Row}
 use Rattle.image.specs.Rows.{row_at}
 use Rattle.frames.specs.Procedures.{first_variable}
 use Rattle.values.specs.declared.Value.{Value}
-use Rattle.values.specs.declared.Value.TheVariants as Vs
 use Rattle.values.specs.declared.Trap.{Trap}
 use Rattle.values.specs.declared.Trap.TheVariants as Ts
 use Rattle.values.specs.declared.Answer.{Answer}

@@ -1,5 +1,5 @@
 -- Finding a designator and evaluating an expression.
-use Rattle.std.specs.Prelude.{ℕ, ◌+◌, ◌*◌, Bool, true, false, List, ltb, leb, eqb, ℤ, pos, negsuc}
+use Rattle.std.specs.Prelude.{ℕ, ◌+◌, ◌*◌, List, ltb, leb, eqb, ℤ, pos, negsuc}
 use Rattle.prelude.specs.Choice.{choose}
 use Rattle.prelude.specs.Rec.{rec}
 use Rattle.image.specs.declared.Row.{Row}
@@ -11,7 +11,6 @@ use Rattle.relations.specs.declared.FieldAnswer.TheVariants.{Missing, Field}
 use Rattle.relations.specs.Extends.{extends}
 use Rattle.relations.specs.Fields.{field_of}
 use Rattle.values.specs.Values.{constant_of, as_integer, bind}
-use Rattle.values.specs.declared.Value.{Value}
 use Rattle.values.specs.declared.Value.TheVariants as Vs
 use Rattle.values.specs.declared.Trap.TheVariants as Ts
 use Rattle.values.specs.declared.Answer.{Answer}

@@ -1,6 +1,6 @@
 -- What a mark is, in the words of request 3: "the largest of G + F0 and the tops asked for by calls that passed the store
 -- check". `Running` has how a run finds it.
-use Rattle.std.specs.Prelude.{ℕ, ◌+◌, ◌≤◌, ◌<◌, ◌≡◌, List, ◌⊎◌, ℤ, length}
+use Rattle.std.specs.Prelude.{ℕ, ◌≤◌, ◌<◌, ◌≡◌, List, ◌⊎◌, ℤ, length}
 use Rattle.image.specs.Rows.{row_at}
 use Rattle.semantics.specs.Memory.{Cell, tagged}
 use Rattle.semantics.specs.Layout.{Program, new_top}

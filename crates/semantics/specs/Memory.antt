@@ -1,5 +1,5 @@
 -- Cells, and the two memories of the machine: tagged, as document 01 has it, and bare numbers, as the store has them.
-use Rattle.std.specs.Prelude.{ℕ, ◌+◌, Bool, true, false, List, ◌++◌, ltb, eqb, ℤ, pos, negsuc, length, get_or, take, drop}
+use Rattle.std.specs.Prelude.{ℕ, ◌+◌, List, ◌++◌, ltb, eqb, ℤ, pos, negsuc, length, get_or, take, drop}
 use Rattle.prelude.specs.Choice.{choose}
 use Rattle.values.specs.Values.{kind_of, number_of, cell_of}
 use Rattle.values.specs.declared.Value.{Value}

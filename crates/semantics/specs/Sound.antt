@@ -1,5 +1,5 @@
 -- Sound states of the tagged machine. The frames are ghost data: what they say is of the cells, by place.
-use Rattle.std.specs.Prelude.{ℕ, ◌+◌, ◌*◌, ◌≤◌, ◌<◌, ◌≡◌, Bool, true, List, [], ◌∷◌, ◌++◌, map, ℤ, pos, length, take}
+use Rattle.std.specs.Prelude.{ℕ, ◌+◌, ◌*◌, ◌≤◌, ◌<◌, ◌≡◌, true, List, [], ◌∷◌, ◌++◌, map, pos, length, take}
 use Rattle.prelude.specs.Parts.{joined}
 use Rattle.image.specs.Rows.{row_at, rows_of}
 use Rattle.shapes.specs.Sizes.{size_of, layout_of}

@@ -1,5 +1,5 @@
 -- One step: the eight statements.
-use Rattle.std.specs.Prelude.{ℕ, zero, suc, ◌+◌, Bool, true, false, not, List, [], ◌∷◌, map, ltb, leb, eqb, ℤ, pos, length, get_or, set}
+use Rattle.std.specs.Prelude.{ℕ, zero, suc, ◌+◌, Bool, not, List, [], ◌∷◌, map, ltb, leb, eqb, ℤ, pos, length, get_or, set}
 use Rattle.prelude.specs.Choice.{choose, ◌also◌}
 use Rattle.image.specs.declared.Row.{Row}
 use Rattle.image.specs.Rows.{row_at}
