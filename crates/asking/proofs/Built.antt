@@ -260,7 +260,7 @@ module _ (g : Program)
   room_more : (q : ℕ) (qs : List ℕ) → room_of g (q ∷ qs)
       ≡ room_of g qs + (3 + room_from g.types g.fields g.variables (own_first q) (own_count q))
   unfolding room_of frame_size
-  room_more q qs = refl
+  room_more q _ = refl
 
   globals_fit : (store : List ℤ) → values_kept (kinds_from g 0 (globals_of g.variables)) store ≡ true
       → Matched Fits (zipped (kinds_below g []) store) (wants g [])

@@ -27,7 +27,6 @@ use Rattle.semantics.specs.Running.{result_by, store_by, output_by, result_of, s
 use Rattle.semantics.specs.Sound.{Sound}
 use Rattle.semantics.specs.After.{after}
 use Rattle.semantics.specs.Demand3.{SoundAfter}
-use Rattle.semantics.proofs.Agreeing.{numbers}
 use Rattle.semantics.proofs.Simulation.{erase_ended}
 use Rattle.semantics.proofs.Beginning.{fresh_sound, fresh_length}
 use Rattle.semantics.proofs.Demand3.{program_accepted, program_bytes, demand3_from}
