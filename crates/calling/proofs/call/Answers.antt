@@ -1,9 +1,5 @@
 use borrow.Enum.Refused.{opened}
-use Prim.Native.Nat.{◌+◌, ◌≤◌}
 use native.Mathlib.Omega.{arith}
-use lib.ListN.{length}
-use Rattle.places.specs.Places.{frame_size}
-use Rattle.semantics.specs.Layout.{Program}
 use Rattle.semantics.specs.Running.{program_of}
 use Rattle.calling.proofs.Arguments.{stands_kept}
 use Rattle.calling.proofs.Calls.{first_low, parameter_roomy, shows_beyond, call_ended, call_entered}

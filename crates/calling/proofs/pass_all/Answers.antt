@@ -1,5 +1,4 @@
 use borrow.Enum.Refused.{opened}
-use Prim.Native.Nat.{◌-◌}
 use Rattle.calling.proofs.Arguments.{along_none, along_next, along_lost, along_end}
 use Rattle.calling.proofs.Arguments.{stands_kept, roomy_kept}
 use Rattle.calling.proofs.pass_all.Goals as goal
