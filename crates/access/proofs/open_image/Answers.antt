@@ -31,7 +31,6 @@ tables : (c : After-table-t) → let program = program_of c.args.image.now in
     × (c.table-t.result.now ≡ program.types)
 unfolding table_of choose
 tables c =
-   
     (c.table-p.ensures, c.rows_of-n.ensures ∙ ap rows_of c.table.ensures, c.table-t.ensures)
 
 pub returns-in_default : goal.returns-in_default
@@ -60,10 +59,10 @@ fill_nodes-requires c = let (check, left) = accepted (goal.at.fill_nodes-require
 
 pub fill-requires-2 : goal.fill-requires-2
 fill-requires-2 c = let b = checked (goal.at.fill-requires-2 c).In-Accepted in (
-      omega arith,
-      omega
-          (arith, c.fill.ensures.cells, c.fill_nodes.ensures.cells, c.fill_owners.ensures.cells, b.cells),
-    )
+  omega arith,
+  omega
+      (arith, c.fill.ensures.cells, c.fill_nodes.ensures.cells, c.fill_owners.ensures.cells, b.cells),
+)
 
 pub shape_of-plan : goal.shape_of-plan
 shape_of-plan c = c.fill-2.ensures.cells
@@ -74,5 +73,8 @@ shape_of-plan c = c.fill-2.ensures.cells
 
 pub returns : goal.returns
 returns c = let (check, left) = accepted (goal.at.returns c).In-Accepted in
-    let (procedures, rows, types) = tables (goal.at.returns c).After-table-t in record { value = sym check; plan = opened_yes _ _ _ _ _ _ _ _ _ _ left procedures rows types c.fill_owners.ensures
-          c.fill_nodes.ensures c.fill.ensures c.fill-2.ensures }
+    let (procedures, rows, types) = tables (goal.at.returns c).After-table-t in record {
+      value = sym check;
+      plan = opened_yes _ _ _ _ _ _ _ _ _ _ left procedures rows types c.fill_owners.ensures
+          c.fill_nodes.ensures c.fill.ensures c.fill-2.ensures;
+    }
