@@ -1,6 +1,7 @@
 use borrow.Enum.Refused.{opened}
 use mathlib.Core.Path.{sym, ◌∙◌}
 use native.Mathlib.Omega.{arith}
+use borrow.Author.Rules.{rules}
 use Rattle.access.proofs.Bounds.{size_low}
 use Rattle.finding.proofs.Low.{find_within}
 use Rattle.calling.proofs.Arguments.{standing, place_lost, place_beyond, place_copied}
@@ -15,6 +16,9 @@ returns-in_default c = λ output.
     rw (c.lost_place.ensures, ← c.find_at-found.ensures)
     (place_lost _ _ _ (opened c.in_default.in_default-own.keys2))
 
+pub size_of-size-requires : goal.size_of-size-requires
+size_of-size-requires c = (c.requires.0.planned, c.requires.2)
+
 pub overflow_add-end : goal.overflow_add-end
 overflow_add-end c =
     let found = sym c.find_at-found.ensures ∙ c.in-At.is in
@@ -27,6 +31,9 @@ returns-then-top-end c =
     let found = sym c.find_at-found.ensures ∙ c.in-At.is in
     λ output.
     place_beyond _ c.args.place _ found (rw c.size_of-size.ensures at c.if-top-end.true)
+
+pub copy_above-requires : goal.copy_above-requires
+copy_above-requires c = search rules
 
 pub returns : goal.returns
 returns c =
