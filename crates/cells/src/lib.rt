@@ -21,6 +21,7 @@ pub fn value_at(store: &[i64], top: u32, kind: u16, address: u32) -> Answer
 }
 
 // A number as a link, an address or a type.
+#[tactic(auto, using(crate::proofs::Marks::mark_negative, crate::proofs::Marks::mark_large, crate::proofs::Marks::mark_is, crate::proofs::Marks::mark_fits, values::proofs::Numbers::plain64))]
 fn mark_of(z: i64) -> Mark
     ensures { result ≡ mark_of z }
 {
