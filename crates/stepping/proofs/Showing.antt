@@ -32,7 +32,6 @@ use Rattle.semantics.specs.declared.Found.TheVariants as Fs
 use Rattle.semantics.specs.declared.Mark.{Mark}
 use Rattle.semantics.specs.declared.Mark.TheVariants.{Number, Nothing}
 use Rattle.semantics.specs.Memory.{Memory, bare, mark_at, part_at, overwrite}
-use Rattle.semantics.specs.Layout.{Program}
 use Rattle.semantics.specs.Stepping.{State, Next, Next.goes, Next.stuck, on_place, on_value}
 use Rattle.semantics.specs.Stepping.{on_mark, go_to, following, with_cells, written, on_part, input_at, after_read}
 use Rattle.semantics.specs.contracts.Found.{the_type as found_type}

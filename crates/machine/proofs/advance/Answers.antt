@@ -1,6 +1,5 @@
 use borrow.Enum.Refused.{opened}
 use mathlib.Core.Path.{◌∙◌}
-use Prim.Native.Nat.{◌-◌}
 use native.Mathlib.Omega.{arith}
 use Rattle.machine.proofs.Along.{along_start, along_more, along_last, along_out, shows_going}
 use Rattle.machine.proofs.advance.Goals as goal

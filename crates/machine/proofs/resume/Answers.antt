@@ -1,4 +1,4 @@
-use mathlib.Core.Path.{◌≡◌, sym, ◌∙◌}
+use mathlib.Core.Path.{sym, ◌∙◌}
 use native.Mathlib.Omega.{arith}
 use Rattle.semantics.proofs.Outcomes.{refusal_none}
 use Rattle.access.proofs.Opening.{opened_ready}
