@@ -1,7 +1,9 @@
 use borrow.Enum.Refused.{opened}
-use mathlib.Core.Path.{sym, ◌∙◌}
+use mathlib.Core.Path.{◌≡◌, sym, ◌∙◌}
 use native.Mathlib.Omega.{arith}
 use borrow.Author.Rules.{rules}
+use Rattle.shapes.specs.Sizes.{size_of}
+use Rattle.semantics.specs.Running.{program_of}
 use Rattle.access.proofs.Bounds.{size_low}
 use Rattle.finding.proofs.Low.{find_within}
 use Rattle.calling.proofs.Arguments.{standing, place_lost, place_beyond, place_copied}
@@ -30,7 +32,7 @@ pub returns-then-top-end : goal.returns-then-top-end
 returns-then-top-end c =
     let found = sym c.find_at-found.ensures ∙ c.in-At.is in
     λ output.
-    place_beyond _ c.args.place _ found (rw c.size_of-size.ensures at c.if-top-end.true)
+    place_beyond _ c.args.place _ found (omega (arith, c.size_of-size.ensures, c.if-top-end.true))
 
 pub copy_above-requires : goal.copy_above-requires
 copy_above-requires c = search rules
@@ -38,7 +40,9 @@ copy_above-requires c = search rules
 pub returns : goal.returns
 returns c =
     let found = sym c.find_at-found.ensures ∙ c.in-At.is in
-    let size = c.size_of-size.ensures in
+    let size : c.size_of-size.result
+    ≡ size_of (program_of c.args.image.now.now).types (program_of c.args.image.now.now).fields c.args.r =
+    omega (arith, c.size_of-size.ensures) in
     λ output.
     place_copied _ c.args.place _ found (rw size at c.if-top-end.false)
     (rw size at c.copy_above.ensures)
