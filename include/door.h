@@ -34,12 +34,12 @@ extern const char door_version[];
 
 /* The stack that a call needs, in bytes: measured, by painting the stack, and rounded up. It is no proven bound, and
  * holds for the libraries that this kit builds. `bash tests/stack` measures it on x86-64, `bash tests/targets/run` on
- * the other targets, of which none needs more. Check: 16,440 at most, for the longest image and all of vectors/, and
- * 16,696 on riscv64-linux; no function of it calls itself. Run and continue: expressions of 2,048 nodes, the deepest
- * that an accepted image can have, in a thread with this stack and four pages more for the thread itself. A continue
- * needs hardly more than a run: what question 14 takes is given back before the first step. */
+ * the other targets, of which none needs more. Check: 16,392 at most, for the longest image and all of vectors/; no
+ * function of it calls itself. Run and continue: expressions of 2,048 nodes, the deepest that an accepted image can
+ * have, in a thread with this stack and four pages more for the thread itself. A continue needs hardly more than a run:
+ * what question 14 takes is given back before the first step. */
 #define DOOR_CHECK_STACK 16896
-#define DOOR_RUN_STACK 483328
+#define DOOR_RUN_STACK 581632
 
 /* Refusals: the first question that is answered "no", and then the lowest row at fault. Rows count from 0. door_check
  * gives 0 to 11, door_run 0 to 13, door_continue all of them.

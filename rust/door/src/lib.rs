@@ -74,7 +74,7 @@ pub const CHECK_STACK: usize = 16_896;
 /// });
 /// assert_eq!(thread.expect("a thread").join().expect("an answer"), Ok(1));
 /// ```
-pub const RUN_STACK: usize = 483_328;
+pub const RUN_STACK: usize = 581_632;
 
 /// Why nothing was run: the first question that is answered "no", and the row at fault.
 ///
