@@ -17,7 +17,7 @@ And of two tables:
   its value, and crates/sizes/specs/Cells.antt has the same constants;
 - that between two comments in docs/PROOFS.md is what opened.py finds; --write writes it.
 And of the crates: what a comment has in double quotes stands in a paragraph of document 01 or 02 (docs/spec/), word for
-word up to white space, the signs * and `, and the form of hyphen, minus and quotes; `..` stands for what is left out.
+word up to white space, the signs * and `, and the form of minus and quotes; `..` stands for what is left out.
 Each mistake is a line; the exit status is 1 where there is one."""
 import pathlib
 import re
@@ -151,8 +151,8 @@ def write():
 
 
 def plain(text):
-    """A text without what a quotation need not keep: bold, backticks, the form of hyphen, minus and quotes, spaces."""
-    return flat(re.sub('[*`]', '', text.replace('\u2212', '-').replace('_', '-').replace('"', "'")))
+    """A text without what a quotation need not keep: bold, backticks, the form of minus and of quotes, white space."""
+    return flat(re.sub('[*`]', '', text.replace('\u2212', '-').replace('"', "'")))
 
 
 def paragraphs():

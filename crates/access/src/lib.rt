@@ -9,7 +9,7 @@ ghost use Rattle.shapes.specs.Forms.{is_single};
 ghost use Rattle.shapes.specs.Sizes.{size_of};
 ghost use Rattle.sizes.specs.Cells.{OWNERS, NODES, RUN_PLAN};
 ghost use Rattle.types.specs.Plan.{Plan as TypesPlan};
-ghost use Rattle.relations.specs.Extends.{extends as extendsOf};
+ghost use Rattle.relations.specs.Extends.{extends as extends_of};
 ghost use Rattle.relations.specs.Fields.{field_of};
 ghost use Rattle.frames.specs.Procedures.{first_variable, claimed_by};
 ghost use Rattle.statements.specs.Statements.{procedure_at};
@@ -83,7 +83,7 @@ pub fn statement_at(image: &&[u8], plan: &Plan, r: u32) -> Row
 // Whether type row r extends row u: a bit of row r's. Past the last row there can be, each row extends itself alone.
 pub fn extends(image: &&[u8], plan: &Plan, r: u16, u: u16) -> bool
     requires { Planned image.now.now plan.now }
-    ensures { result ≡ extendsOf (program_of image.now.now).types r u }
+    ensures { result ≡ extends_of (program_of image.now.now).types r u }
 {
     if 63 < r {
         return r == u;

@@ -6,7 +6,7 @@
 ghost use Rattle.std.specs.Prelude.{◌≡◌, ◌+◌, ◌*◌, ◌<◌, ◌≤◌, ◌/◌, length, get_or, IfOk};
 ghost use Rattle.operators.specs.Operators.{dyadic_of};
 ghost use Rattle.cases_values.specs.Cases.{half_at, operand_at, wide_at, dyadic_case, monadic_case, cell_case};
-ghost use Rattle.cases_values.specs.Cases.{number_case, answer_of, same_value, same_as, agrees as agreesOf};
+ghost use Rattle.cases_values.specs.Cases.{number_case, answer_of, same_value, same_as, agrees as agrees_of};
 ghost use Rattle.cases_values.specs.Cases.{is_good, weight_at, counted};
 
 use std::fs::File;
@@ -178,7 +178,7 @@ fn same_as(v: Value, expected: Answer) -> bool
 
 fn agrees(a: Answer, s: &[u8]) -> bool
     requires { 17 ≤ length s.now }
-    ensures { result ≡ agreesOf a s.now }
+    ensures { result ≡ agrees_of a s.now }
 {
     let kind = byte_at(s, 12);
     match a {

@@ -12,9 +12,9 @@ ghost use Rattle.shapes.specs.Sizes.{size_of, layout_of};
 ghost use Rattle.types.specs.Question.{TypesAccepted};
 ghost use Rattle.objects.specs.Looking.{LowTypes};
 ghost use Rattle.asking.specs.State.{values_kept};
-ghost use Rattle.contents.specs.Kinds.{EMPTY as NONE, PARTS as SEVERAL, joint as jointOf, joint_from};
-ghost use Rattle.contents.specs.Kinds.{repeated as repeatedOf, owned as ownedOf, even_by, even_of};
-ghost use Rattle.contents.specs.Kinds.{lowest as lowestOf, highest as highestOf};
+ghost use Rattle.contents.specs.Kinds.{EMPTY as NONE, PARTS as SEVERAL, joint as joint_of, joint_from};
+ghost use Rattle.contents.specs.Kinds.{repeated as repeated_of, owned as owned_of, even_by, even_of};
+ghost use Rattle.contents.specs.Kinds.{lowest as lowest_of, highest as highest_of};
 ghost use Rattle.contents.specs.Reading.{Readable, Inside};
 
 use image::Row;
@@ -42,7 +42,7 @@ fn kind_at(even: &[u8], i: usize) -> u8
 
 // Cells k and then cells j.
 fn joint(k: u8, j: u8) -> u8
-    ensures { result ≡ jointOf k j }
+    ensures { result ≡ joint_of k j }
 {
     if k == EMPTY {
         return j;
@@ -90,7 +90,7 @@ fn own_kind(f: &[u8], even: &[u8], before: u8, k: u16, n: u16) -> u8
 // n times cells k, which are those of type row r.
 fn repeated(r: u8, n: u16, k: u8) -> u8
     requires { r < 64 }
-    ensures { result ≡ repeatedOf r n k }
+    ensures { result ≡ repeated_of r n k }
 {
     if n == 1 {
         return k;
@@ -104,7 +104,7 @@ fn repeated(r: u8, n: u16, k: u8) -> u8
 // Cells k, which are those of type row r.
 fn owned(r: u8, k: u8) -> u8
     requires { r < 64 }
-    ensures { result ≡ ownedOf r k }
+    ensures { result ≡ owned_of r k }
 {
     if k == MIXED {
         return PARTS + r;
@@ -156,7 +156,7 @@ pub fn fill_even(t: &[u8], f: &[u8], even: &mut [u8])
 
 // The lowest number in a cell of this kind.
 fn lowest(kind: u8) -> i64
-    ensures { result ≡ lowestOf kind }
+    ensures { result ≡ lowest_of kind }
 {
     if kind == 1 {
         return -2147483648;
@@ -166,7 +166,7 @@ fn lowest(kind: u8) -> i64
 
 // And the highest.
 fn highest(kind: u8) -> i64
-    ensures { result ≡ highestOf kind }
+    ensures { result ≡ highest_of kind }
 {
     match kind {
         0 => 1,

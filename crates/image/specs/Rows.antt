@@ -7,7 +7,7 @@ use Rattle.image.specs.declared.Row.{Row}
 pub record Bytes (s : List ℕ) : Type 0 where
   pub each : (i : ℕ) → get_or s i 0 < 256
 
--- "Integers in it are unsigned and big_endian": the 16-bit number at byte j
+-- "Integers in it are unsigned and big-endian": the 16-bit number at byte j
 unfoldable pub number_at : List ℕ → ℕ → ℕ
 number_at t j = get_or t j 0 * 256 + get_or t (j + 1) 0
 

@@ -22,7 +22,7 @@ ended_with outcome trap halt steps at mark = record {
   mark = mark;
 }
 
--- a step that is the last, from numbers s, as the k_th, with the mark behind it
+-- a step that is the last, from numbers s, as the k-th, with the mark behind it
 unfoldable pub stop_by : Step → Registers → ℕ → ℕ → RunResult
 stop_by (Steps.Goes q) s k mark = ended_with 3 0 (pos 0) k s mark
 stop_by Steps.Finished s k mark = ended_with 1 0 (pos 0) k s mark

@@ -6,7 +6,7 @@ ghost use Rattle.prelude.specs.Choice.{choose};
 ghost use Rattle.image.specs.Faults.{lowest_fault};
 ghost use Rattle.image.specs.Rows.{row_at, rows_of};
 ghost use Rattle.names.specs.Names.{names_of_node, names_of_statement, rows_from, names_from, names_in, question9};
-ghost use Rattle.names.specs.Often.{NEVER, ONCE, Says, more as moreOf, Named};
+ghost use Rattle.names.specs.Often.{NEVER, ONCE, Says, more as more_of, Named};
 ghost use Rattle.names.specs.Often.{node_names_a, node_names_b, statement_names_a};
 
 use image::{Row, Verdict};
@@ -21,7 +21,7 @@ const MORE: u8 = 2;
 
 // After one name more.
 fn more(byte: u8) -> u8
-    ensures { result ≡ moreOf byte }
+    ensures { result ≡ more_of byte }
 {
     if byte == NEVER { ONCE } else { MORE }
 }

@@ -13,7 +13,7 @@ ghost use Rattle.prelude.specs.Parts.{sum};
 ghost use Rattle.image.specs.Rows.{row_at, rows_of};
 ghost use Rattle.shapes.specs.Forms.{of_base, own_types};
 ghost use Rattle.shapes.specs.Sizes.{fields_of};
-ghost use Rattle.objects.specs.Begins.{parts_of, among as amongOf, begins_at};
+ghost use Rattle.objects.specs.Begins.{parts_of, among as among_of, begins_at};
 ghost use Rattle.objects.specs.Looking.{held, Typed, Edges, AtEdges, Beyond, LowTypes, Fields, Ahead, told_by};
 ghost use Rattle.objects.specs.Looking.{settled, said_of_base, Below};
 ghost use Rattle.objects.specs.Tables.{ROWS, AllEdges};
@@ -64,7 +64,7 @@ fn among_first(f: &[u8], plan: &[u32], starts: &Words, w: u16, k: usize) -> bool
     ensures { (deeper : ℕ → ℕ → Bool) (e m : ℕ) (ends : List ℕ)
         → Edges deeper (held plan.now) w m starts.now ends
         → Fields f.now plan.now k e m 0
-        → result ≡ amongOf deeper (held plan.now) (own_types f.now k (e - k)) 0 }
+        → result ≡ among_of deeper (held plan.now) (own_types f.now k (e - k)) 0 }
 {
     let mut j = k;
     loop {
@@ -86,7 +86,7 @@ fn among(f: &[u8], plan: &[u32], starts: &Words, ends: &Words, w: u16, k: usize,
     ensures by_index { (deeper : ℕ → ℕ → Bool) (e m : ℕ)
         → Edges deeper (held plan.now) w m starts.now ends.now
         → Fields f.now plan.now k e m o
-        → settled deeper result ≡ amongOf deeper (held plan.now) (own_types f.now k (e - k)) o }
+        → settled deeper result ≡ among_of deeper (held plan.now) (own_types f.now k (e - k)) o }
     ensures lower { (e m : ℕ) → Fields f.now plan.now k e m o
         → Below (held plan.now) m result }
 {
@@ -138,7 +138,7 @@ fn fields(
     ensures result_value { Edges (begins_at t.now f.now w) (held plan.now) w r
         starts.now ends.now
         → settled (begins_at t.now f.now w) result
-        ≡ amongOf (begins_at t.now f.now w) (held plan.now)
+        ≡ among_of (begins_at t.now f.now w) (held plan.now)
         (fields_of t.now f.now r) o }
     ensures lower { Below (held plan.now) r result }
 {
@@ -165,7 +165,7 @@ fn elements(plan: &[u32], starts: &Words, ends: &Words, w: u16, e: u16, o: u32) 
     ensures by_index { (deeper : ℕ → ℕ → Bool) (m n : ℕ)
         → Edges deeper (held plan.now) w m starts.now ends.now → e < m
         → o < n * held plan.now e
-        → settled deeper result ≡ amongOf deeper (held plan.now) (replicate n e) o }
+        → settled deeper result ≡ among_of deeper (held plan.now) (replicate n e) o }
     ensures lower { (m : ℕ) → e < m → Below (held plan.now) m result }
 {
     let size = sizes::cell(plan, e as usize);
@@ -195,7 +195,7 @@ fn parts(
     ensures result_value { Edges (begins_at t.now f.now w) (held plan.now) w r
         starts.now ends.now
         → settled (begins_at t.now f.now w) result
-        ≡ amongOf (begins_at t.now f.now w) (held plan.now)
+        ≡ among_of (begins_at t.now f.now w) (held plan.now)
         (parts_of t.now f.now r) o }
     ensures lower { Below (held plan.now) r result }
 {
@@ -233,7 +233,7 @@ fn reached(
         × (o < held plan.now r) }
     ensures { Edges (begins_at t.now f.now w) (held plan.now) w r
         starts.now ends.now
-        → result ≡ amongOf (begins_at t.now f.now w) (held plan.now)
+        → result ≡ among_of (begins_at t.now f.now w) (held plan.now)
         (parts_of t.now f.now r) o }
 {
     let mut at = r as usize;
@@ -300,8 +300,8 @@ fn field_edges(
     ensures { (deeper : ℕ → ℕ → Bool) (w m : ℕ) (l : List ℕ)
         → Edges deeper (held plan.now) w m starts.now ends.now
         → LowTypes f.now k (k + n) m → sum (map (held plan.now) l) ≡ before
-        → AtEdges (amongOf deeper (held plan.now) l) before w base.starts base.ends
-        → AtEdges (amongOf deeper (held plan.now) (l ++ own_types f.now k n))
+        → AtEdges (among_of deeper (held plan.now) l) before w base.starts base.ends
+        → AtEdges (among_of deeper (held plan.now) (l ++ own_types f.now k n))
         (sum (map (held plan.now) (l ++ own_types f.now k n))) w result.starts result.ends }
 {
     let mut j = k as usize;
@@ -328,7 +328,7 @@ fn part_edges(t: &[u8], f: &[u8], plan: &[u32], starts: &Words, ends: &Words, r:
     requires { Typed t.now f.now plan.now × (r < rows_of t.now) }
     ensures { (w : ℕ) → Edges (begins_at t.now f.now w) (held plan.now) w r
         starts.now ends.now
-        → AtEdges (amongOf (begins_at t.now f.now w) (held plan.now)
+        → AtEdges (among_of (begins_at t.now f.now w) (held plan.now)
         (parts_of t.now f.now r)) (held plan.now r) w result.starts result.ends }
 {
     let row = image::row_at(t, r);

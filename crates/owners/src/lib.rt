@@ -4,7 +4,7 @@
 ghost use Rattle.std.specs.Prelude.{◌≡◌, ◌≤◌, length, leb};
 ghost use Rattle.prelude.specs.Choice.{choose};
 ghost use Rattle.image.specs.Rows.{rows_of};
-ghost use Rattle.owners.specs.Owners.{gather, no_span, variable_span, join_span, span_of, within as liesWithin};
+ghost use Rattle.owners.specs.Owners.{gather, no_span, variable_span, join_span, span_of, within as lies_within};
 ghost use Rattle.owners.specs.Owners.{span_in, Spans};
 
 use image::Row;
@@ -141,7 +141,7 @@ pub fn fill_spans(v: &[u8], n: &[u8], least: &mut [u16], past: &mut [u16])
 
 // Whether the span of node k lies among the variables from `first` on and below `next`.
 pub fn is_within(least: &[u16], past: &[u16], first: u32, next: u32, k: usize) -> bool
-    ensures { result ≡ liesWithin first next (span_in least.now past.now k) }
+    ensures { result ≡ lies_within first next (span_in least.now past.now k) }
 {
     let span = span_at(least, past, k);
     let low = span.least as u32;

@@ -3,7 +3,8 @@ use Rattle.std.specs.Prelude.{ℕ, ◌+◌, ◌≤◌, ◌≡◌, Option, List, 
 use Rattle.std.specs.Io.KnownBytes.{Consumes}
 use Rattle.image.specs.Rows.{word_at}
 
--- a buffer whose first n bytes were read: those behind are as they were. What was read is said by `Taken`
+-- a buffer whose first n bytes were read: those behind are as they were. What was read is said by `Taken`, for a reader
+-- whose bytes are known; those of a file and of standard input are not
 pub record ReadTo (n : ℕ) (old new : List ℕ) : Type 0 where
   pub within : n ≤ length old
   pub same : length new ≡ length old

@@ -2,7 +2,7 @@
 #![tactic(auto)]
 
 ghost use Rattle.std.specs.Prelude.{◌≡◌};
-ghost use Rattle.relations.specs.Extends.{extends as extendsOf};
+ghost use Rattle.relations.specs.Extends.{extends as extends_of};
 ghost use Rattle.relations.specs.Fields.{planned_own, planned_field};
 
 use sizes::{INHERITED, OFFSETS};
@@ -16,7 +16,7 @@ pub enum FieldAnswer {
 
 // Whether type row r extends row u.
 pub fn extends(t: &[u8], r: u16, u: u16) -> bool
-    ensures { result ≡ extendsOf t.now r u }
+    ensures { result ≡ extends_of t.now r u }
 {
     let sought = u as usize;
     let mut at = r as usize;

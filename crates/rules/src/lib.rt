@@ -8,7 +8,7 @@ ghost use Rattle.image.specs.Rows.{rows_of};
 ghost use Rattle.frames.specs.Procedures.{first_variable, question6};
 ghost use Rattle.typing.specs.Typing.{type_in};
 ghost use Rattle.owners.specs.Owners.{span_of, span_in, within};
-ghost use Rattle.rules.specs.Rules.{is_type, assignable as isAssignable, assign_rule, form_rule, argument_rule};
+ghost use Rattle.rules.specs.Rules.{is_type, assignable as is_assignable, assign_rule, form_rule, argument_rule};
 ghost use Rattle.rules.specs.Rules.{call_rule, type_rule, halt_rule, rule_by, rules_by, FirstTable, Ready, RowsFit};
 
 use image::{Row, Verdict};
@@ -25,7 +25,7 @@ fn is_type(types: &[u16], k: usize, r: u16) -> bool
 
 // Whether a node of type `source` may go where one of type `target` stands.
 fn assignable(t: &[u8], source: KindAnswer, target: KindAnswer) -> bool
-    ensures { result ≡ isAssignable t.now source target }
+    ensures { result ≡ is_assignable t.now source target }
 {
     let KindAnswer::Kind(from) = source else {
         return false;

@@ -3,14 +3,14 @@
 --
 -- The claim is `sound_after`, which is `demand3_from` at the fresh state. The definitions that it cites:
 --   check_of, Accepted           checker/specs/Check: questions 1 to 11
---   Bytes                       image/specs/Rows: the image's numbers are bytes
---   program_of, first_top, fresh  specs/Running: the image's tables, G + F0, the fresh state
---   tagged, Cell                specs/Memory: cells with kinds
+--   Bytes                        image/specs/Rows: the image's numbers are bytes
+--   program_of, first_top, fresh specs/Running: the image's tables, G + F0, the fresh state
+--   tagged, Cell                 specs/Memory: cells with kinds
 --   State, Next, step_of         specs/Stepping: a state, what a step comes to, one step
---   Machine, after              specs/After: the machine after n steps
---   Sound                       specs/Sound: sound states
---   Unchanged, NextOk           specs/Demand3: what a trap leaves; a step that goes on, finishes or traps
---   SoundAfter                  specs/Demand3: where the machine stands after n steps
+--   Machine, after               specs/After: the machine after n steps
+--   Sound                        specs/Sound: sound states
+--   Unchanged, NextOk            specs/Demand3: what a trap leaves; a step that goes on, finishes or traps
+--   SoundAfter                   specs/Demand3: where the machine stands after n steps
 use mathlib.Core.Path.{◌≡◌, refl}
 use mathlib.Core.List.{List}
 use Prim.Native.Nat.{ℕ, zero, suc, ◌≤◌}

@@ -336,7 +336,7 @@ module _ (g : Program)
       choose_no _ _ _ (ne_eqb (row_at g.variables k).kind 0 (λ e. absurd (omega arith)))
       ∙ rw (owner_is q k own (rows_of g.procedures) 0 (omega arith) (omega arith))
 
-  -- the j_th variable of a procedure: it is the procedure's own, it is there, it stands behind those before it, and ends
+  -- the j-th variable of a procedure: it is the procedure's own, it is there, it stands behind those before it, and ends
   -- within the frame
   module _ (q : ℕ) (exists : q < rows_of g.procedures) (j : ℕ) (claimed : j < claimed_by (row_at g.procedures q)) where
     abbrev first : ℕ

@@ -4,7 +4,7 @@
 ghost use Rattle.std.specs.Prelude.{◌≡◌, List, [], ◌∷◌, ◌<◌, ℤ};
 ghost use Rattle.image.specs.Rows.{rows_of};
 ghost use Rattle.semantics.specs.Memory.{bare};
-ghost use Rattle.semantics.specs.Stepping.{written as writtenTo, other_record, copied, assigned, jumped};
+ghost use Rattle.semantics.specs.Stepping.{written as written_to, other_record, copied, assigned, jumped};
 ghost use Rattle.semantics.specs.Stepping.{returned, received, sent, halted, step_of};
 ghost use Rattle.semantics.specs.Running.{program_of};
 ghost use Rattle.access.specs.Ready.{Ready};
@@ -35,7 +35,7 @@ fn at_row(s: Registers, row: u32) -> Registers
 fn write_cell(store: &mut [i64], s: Registers, address: u32, z: i64) -> Step
     requires { Stands s store.old × (s.row < 65536) }
     ensures { (output : List ℤ) → Shows (state_of s store.old output)
-        (writtenTo (state_of s store.old output) address (z ∷ [])) result store.new output }
+        (written_to (state_of s store.old output) address (z ∷ [])) result store.new output }
 {
     let row = s.row;
     let next = row + 1;

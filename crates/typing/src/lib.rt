@@ -5,7 +5,7 @@ ghost use Rattle.std.specs.Prelude.{◌≡◌, ◌≤◌, length};
 ghost use Rattle.image.specs.Rows.{row_at, rows_of};
 ghost use Rattle.types.specs.Question.{TypesAccepted};
 ghost use Rattle.types.specs.Plan.{Plan};
-ghost use Rattle.typing.specs.Typing.{type_in, variable_node, field_node, element_node, narrows as narrowsTo};
+ghost use Rattle.typing.specs.Typing.{type_in, variable_node, field_node, element_node, narrows as narrows_to};
 ghost use Rattle.typing.specs.Typing.{narrow_node};
 ghost use Rattle.typing.specs.Typing.{dyadic_node, monadic_node, type_by, type_of, passed, Typed, question10};
 
@@ -63,7 +63,7 @@ fn element_node(t: &[u8], types: &[u16], row: Row) -> KindAnswer
 
 // Whether a guard or test may narrow variable a to type b.
 fn narrows(t: &[u8], v: &[u8], a: u16, b: u16) -> bool
-    ensures { result ≡ narrowsTo t.now v.now a b }
+    ensures { result ≡ narrows_to t.now v.now a b }
 {
     let variable = image::row_at(v, a as usize);
     let kind = variable.kind;
