@@ -1,4 +1,6 @@
 -- What an accepted image's sizes, places and rows do not exceed.
+use Rattle.relations.specs.Fields.{field_at}
+use Rattle.std.specs.Prelude.{Some, None}
 use mathlib.Core.Path.{◌≡◌, refl, sym, ◌∙◌}
 use mathlib.Core.Bool.{Bool, true, false}
 use mathlib.Core.List.{List}
@@ -23,7 +25,6 @@ use Rattle.types.specs.Question.{TypesAccepted}
 use Rattle.types.proofs.Accepted.{scalar_row, later_row}
 use Rattle.shapes.proofs.Accepted.{size_small}
 use Rattle.shapes.proofs.Layouts.{layout_length, field_layout, element_layout}
-use Rattle.relations.specs.declared.FieldAnswer.TheVariants.{Missing, Field}
 use Rattle.relations.specs.Fields.{field_of}
 use Rattle.relations.proofs.Climbing.{planned_other}
 use Rattle.relations.proofs.Fielding.{field_nth}
@@ -98,7 +99,7 @@ module _ {image plan : List ℕ} (p : Planned image plan) where
   size_low r h = size_small g.types g.fields ok.types r h
 
   -- a type with a field is there
-  field_there : (r n offset x : ℕ) → field_of g.types g.fields r n ≡ Field offset x → r < rows_of g.types
+  field_there : (r n offset x : ℕ) → field_of g.types g.fields r n ≡ Some (field_at offset x) → r < rows_of g.types
   field_there r n offset x e = go (dec_lt r (rows_of g.types))
     where
       go : Dec (r < rows_of g.types) → r < rows_of g.types
@@ -107,12 +108,12 @@ module _ {image plan : List ℕ} (p : Planned image plan) where
           let other : (row_at g.types r).kind ≡ 4 → ⊥ =
           λ kind. absurd (h (row_there g.types r (omega arith))) in
           let none = planned_other g.types g.fields plan n r refl other in
-          let same : Missing ≡ Field offset x = sym none ∙ p.checked.field r n ∙ e in
+          let same : None ≡ Some (field_at offset x) = sym none ∙ p.checked.field r n ∙ e in
           let z : ◌≡◌ {A = ℕ} 0 1 = cc in
           absurd (omega arith)
 
   -- where a field begins, and its type
-  pub field_low : (r n offset x : ℕ) → field_of g.types g.fields r n ≡ Field offset x
+  pub field_low : (r n offset x : ℕ) → field_of g.types g.fields r n ≡ Some (field_at offset x)
       → (offset ≤ 4096) × (x < rows_of g.types)
   field_low r n offset x e =
       let low = field_there r n offset x e in

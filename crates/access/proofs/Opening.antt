@@ -1,4 +1,7 @@
 -- What the check leaves of an image that it accepts is the plan that a machine needs.
+use Rattle.std.specs.Prelude.{Ok, Err}
+use Rattle.checker.specs.Check.{refused_at}
+use Rattle.checker.specs.Check.{CheckAnswer}
 use mathlib.Core.Path.{◌≡◌, refl, sym, ◌∙◌}
 use mathlib.Core.Bool.{true}
 use mathlib.Core.List.{List}
@@ -18,8 +21,6 @@ use Rattle.frames.specs.Procedures.{first_variable}
 use Rattle.statements.specs.Statements.{procedure_at}
 use Rattle.places.proofs.Counting.{first_none}
 use Rattle.places.proofs.Owning.{Own as OwnRow, plan_kept, own_place}
-use Rattle.checker.specs.declared.CheckAnswer.{CheckAnswer}
-use Rattle.checker.specs.declared.CheckAnswer.TheVariants.{Accepted, Refused}
 use Rattle.checker.specs.Check.{check_of}
 use Rattle.checker.specs.Prepared.{Whole, Leaves, Leaves.whole, Leaves.some, bound_of}
 use Rattle.checker.specs.Prepared.{Prepared, Prepared.untouched, Prepared.refused, Prepared.prepared}
@@ -49,7 +50,7 @@ global_is : (v : List ℕ) (a : ℕ) → a < globals_of v → is_global v a ≡ 
 unfolding is_global
 global_is v a h = eq-eqb (row_at v a).kind 0 (global_kind v a h)
 
-module _ (image old between : List ℕ) (room : RUN_PLAN ≤ length old) (accepted : check_of image ≡ Accepted)
+module _ (image old between : List ℕ) (room : RUN_PLAN ≤ length old) (accepted : check_of image ≡ Ok tt)
     (left : Whole (program_of image).types (program_of image).fields (program_of image).variables
     (program_of image).procedures old between) where
   abbrev g : Program
@@ -113,13 +114,13 @@ record Left (image old plan : List ℕ) : Type 0 where
   filled : Filled BOUNDS 12 (bound_of (tables_in image)) between plan
 
 -- with acceptance the plan is whole
-leaves_whole : {version : ℕ} {t f v p old plan : List ℕ} {x : CheckAnswer} → x ≡ Accepted
+leaves_whole : {version : ℕ} {t f v p old plan : List ℕ} {x : CheckAnswer} → x ≡ Ok tt
     → Leaves version t f v p old x plan
     → Whole t f v p old plan
 leaves_whole e (whole w) = w
 leaves_whole e (some p r) = let z : ◌≡◌ {A = ℕ} 0 1 = cc in absurd (omega arith)
 
-prepared_left : (image old plan : List ℕ) (x : CheckAnswer) → x ≡ Accepted → Prepared image old x plan
+prepared_left : (image old plan : List ℕ) (x : CheckAnswer) → x ≡ Ok tt → Prepared image old x plan
     → Left image old plan
 unfolding program_of
 prepared_left image old plan x e (untouched header) = let z : ◌≡◌ {A = ℕ} 0 1 = cc in absurd (omega arith)
@@ -128,11 +129,11 @@ prepared_left image old plan x e (prepared {between = between} l filled) =
     record { between = between; whole_plan = leaves_whole refl l; filled = filled }
 
 -- what the check left with acceptance is there while only cells behind it are written
-module _ (image old between plan : List ℕ) (room : RUN_PLAN ≤ length old) (accepted : check_of image ≡ Accepted)
-    (p : Prepared image old Accepted between) (cells : length plan ≡ length between)
+module _ (image old between plan : List ℕ) (room : RUN_PLAN ≤ length old) (accepted : check_of image ≡ Ok tt)
+    (p : Prepared image old (Ok tt) between) (cells : length plan ≡ length between)
     (same : (i : ℕ) → i < OWNERS → get_or plan i 0 ≡ get_or between i 0) where
   left : Left image old between
-  left = prepared_left image old between Accepted refl p
+  left = prepared_left image old between (Ok tt) refl p
 
   low_same : (i : ℕ) → i < BOUNDS → get_or plan i 0 ≡ get_or left.between i 0
   low_same i h = same i (omega arith) ∙ left.filled.below i h
@@ -151,7 +152,7 @@ module _ (image old between plan : List ℕ) (room : RUN_PLAN ≤ length old) (a
       bounds_same
 
 -- and the procedures of statements, what nodes designate and what each type extends with it
-pub opened_ready : (image old plan : List ℕ) (x : CheckAnswer) → RUN_PLAN ≤ length old → x ≡ Accepted
+pub opened_ready : (image old plan : List ℕ) (x : CheckAnswer) → RUN_PLAN ≤ length old → x ≡ Ok tt
     → check_of image ≡ x → Opened image old x plan → Ready image plan
 opened_ready image old plan x room e check (closed p) = let z : ◌≡◌ {A = ℕ} 0 1 = cc in absurd (omega arith)
 opened_ready image old plan x room e check
@@ -177,17 +178,17 @@ opened_ready image old plan x room e check
 -- ---- what `open_image` leaves
 
 -- of a refused image
-pub opened_no : (image old plan : List ℕ) (x : CheckAnswer) {q row : ℕ} → x ≡ Refused q row → Prepared image old x plan
+pub opened_no : (image old plan : List ℕ) (x : CheckAnswer) {q row : ℕ} → x ≡ Err (refused_at q row) → Prepared image old x plan
     → Opened image old x plan
 opened_no image old plan x e p = rw e (closed (rw e at p))
 
 -- of an accepted one
 pub opened_yes : (image old between owned designated half plan p t : List ℕ) (n : ℕ)
-    → Prepared image old Accepted between → p ≡ (program_of image).procedures
+    → Prepared image old (Ok tt) between → p ≡ (program_of image).procedures
     → n ≡ rows_of (program_of image).statements → t ≡ (program_of image).types
     → Filled OWNERS n (procedure_at p) between owned
     → Filled NODES (rows_of (program_of image).nodes) (node_cell (program_of image)) owned designated
     → Filled LOWER 64 (word_of t 0) designated half → Filled UPPER 64 (word_of t 32) half plan
-    → Opened image old Accepted plan
+    → Opened image old (Ok tt) plan
 opened_yes image old between owned designated half plan p t n left procedures rows types owners nodes lower upper =
     opened left (rw (procedures, rows) at owners) nodes (rw types at lower) (rw types at upper)

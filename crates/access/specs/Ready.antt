@@ -1,6 +1,9 @@
 -- What a machine needs to know of an image and its plan.
 -- To the cells that `checker` fills, OWNERS + r adds the procedure whose body has statement row r, NODES + r what node
 -- row r designates, and LOWER + r and UPPER + r which of the rows 0 to 31 and 32 to 63 type row r extends.
+use Rattle.std.specs.Prelude.{Ok, Err}
+use Rattle.checker.specs.Check.{refused_at}
+use Rattle.checker.specs.Check.{CheckAnswer}
 use Rattle.std.specs.Prelude.{ℕ, ◌+◌, ◌≤◌, ◌<◌, ◌≡◌, List, eqb, length, get_or}
 use Rattle.prelude.specs.Choice.{choose}
 use Rattle.prelude.specs.Cells.{Filled}
@@ -12,8 +15,6 @@ use Rattle.relations.specs.Fields.{field_of, planned_field}
 use Rattle.frames.specs.Procedures.{first_variable}
 use Rattle.statements.specs.Statements.{procedure_at}
 use Rattle.places.specs.Places.{frame_size}
-use Rattle.checker.specs.declared.CheckAnswer.{CheckAnswer}
-use Rattle.checker.specs.declared.CheckAnswer.TheVariants.{Accepted, Refused}
 use Rattle.checker.specs.Check.{check_of}
 use Rattle.checker.specs.Prepared.{bound_of, Prepared}
 use Rattle.semantics.specs.Layout.{Program, place_of}
@@ -36,7 +37,7 @@ node_cell g = cell_of g.types g.fields g.variables g.nodes
 
 -- an accepted image and a plan with its sizes, fields, places, frames and tables
 pub record Checked (image plan : List ℕ) : Type 0 where
-  pub accepted : check_of image ≡ Accepted
+  pub accepted : check_of image ≡ Ok tt
   pub cells : RUN_PLAN ≤ length plan
   pub size : (r : ℕ) → r < rows_of (program_of image).types
       → get_or plan r 0 ≡ size_of (program_of image).types (program_of image).fields r
@@ -68,10 +69,10 @@ pub record Ready (image plan : List ℕ) : Type 0 where
 -- what the check leaves in a lent plan, and behind acceptance the procedure of each statement, what each node
 -- designates and what each type extends
 pub data Opened (image old : List ℕ) : CheckAnswer → List ℕ → Type 0 where
-  closed : {q row : ℕ} {plan : List ℕ} → Prepared image old (Refused q row) plan → Opened image old (Refused q row) plan
-  opened : {between owned designated half plan : List ℕ} → Prepared image old Accepted between
+  closed : {q row : ℕ} {plan : List ℕ} → Prepared image old (Err (refused_at q row)) plan → Opened image old (Err (refused_at q row)) plan
+  opened : {between owned designated half plan : List ℕ} → Prepared image old (Ok tt) between
       → Filled OWNERS (rows_of (program_of image).statements) (procedure_at (program_of image).procedures) between owned
       → Filled NODES (rows_of (program_of image).nodes) (node_cell (program_of image)) owned designated
       → Filled LOWER 64 (word_of (program_of image).types 0) designated half
       → Filled UPPER 64 (word_of (program_of image).types 32) half plan
-      → Opened image old Accepted plan
+      → Opened image old (Ok tt) plan

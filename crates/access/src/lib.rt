@@ -19,9 +19,9 @@ ghost use Rattle.semantics.specs.Layout.{place_of};
 ghost use Rattle.semantics.specs.Running.{program_of, global_room};
 ghost use Rattle.access.specs.Ready.{table_of, node_cell, Checked, Planned, Ready, Opened};
 
-use checker::CheckAnswer;
+use checker::Refusal;
 use image::Row;
-use relations::FieldAnswer;
+use relations::FieldAt;
 use sizes::{BOUNDS, FIRSTS, FRAMES, GLOBALS, LOWER, NODES, OWNERS, PLACES, RUN_PLAN, UPPER};
 
 // The version that there is.
@@ -99,7 +99,7 @@ pub fn extends(image: &&[u8], plan: &Plan, r: u16, u: u16) -> bool
 
 // The field that node row k names, of an object of type row r: by the node's cell if that is of the same record, else up
 // the bases.
-pub fn field(image: &&[u8], plan: &Plan, k: u32, r: u16) -> FieldAnswer
+pub fn field(image: &&[u8], plan: &Plan, k: u32, r: u16) -> Option<FieldAt>
     requires { Planned image.now.now plan.now × ((row_at (program_of image.now.now).nodes k).kind ≡ 2)
         × (r < rows_of (program_of image.now.now).types) }
     ensures { result ≡ field_of (program_of image.now.now).types
@@ -233,13 +233,13 @@ fn fill_nodes(image: &[u8], plan: &mut [u32])
 }
 
 // The check, which leaves a whole plan of an image that it accepts.
-pub fn open_image(image: &[u8], plan: &mut [u32]) -> CheckAnswer
+pub fn open_image(image: &[u8], plan: &mut [u32]) -> Result<(), Refusal>
     requires { RUN_PLAN ≤ length plan.old }
     ensures value { result ≡ check_of image.now }
     ensures plan { Opened image.now plan.old result plan.new }
 {
     let answer = checker::prepare(image, plan);
-    let CheckAnswer::Accepted = answer else {
+    let Ok(()) = answer else {
         return answer;
     };
     let p = table(image, plan, 3);
@@ -249,5 +249,5 @@ pub fn open_image(image: &[u8], plan: &mut [u32]) -> CheckAnswer
     fill_nodes(image, plan);
     ancestors::fill(t, plan, LOWER, 0);
     ancestors::fill(t, plan, UPPER, 32);
-    CheckAnswer::Accepted
+    Ok(())
 }

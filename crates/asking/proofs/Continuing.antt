@@ -2,6 +2,7 @@
 --
 -- The claims are `question14_exact` and `demand3_continued`, and at the end `run_passes`, `continue_passes`,
 -- `continue_is_run` and `continue_again`. The definitions that they cite stand in specs/Continuing.
+use Rattle.std.specs.Prelude.{Ok}
 use mathlib.Core.Path.{◌≡◌, refl, sym, ◌∙◌, ap}
 use mathlib.Core.Bool.{true}
 use mathlib.Core.List.{List}
@@ -15,7 +16,6 @@ use lib.ListN.{length, length-map}
 use Rattle.prelude.specs.Choice.{choose, ◌also◌}
 use Rattle.prelude.proofs.Choice.{choose_yes, choose_no, choose_cases, also_true, clash}
 use Rattle.image.specs.Rows.{Bytes}
-use Rattle.checker.specs.declared.CheckAnswer.TheVariants.{Accepted}
 use Rattle.checker.specs.Check.{check_of}
 use Rattle.checker.proofs.Accepted.{AcceptedTables}
 use Rattle.semantics.specs.declared.RunResult.{RunResult}
@@ -91,7 +91,7 @@ module _ (g : Program)
         }
 
 -- where the image is accepted, "14" is answered by yes just where a continuation may go on
-pub question14_exact : (image : List ℕ) → check_of image ≡ Accepted → (input store output : List ℤ) (r : RunResult)
+pub question14_exact : (image : List ℕ) → check_of image ≡ Ok tt → (input store output : List ℤ) (r : RunResult)
     (n : ℕ)
     → (question14 (program_of image) input store output r n ≡ true
     → Continuable (program_of image) input store output r n)
@@ -104,7 +104,7 @@ question14_exact image accepted input store output r n =
     )
 
 -- "What was certain from a fresh start is now certain from every state that question 14 passes."
-pub demand3_continued : (image : List ℕ) → Bytes image → check_of image ≡ Accepted → (input store output : List ℤ)
+pub demand3_continued : (image : List ℕ) → Bytes image → check_of image ≡ Ok tt → (input store output : List ℤ)
     (r : RunResult) (lent : ℕ) → question14 (program_of image) input store output r lent ≡ true → (n : ℕ)
     → SoundAfter (program_of image) input
     (after tagged (program_of image) input n (resumed (program_of image) r.at store output))
@@ -168,7 +168,7 @@ record Starts (g : Program) (input : List ℤ) (mark : ℕ) (s : State Cell) : T
   top : s.at.top ≤ mark
   marked : mark ≤ length s.cells
 
-module _ (image : List ℕ) (bytes : Bytes image) (accepted : check_of image ≡ Accepted) (input : List ℤ) where
+module _ (image : List ℕ) (bytes : Bytes image) (accepted : check_of image ≡ Ok tt) (input : List ℤ) where
   abbrev g : Program
   g = program_of image
 
@@ -256,7 +256,7 @@ module _ (image : List ℕ) (bytes : Bytes image) (accepted : check_of image ≡
 module _ (image : List ℕ) (bytes : Bytes image) (input store output : List ℤ) (n m : ℕ)
     (none : refusal image store ≡ 0) (used : (result_of image input store output n).outcome ≡ 0)
     (lent : n + m ≤ 4294967295) where
-  abbrev accepted : check_of image ≡ Accepted
+  abbrev accepted : check_of image ≡ Ok tt
   accepted = (refusal_none image store none).0
 
   abbrev first : State Cell
@@ -297,7 +297,7 @@ module _ (image : List ℕ) (bytes : Bytes image) (input : List ℤ) (l : Left) 
       × (question14 (program_of image) input l.store l.output l.result n ≡ true)
   asked = continue_none image input l.store l.output l.result n none
 
-  abbrev agreed : check_of image ≡ Accepted
+  abbrev agreed : check_of image ≡ Ok tt
   agreed = (refusal_none image l.store asked.0).0
 
   abbrev again : State Cell

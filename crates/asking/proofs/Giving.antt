@@ -1,4 +1,5 @@
 -- What the code of a continuation has to show: the bare machine's run, or a refusal.
+use Rattle.std.specs.Prelude.{Ok}
 use mathlib.Core.Path.{◌≡◌, ◌∙◌}
 use mathlib.Core.Bool.{true, false}
 use mathlib.Core.List.{List}
@@ -10,7 +11,6 @@ use lib.ListN.{length, length-append}
 use Rattle.prelude.proofs.Choice.{choose_yes, choose_no, also_true}
 use Rattle.image.specs.Rows.{Bytes}
 use Rattle.statements.proofs.Bodies.{end_within}
-use Rattle.checker.specs.declared.CheckAnswer.TheVariants.{Accepted}
 use Rattle.checker.specs.Check.{check_of, row_of}
 use Rattle.semantics.specs.declared.Registers.{Registers}
 use Rattle.semantics.specs.declared.RunResult.{RunResult}
@@ -67,7 +67,7 @@ module _ (image : List ℕ) (input store output : List ℤ) (from : RunResult) (
     abbrev g : Program
     g = program_of image
 
-    abbrev accepted : check_of image ≡ Accepted
+    abbrev accepted : check_of image ≡ Ok tt
     accepted = (refusal_none image store none).0
 
     passes_sound : sound_of g from.at store ≡ true

@@ -3,6 +3,7 @@
 -- and one with more cells too (`run_wider`, `continue_wider`), that no cell from it on is written
 -- (`run_rest`, `continue_rest`), and that a shorter store is not enough (`run_least`, `continue_least`). The definitions
 -- that they cite stand in specs/Marks.
+use Rattle.std.specs.Prelude.{Ok}
 use mathlib.Core.Path.{◌≡◌, sym, ◌∙◌, ap}
 use mathlib.Core.Bool.{true, false}
 use mathlib.Core.List.{List}
@@ -15,7 +16,6 @@ use lib.Seq.{length-take-le, take-take}
 use Rattle.prelude.proofs.Choice.{choose_yes, choose_no, not_yes}
 use Rattle.prelude.proofs.Parts.{take_map}
 use Rattle.image.specs.Rows.{Bytes}
-use Rattle.checker.specs.declared.CheckAnswer.TheVariants.{Accepted}
 use Rattle.checker.specs.Check.{check_of}
 use Rattle.checker.proofs.Accepted.{AcceptedTables}
 use Rattle.semantics.specs.Memory.{Cell, tagged, bare}
@@ -52,7 +52,7 @@ module _ (image : List ℕ) (bytes : Bytes image) (input store output : List ℤ
   abbrev g : Program
   g = program_of image
 
-  abbrev accepted : check_of image ≡ Accepted
+  abbrev accepted : check_of image ≡ Ok tt
   accepted = (refusal_none image store none).0
 
   abbrev ok : AcceptedTables g.types g.fields g.variables g.procedures g.nodes g.statements
@@ -145,7 +145,7 @@ module _ (image : List ℕ) (bytes : Bytes image) (input : List ℤ) (l : Left) 
   abbrev asked : (refusal image l.store ≡ 0) × (question14 p input l.store l.output l.result steps ≡ true)
   asked = continue_none image input l.store l.output l.result steps none
 
-  abbrev agreed : check_of image ≡ Accepted
+  abbrev agreed : check_of image ≡ Ok tt
   agreed = (refusal_none image l.store asked.0).0
 
   abbrev fine : AcceptedTables p.types p.fields p.variables p.procedures p.nodes p.statements

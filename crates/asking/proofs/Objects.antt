@@ -1,4 +1,6 @@
 -- The test `object_at` is true just where Sound has an object.
+use Rattle.relations.specs.Fields.{field_at}
+use Rattle.std.specs.Prelude.{Some}
 use mathlib.Core.Path.{◌≡◌, refl, sym, ◌∙◌, ap}
 use mathlib.Core.Bool.{Bool, true}
 use mathlib.Core.List.{List, [], ◌∷◌, map}
@@ -16,7 +18,6 @@ use Rattle.image.specs.Rows.{row_at, rows_of}
 use Rattle.shapes.specs.Sizes.{size_of, fields_of, offset_of}
 use Rattle.shapes.proofs.ByKind.{no_fields}
 use Rattle.shapes.proofs.Layouts.{offset_is, decide}
-use Rattle.relations.specs.declared.FieldAnswer.TheVariants.{Field}
 use Rattle.relations.specs.Fields.{field_of}
 use Rattle.frames.specs.Variables.{globals_of}
 use Rattle.frames.specs.Procedures.{first_variable, claimed_by}
@@ -146,7 +147,7 @@ module _ (g : Program)
   before r n = sum (map size (take n (parts r)))
 
   field_there : (r : ℕ) {n u : ℕ} → Nth (fields_of g.types g.fields r) n u
-      → field_of g.types g.fields r n ≡ Field (offset_of g.types g.fields r n) u
+      → field_of g.types g.fields r n ≡ Some (field_at (offset_of g.types g.fields r n) u)
   unfolding field_of
   field_there r h = let (e, l) = nth_held 0 h in choose_yes _ _ _ (lt-ltb _ _ l) ∙ rw e
 
@@ -216,7 +217,7 @@ module _ (g : Program)
       let q : before r n + 0 ≡ before r n = omega arith in
       rw (q, place) at (in_part {o = 0} h itself)
 
-  field_begins : (r j : ℕ) {offset u : ℕ} → field_of g.types g.fields r j ≡ Field offset u
+  field_begins : (r j : ℕ) {offset u : ℕ} → field_of g.types g.fields r j ≡ Some (field_at offset u)
       → r < rows_of g.types → Within u r offset
   field_begins r j {offset} {u} e low =
       let (place, nth) = field_nth g.types g.fields r j offset u e in

@@ -1,7 +1,7 @@
 // Runs the whole check, questions 1 to 11, on the images of a pack and prints what it answers.
 #![tactic(auto)]
 
-use checker::CheckAnswer;
+use checker::Refusal;
 use std::fs::File;
 use std::io;
 
@@ -19,8 +19,8 @@ fn main(rt: HostRuntime) -> io::Result<()> {
             return Ok(());
         }
         match checker::check(&buffer[..n]) {
-            CheckAnswer::Accepted => packs::print_answer(&rt, 0)?,
-            CheckAnswer::Refused(refusal, row) => packs::print_answer(
+            Ok(()) => packs::print_answer(&rt, 0)?,
+            Err(Refusal { question: refusal, row }) => packs::print_answer(
                 &rt,
                 (refusal as u32) * 65536 + (row as u32),
             )?,

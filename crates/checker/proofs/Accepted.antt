@@ -1,4 +1,7 @@
 -- What is known of an accepted image: for every row of every table what its question says.
+use Rattle.std.specs.Prelude.{Result}
+use Rattle.std.specs.Prelude.{Some}
+use Rattle.std.specs.Prelude.{Ok}
 use mathlib.Core.Path.{◌≡◌, refl, sym, ◌∙◌, ap}
 use mathlib.Core.Bool.{Bool, true, false}
 use mathlib.Core.List.{List}
@@ -6,15 +9,11 @@ use Prim.Native.Nat.{ℕ, ◌+◌, ◌≤◌, ◌<◌}
 use native.Mathlib.Omega.{arith}
 use Rattle.prelude.specs.Choice.{choose}
 use Rattle.prelude.proofs.Choice.{clash}
-use Rattle.image.specs.declared.Verdict.TheVariants.{Kept}
 use Rattle.image.specs.Rows.{rows_of}
 use Rattle.image.proofs.Versions.{three_rows}
-use Rattle.header.specs.declared.HeaderAnswer.{HeaderAnswer}
-use Rattle.header.specs.declared.HeaderAnswer.TheVariants.{Yes}
 use Rattle.header.specs.Header.{version_of, question1, question2, question3, tables_in, header_of}
 use Rattle.header.proofs.Fitting.{header_fits, HeaderCase, HeaderCase.first_no_lem, HeaderCase.second_no, HeaderCase.third_no}
 use Rattle.header.proofs.Fitting.{HeaderCase.all_yes, header_case}
-use Rattle.kinds.specs.declared.KindAnswer.TheVariants.{Kind}
 use Rattle.shapes.proofs.Accepted.{TypesKept}
 use Rattle.types.specs.Question.{TypesAccepted}
 use Rattle.types.proofs.Accepted.{types_kept}
@@ -31,7 +30,6 @@ use Rattle.typing.specs.Typing.{type_of, question10}
 use Rattle.typing.proofs.Accepted.{NodeTyped, node_typed}
 use Rattle.rules.specs.Rules.{question11}
 use Rattle.rules.proofs.Accepted.{StatementRuled, statements_ruled}
-use Rattle.checker.specs.declared.CheckAnswer.TheVariants.{Accepted}
 use Rattle.checker.specs.Check.{types_in, fields_in, variables_in, procedures_in, nodes_in, statements_in}
 use Rattle.checker.specs.Check.{yes_or_no, table_question, question_of, check_of}
 use Rattle.checker.specs.Prepared.{CountsFit}
@@ -41,13 +39,13 @@ use Rattle.checker.proofs.Asking.{counts_fit}
 -- questions 4 to 11 of the six tables of an image of a version
 pub record AllYes (t f v p n s : List ℕ) : Type 0 where
   pub types : TypesAccepted t f
-  pub variables : question5 t v ≡ Kept
-  pub procedures : question6 v p s ≡ Kept
+  pub variables : question5 t v ≡ Ok tt
+  pub procedures : question6 v p s ≡ Ok tt
   pub nodes : NodesAccepted types.version t v n
-  pub statements : question8 n p s ≡ Kept
-  pub names : question9 n p s ≡ Kept
-  pub typing : question10 t f v n ≡ Kept
-  pub rules : question11 t f v p n s ≡ Kept
+  pub statements : question8 n p s ≡ Ok tt
+  pub names : question9 n p s ≡ Ok tt
+  pub typing : question10 t f v n ≡ Ok tt
+  pub rules : question11 t f v p n s ≡ Ok tt
 
 -- accepted tables, row by row
 pub record AcceptedTables (t f v p n s : List ℕ) : Type 0 where
@@ -62,7 +60,7 @@ pub record AcceptedTables (t f v p n s : List ℕ) : Type 0 where
   pub statement : (r : ℕ) → r < rows_of s → StatementRow n p s r
   pub body : (r : ℕ) → r < rows_of s → InBody p s (procedure_at p r) r
   pub names : NamesKept n p s
-  pub typed : (r : ℕ) → r < rows_of n → (x : ℕ) × NodeTyped t f v n r x × (type_of t f v n r ≡ Kind x)
+  pub typed : (r : ℕ) → r < rows_of n → (x : ℕ) × NodeTyped t f v n r x × (type_of t f v n r ≡ Some x)
   pub ruled : (r : ℕ) → r < rows_of s → StatementRuled t f v p n s r
 
 tables_accepted : (t f v p n s : List ℕ) → CountsFit t f v p n s → 3 ≤ rows_of t → 1 ≤ rows_of s → AllYes t f v p n s
@@ -85,25 +83,25 @@ tables_accepted t f v p n s counts scalars first said =
       ruled = λ r h. statements_ruled t f v p n s said.rules r h said.statements;
     }
 
-yes_true : (b : Bool) → yes_or_no b ≡ Kept → b ≡ true
+yes_true : (b : Bool) → yes_or_no b ≡ Ok tt → b ≡ true
 unfolding yes_or_no
 yes_true true e = refl
 yes_true false e = let z : ◌≡◌ {A = ℕ} 0 1 = cc in absurd (omega arith)
 
 module _ (image : List ℕ) where
-  header_said : question1 image ≡ true → question2 image ≡ true → question3 image ≡ true → {x : HeaderAnswer} → HeaderCase image x
-      → x ≡ Yes (tables_in image)
+  header_said : question1 image ≡ true → question2 image ≡ true → question3 image ≡ true → {x : (Result Tables ℕ)} → HeaderCase image x
+      → x ≡ Ok (tables_in image)
   header_said a b c (first_no_lem p) = clash (sym a ∙ p)
   header_said a b c (second_no p q) = clash (sym b ∙ q)
   header_said a b c (third_no p q r) = clash (sym c ∙ r)
-  header_said a b c (all_yes p q r e) = ap Yes (sym e)
+  header_said a b c (all_yes p q r e) = ap Ok (sym e)
 
-  module _ (accepted : check_of image ≡ Accepted) where
-    each : (q : ℕ) → 1 ≤ q → q < 1 + 11 → question_of image q ≡ Kept
+  module _ (accepted : check_of image ≡ Ok tt) where
+    each : (q : ℕ) → 1 ≤ q → q < 1 + 11 → question_of image q ≡ Ok tt
     unfolding check_of
     each = (accepted_all (question_of image) 11 1 accepted).each
 
-    header_yes : header_of image ≡ Yes (tables_in image)
+    header_yes : header_of image ≡ Ok (tables_in image)
     unfolding question_of choose
     header_yes =
         header_said
@@ -136,5 +134,5 @@ module _ (image : List ℕ) where
         (counts_fit image header_yes) (omega arith) fits.statements.least all_yes_tables
 
     -- and the tables that it has
-    pub accepted_header : header_of image ≡ Yes (tables_in image)
+    pub accepted_header : header_of image ≡ Ok (tables_in image)
     accepted_header = header_yes

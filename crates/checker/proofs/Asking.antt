@@ -1,11 +1,15 @@
 -- Laws of the functions that ask the questions.
+use Rattle.std.specs.Prelude.{Result}
+use Rattle.std.specs.Prelude.{Err}
+use Rattle.checker.specs.Check.{refused_at}
+use Rattle.checker.specs.Check.{CheckAnswer}
+use Rattle.std.specs.Prelude.{Ok}
+use Rattle.image.specs.Faults.{Verdict}
 use mathlib.Core.Path.{◌≡◌, refl, ◌∙◌, ap}
 use mathlib.Core.List.{List}
 use Prim.Native.Nat.{ℕ, ◌+◌, ◌*◌, ◌≤◌}
 use native.Mathlib.Omega.{arith}
 use lib.ListN.{length, take, replicate, length-replicate}
-use Rattle.image.specs.declared.Verdict.{Verdict}
-use Rattle.image.specs.declared.Verdict.TheVariants.{Kept}
 use Rattle.image.specs.Rows.{rows_of}
 use Rattle.statements.specs.Runs.{RunsIn}
 use Rattle.typing.specs.Typing.{type_of, question10, type_in, passed, Typed}
@@ -15,8 +19,6 @@ use Rattle.prelude.specs.Choice.{choose}
 use Rattle.prelude.specs.Cells.{Filled}
 use mathlib.Core.Bool.{Bool, true}
 use Rattle.header.specs.declared.Tables.{Tables}
-use Rattle.header.specs.declared.HeaderAnswer.{HeaderAnswer}
-use Rattle.header.specs.declared.HeaderAnswer.TheVariants.{No, Yes}
 use Rattle.header.specs.Header.{version_of, question1, question2, question3, tables_in, header_of, part_of}
 use Rattle.header.proofs.Fitting.{header_fits, HeaderCase, HeaderCase.first_no_lem, HeaderCase.second_no, HeaderCase.third_no}
 use Rattle.header.proofs.Fitting.{HeaderCase.all_yes, header_case}
@@ -26,8 +28,6 @@ use Rattle.types.specs.Plan.{Plan, Rest, passed as passed_types}
 use Rattle.places.specs.Places.{Places}
 use Rattle.places.specs.Filling.{PlacesFit}
 use Rattle.places.proofs.Owning.{claims_kept}
-use Rattle.checker.specs.declared.CheckAnswer.{CheckAnswer}
-use Rattle.checker.specs.declared.CheckAnswer.TheVariants.{Accepted, Refused}
 use Rattle.checker.specs.Check.{types_in, fields_in, variables_in, procedures_in, nodes_in, statements_in}
 use Rattle.checker.specs.Check.{yes_or_no, table_question, question_of, first_no, check_of, refusal_of, row_of, number_of}
 use Rattle.checker.specs.Prepared.{CountsFit, Leaves, Leaves.whole, Leaves.some}
@@ -52,18 +52,18 @@ module _ (t f v n old types : List ℕ) (x : Verdict) (table : Typed (type_of t 
     pub types_room : rows_of n ≤ length types
     types_room = let e = table.cells in omega arith
 
-    pub types_all : x ≡ Kept → type_in (take (rows_of n) types) ≡ type_of t f v n
+    pub types_all : x ≡ Ok tt → type_in (take (rows_of n) types) ≡ type_of t f v n
     unfolding passed
     types_all kept = types_known t f v n old types (rw kept at table) types_room
 
-    pub rules_all : (p s : List ℕ) → x ≡ Kept → rules_by t v p n s (type_in (take (rows_of n) types)) ≡ question11 t f v p n s
+    pub rules_all : (p s : List ℕ) → x ≡ Ok tt → rules_by t v p n s (type_in (take (rows_of n) types)) ≡ question11 t f v p n s
     unfolding question11
     rules_all p s kept = ap (rules_by t v p n s) (types_all kept)
 
 -- ---- what is left in the plan
 
 pub places_fit : (version : ℕ) (t f v p n s plan : List ℕ) → CountsFit t f v p n s → BOUNDS ≤ length plan
-    → TypesAccepted t f → first_no (table_question version t f v p n s) 5 7 ≡ Accepted
+    → TypesAccepted t f → first_no (table_question version t f v p n s) 5 7 ≡ Ok tt
     → Plan t f (rows_of t) plan → PlacesFit t f v p plan
 unfolding table_question choose
 places_fit version t f v p n s plan fit cells four accepted planned =
@@ -81,18 +81,18 @@ places_fit version t f v p n s plan fit cells four accepted planned =
 
 module _ (version : ℕ) (t f old plan : List ℕ) (y : Verdict) (four : y ≡ question4 version t f)
     (planned : Plan t f (passed_types t y) plan) (rest : Rest t (passed_types t y) old plan) where
-  pub plan_all : y ≡ Kept → Plan t f (rows_of t) plan
+  pub plan_all : y ≡ Ok tt → Plan t f (rows_of t) plan
   unfolding passed_types
   plan_all kept = rw kept at planned
 
-  rest_all : y ≡ Kept → Rest t (rows_of t) old plan
+  rest_all : y ≡ Ok tt → Rest t (rows_of t) old plan
   unfolding passed_types
   rest_all kept = rw kept at rest
 
-  pub leaves_some : (v p : List ℕ) (x : CheckAnswer) {q row : ℕ} → x ≡ Refused q row → Leaves version t f v p old x plan
+  pub leaves_some : (v p : List ℕ) (x : CheckAnswer) {q row : ℕ} → x ≡ Err (refused_at q row) → Leaves version t f v p old x plan
   leaves_some v p x e = rw e (some (rw four at planned) (rw four at rest))
 
-  pub leaves_whole : (v p new : List ℕ) → y ≡ Kept → Places t f v p plan new → Leaves version t f v p old Accepted new
+  pub leaves_whole : (v p new : List ℕ) → y ≡ Ok tt → Places t f v p plan new → Leaves version t f v p old (Ok tt) new
   leaves_whole v p new kept places =
       whole (record { typed = plan; planned = plan_all kept; rest = rest_all kept; places = places })
 
@@ -111,7 +111,7 @@ module _ (image : List ℕ) where
   unfolding question_of choose
   third_is e = ap yes_or_no e
 
-  no_case : {x : HeaderAnswer} {q : ℕ} → HeaderCase image x → x ≡ No q → check_of image ≡ Refused q 0
+  no_case : {x : (Result Tables ℕ)} {q : ℕ} → HeaderCase image x → x ≡ Err q → check_of image ≡ Err (refused_at q 0)
   unfolding check_of yes_or_no
   no_case {q = q} (first_no_lem a) e =
       let n : 1 ≡ q = cc in
@@ -127,7 +127,7 @@ module _ (image : List ℕ) where
       ∙ chain_stop (question_of image) 3 8 refl (third_is c))
   no_case (all_yes a b c d) e = let z : ◌≡◌ {A = ℕ} 0 1 = cc in absurd (omega arith)
 
-  pub header_no : {q : ℕ} → header_of image ≡ No q → check_of image ≡ Refused q 0
+  pub header_no : {q : ℕ} → header_of image ≡ Err q → check_of image ≡ Err (refused_at q 0)
   header_no e = no_case (header_case image) e
 
   -- the tables' questions are left
@@ -141,14 +141,14 @@ module _ (image : List ℕ) where
       ∙ chain_next (question_of image) 2 9 refl (second_is b)
       ∙ chain_next (question_of image) 3 8 refl (third_is c)
 
-  yes_case : {x : HeaderAnswer} {ts : Tables} → HeaderCase image x → x ≡ Yes ts
+  yes_case : {x : (Result Tables ℕ)} {ts : Tables} → HeaderCase image x → x ≡ Ok ts
       → (tables_in image ≡ ts) × (question1 image ≡ true) × (question2 image ≡ true) × (question3 image ≡ true)
   yes_case (first_no_lem a) e = let z : ◌≡◌ {A = ℕ} 0 1 = cc in absurd (omega arith)
   yes_case (second_no a b) e = let z : ◌≡◌ {A = ℕ} 0 1 = cc in absurd (omega arith)
   yes_case (third_no a b c) e = let z : ◌≡◌ {A = ℕ} 0 1 = cc in absurd (omega arith)
   yes_case {ts = ts} (all_yes {ts = found} a b c d) e = let same : found ≡ ts = cc in (d ∙ same, a, b, c)
 
-  module _ {ts : Tables} (yes : header_of image ≡ Yes ts) where
+  module _ {ts : Tables} (yes : header_of image ≡ Ok ts) where
     pub header_tables : tables_in image ≡ ts
     header_tables = (yes_case (header_case image) yes).0
 
@@ -172,7 +172,7 @@ module _ (image : List ℕ) where
     header_yes = let (same, a, b, c) = yes_case (header_case image) yes in rw (← same) (tables_left a b c)
 
     -- where a table's question refuses
-    pub prepared_no : (old plan : List ℕ) (x : CheckAnswer) {q row : ℕ} → x ≡ Refused q row
+    pub prepared_no : (old plan : List ℕ) (x : CheckAnswer) {q row : ℕ} → x ≡ Err (refused_at q row)
         → Leaves (version_of image) (part_of image ts.types) (part_of image ts.fields) (part_of image ts.variables)
         (part_of image ts.procedures) old x plan
         → Prepared image old x plan
@@ -180,19 +180,19 @@ module _ (image : List ℕ) where
         rw e (refused {q = q} {row = row} {plan = plan} (rw (header_tables, ← e) left))
 
     -- with acceptance
-    pub prepared_yes : (old between plan : List ℕ) (x : CheckAnswer) → x ≡ Accepted
+    pub prepared_yes : (old between plan : List ℕ) (x : CheckAnswer) → x ≡ Ok tt
         → Leaves (version_of image) (part_of image ts.types) (part_of image ts.fields) (part_of image ts.variables)
         (part_of image ts.procedures) old x between
-        → Filled BOUNDS 12 (bound_of ts) between plan → Prepared image old Accepted plan
+        → Filled BOUNDS 12 (bound_of ts) between plan → Prepared image old (Ok tt) plan
     prepared_yes old between plan x e left filled =
         prepared {between = between} {plan = plan} (rw (header_tables, ← e) left) (rw header_tables filled)
 
 -- ---- the number
 
-pub number_accepted : (x : CheckAnswer) → x ≡ Accepted → number_of x ≡ 0
+pub number_accepted : (x : CheckAnswer) → x ≡ Ok tt → number_of x ≡ 0
 unfolding number_of refusal_of row_of
 number_accepted x e = rw e
 
-pub number_refused : (x : CheckAnswer) {q row : ℕ} → x ≡ Refused q row → number_of x ≡ q * 65536 + row
+pub number_refused : (x : CheckAnswer) {q row : ℕ} → x ≡ Err (refused_at q row) → number_of x ≡ q * 65536 + row
 unfolding number_of refusal_of row_of
 number_refused x e = rw e

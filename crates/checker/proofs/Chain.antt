@@ -1,35 +1,35 @@
 -- Laws of "The first 'no' decides".
+use Rattle.checker.specs.Check.{refused_at}
+use Rattle.checker.specs.Check.{CheckAnswer}
+use Rattle.std.specs.Prelude.{Ok, Err}
+use Rattle.image.specs.Faults.{Verdict}
 use mathlib.Core.Path.{◌≡◌, refl, sym, ◌∙◌}
 use Prim.Native.Nat.{ℕ, zero, suc, ◌+◌, ◌≤◌, ◌<◌}
 use native.Mathlib.Omega.{arith}
 use native.Mathlib.Decide.{dec_le}
-use Rattle.image.specs.declared.Verdict.{Verdict}
-use Rattle.image.specs.declared.Verdict.TheVariants.{Kept, Fault}
-use Rattle.checker.specs.declared.CheckAnswer.{CheckAnswer}
-use Rattle.checker.specs.declared.CheckAnswer.TheVariants.{Accepted, Refused}
 use Rattle.checker.specs.Check.{asked, first_no}
 
 -- ---- one question more
 
-pub asked_kept : (q : ℕ) (x : Verdict) (later : CheckAnswer) → x ≡ Kept → asked q x later ≡ later
+pub asked_kept : (q : ℕ) (x : Verdict) (later : CheckAnswer) → x ≡ Ok tt → asked q x later ≡ later
 unfolding asked
 asked_kept q x later e = rw e
 
-pub asked_fault : (q : ℕ) (x : Verdict) (later : CheckAnswer) {row : ℕ} → x ≡ Fault row → asked q x later ≡ Refused q row
+pub asked_fault : (q : ℕ) (x : Verdict) (later : CheckAnswer) {row : ℕ} → x ≡ Err row → asked q x later ≡ Err (refused_at q row)
 unfolding asked
 asked_fault q x later e = rw e
 
 module _ (question : ℕ → Verdict) (q n : ℕ) {x : Verdict} (here : x ≡ question q) where
-  pub chain_next : x ≡ Kept → first_no question q (suc n) ≡ first_no question (q + 1) n
+  pub chain_next : x ≡ Ok tt → first_no question q (suc n) ≡ first_no question (q + 1) n
   unfolding first_no
   chain_next e = asked_kept q (question q) (first_no question (q + 1) n) (sym here ∙ e)
 
-  pub chain_stop : {row : ℕ} → x ≡ Fault row → first_no question q (suc n) ≡ Refused q row
+  pub chain_stop : {row : ℕ} → x ≡ Err row → first_no question q (suc n) ≡ Err (refused_at q row)
   unfolding first_no
   chain_stop e = asked_fault q (question q) (first_no question (q + 1) n) (sym here ∙ e)
 
   -- the last question alone
-  pub chain_last : n ≡ 0 → first_no question q (suc n) ≡ asked q x Accepted
+  pub chain_last : n ≡ 0 → first_no question q (suc n) ≡ asked q x (Ok tt)
   unfolding first_no
   chain_last e = rw (e, here)
 
@@ -37,49 +37,49 @@ module _ (question : ℕ → Verdict) (q n : ℕ) {x : Verdict} (here : x ≡ qu
 
 -- every one of n questions from q on is answered by yes
 pub record AllKept (question : ℕ → Verdict) (q n : ℕ) : Type 0 where
-  pub each : (j : ℕ) → q ≤ j → j < q + n → question j ≡ Kept
+  pub each : (j : ℕ) → q ≤ j → j < q + n → question j ≡ Ok tt
 
 -- question j is the first that is answered by no, with its row
 pub record FirstFault (question : ℕ → Verdict) (q n j row : ℕ) : Type 0 where
   pub least : q ≤ j
   pub most : j < q + n
-  pub fault : question j ≡ Fault row
-  pub before : (i : ℕ) → q ≤ i → i < j → question i ≡ Kept
+  pub fault : question j ≡ Err row
+  pub before : (i : ℕ) → q ≤ i → i < j → question i ≡ Ok tt
 
-accepted_refused : {q row : ℕ} {C : Type 0} → Accepted ≡ Refused q row → C
+accepted_refused : {q row : ℕ} {C : Type 0} → Ok tt ≡ Err (refused_at q row) → C
 accepted_refused e = let z : ◌≡◌ {A = ℕ} 0 1 = cc in absurd (omega arith)
 
 module _ (question : ℕ → Verdict) where
-  pub accepted_all : (n q : ℕ) → first_no question q n ≡ Accepted → AllKept question q n
+  pub accepted_all : (n q : ℕ) → first_no question q n ≡ Ok tt → AllKept question q n
   unfolding first_no
   accepted_all zero q e = record { each = λ j low high. absurd (omega arith) }
   accepted_all (suc n) q e = go (question q) refl (λ rest. accepted_all n (q + 1) rest)
     where
-      go : (x : Verdict) → question q ≡ x → (first_no question (q + 1) n ≡ Accepted → AllKept question (q + 1) n) → AllKept question q (suc n)
-      go Kept k later =
+      go : (x : Verdict) → question q ≡ x → (first_no question (q + 1) n ≡ Ok tt → AllKept question (q + 1) n) → AllKept question q (suc n)
+      go (Ok tt) k later =
           let rest = later (sym (chain_next question q n (sym k) refl) ∙ e) in
           record { each = λ j low high. here j (dec_le (q + 1) j) low high rest }
         where
-          here : (j : ℕ) → Dec (q + 1 ≤ j) → q ≤ j → j < q + suc n → AllKept question (q + 1) n → question j ≡ Kept
+          here : (j : ℕ) → Dec (q + 1 ≤ j) → q ≤ j → j < q + suc n → AllKept question (q + 1) n → question j ≡ Ok tt
           here j (yes h) low high rest = rest.each j h (omega arith)
           here j (no h) low high rest = let s : q ≡ j = omega arith in rw (← s) k
-      go (Fault row) k later = accepted_refused (sym e ∙ chain_stop question q n (sym k) refl)
+      go (Err row) k later = accepted_refused (sym e ∙ chain_stop question q n (sym k) refl)
 
-  pub all_accepted : (n q : ℕ) → AllKept question q n → first_no question q n ≡ Accepted
+  pub all_accepted : (n q : ℕ) → AllKept question q n → first_no question q n ≡ Ok tt
   unfolding first_no
   all_accepted zero q all = refl
   all_accepted (suc n) q all =
       chain_next question q n refl (all.each q (omega arith) (omega arith))
       ∙ all_accepted n (q + 1) (record { each = λ j low high. all.each j (omega arith) (omega arith) })
 
-  pub refused_first : (n q j row : ℕ) → first_no question q n ≡ Refused j row → FirstFault question q n j row
+  pub refused_first : (n q j row : ℕ) → first_no question q n ≡ Err (refused_at j row) → FirstFault question q n j row
   unfolding first_no
   refused_first zero q j row e = accepted_refused e
   refused_first (suc n) q j row e = go (question q) refl (λ rest. refused_first n (q + 1) j row rest)
     where
-      go : (x : Verdict) → question q ≡ x → (first_no question (q + 1) n ≡ Refused j row → FirstFault question (q + 1) n j row)
+      go : (x : Verdict) → question q ≡ x → (first_no question (q + 1) n ≡ Err (refused_at j row) → FirstFault question (q + 1) n j row)
           → FirstFault question q (suc n) j row
-      go Kept k later =
+      go (Ok tt) k later =
           let rest = later (sym (chain_next question q n (sym k) refl) ∙ e) in
           let low = rest.least in
           let high = rest.most in
@@ -90,10 +90,10 @@ module _ (question : ℕ → Verdict) where
             before = λ i a b. here i (dec_le (q + 1) i) a b rest;
           }
         where
-          here : (i : ℕ) → Dec (q + 1 ≤ i) → q ≤ i → i < j → FirstFault question (q + 1) n j row → question i ≡ Kept
+          here : (i : ℕ) → Dec (q + 1 ≤ i) → q ≤ i → i < j → FirstFault question (q + 1) n j row → question i ≡ Ok tt
           here i (yes h) a b rest = rest.before i h b
           here i (no h) a b rest = let s : q ≡ i = omega arith in rw (← s) k
-      go (Fault found) k later =
+      go (Err found) k later =
           let same = sym (chain_stop question q n (sym k) refl) ∙ e in
           let number : q ≡ j = cc in
           let place : found ≡ row = cc in
@@ -104,13 +104,13 @@ module _ (question : ℕ → Verdict) where
             before = λ i a b. absurd (omega arith);
           }
 
-  pub first_refused : (n q j row : ℕ) → FirstFault question q n j row → first_no question q n ≡ Refused j row
+  pub first_refused : (n q j row : ℕ) → FirstFault question q n j row → first_no question q n ≡ Err (refused_at j row)
   unfolding first_no
   first_refused zero q j row f = let low = f.least in let high = f.most in absurd (omega arith)
   first_refused (suc n) q j row f = go (dec_le (q + 1) j) (λ later. first_refused n (q + 1) j row later)
     where
-      go : Dec (q + 1 ≤ j) → (FirstFault question (q + 1) n j row → first_no question (q + 1) n ≡ Refused j row)
-          → first_no question q (suc n) ≡ Refused j row
+      go : Dec (q + 1 ≤ j) → (FirstFault question (q + 1) n j row → first_no question (q + 1) n ≡ Err (refused_at j row))
+          → first_no question q (suc n) ≡ Err (refused_at j row)
       go (yes h) rest =
           let high = f.most in
           chain_next question q n refl (f.before q (omega arith) (omega arith))

@@ -1,6 +1,9 @@
 -- The check accepts exactly the images in which no row is at fault, and otherwise answers the first question with its
 -- lowest row at fault.
 -- Cited: `check_of`, `question_of` (specs/Check); `Faultless`, `FirstAtFault` (specs/Exactly).
+use Rattle.std.specs.Prelude.{Err}
+use Rattle.checker.specs.Check.{refused_at}
+use Rattle.std.specs.Prelude.{Ok}
 use mathlib.Core.Path.{◌≡◌, refl, sym, ◌∙◌, subst}
 use mathlib.Core.Bool.{Bool, true, false}
 use mathlib.Core.List.{List}
@@ -8,7 +11,6 @@ use Prim.Native.Nat.{ℕ, ◌+◌, ◌≤◌, ◌<◌}
 use native.Mathlib.Omega.{arith}
 use native.Mathlib.Decide.{dec_le}
 use Rattle.prelude.specs.Choice.{choose}
-use Rattle.image.specs.declared.Verdict.TheVariants.{Kept}
 use Rattle.image.specs.Faults.{first_from, lowest_fault}
 use Rattle.image.proofs.Faults.{verdict_kept, kept_verdict, verdict_fault, fault_verdict}
 use Rattle.header.specs.Header.{question1, question2, question3}
@@ -20,7 +22,6 @@ use Rattle.statements.specs.Statements.{question8}
 use Rattle.names.specs.Names.{question9}
 use Rattle.typing.specs.Typing.{question10}
 use Rattle.rules.specs.Rules.{rules_by, question11}
-use Rattle.checker.specs.declared.CheckAnswer.TheVariants.{Accepted, Refused}
 use Rattle.checker.specs.Check.{yes_or_no, table_question, question_of, check_of}
 use Rattle.checker.specs.Exactly.{rule_of, rows_asked, Faultless, FirstAtFault}
 use Rattle.checker.proofs.Chain.{accepted_all, all_accepted, refused_first, first_refused}
@@ -60,27 +61,27 @@ module _ (image : List ℕ) where
       (from Asks 11 refl
       (λ q low high. absurd (omega arith))))))))))))
 
-  kept_rows : (q : ℕ) → 1 ≤ q → q ≤ 11 → question_of image q ≡ Kept → (r : ℕ) → r < rows_asked image q → rule_of image q r ≡ true
+  kept_rows : (q : ℕ) → 1 ≤ q → q ≤ 11 → question_of image q ≡ Ok tt → (r : ℕ) → r < rows_asked image q → rule_of image q r ≡ true
   kept_rows q low high e = verdict_kept (rule_of image q) (rows_asked image q) (sym (question_is q low high) ∙ e)
 
-  rows_kept : (q : ℕ) → 1 ≤ q → q ≤ 11 → ((r : ℕ) → r < rows_asked image q → rule_of image q r ≡ true) → question_of image q ≡ Kept
+  rows_kept : (q : ℕ) → 1 ≤ q → q ≤ 11 → ((r : ℕ) → r < rows_asked image q → rule_of image q r ≡ true) → question_of image q ≡ Ok tt
   rows_kept q low high e = question_is q low high ∙ kept_verdict (rule_of image q) (rows_asked image q) e
 
   -- ---- the theorem, both directions of each half
 
-  pub accepted_faultless : check_of image ≡ Accepted → Faultless image
+  pub accepted_faultless : check_of image ≡ Ok tt → Faultless image
   unfolding check_of
   accepted_faultless e = record {
     each = λ q low high. kept_rows q low high ((accepted_all (question_of image) 11 1 e).each q low (omega arith));
   }
 
-  pub faultless_accepted : Faultless image → check_of image ≡ Accepted
+  pub faultless_accepted : Faultless image → check_of image ≡ Ok tt
   unfolding check_of
   faultless_accepted all =
       all_accepted (question_of image) 11 1
       (record { each = λ q low high. rows_kept q low (omega arith) (all.each q low (omega arith)) })
 
-  pub refused_first_fault : (q row : ℕ) → check_of image ≡ Refused q row → FirstAtFault image q row
+  pub refused_first_fault : (q row : ℕ) → check_of image ≡ Err (refused_at q row) → FirstAtFault image q row
   unfolding check_of
   refused_first_fault q row e =
       let first = refused_first (question_of image) 11 1 q row e in
@@ -93,7 +94,7 @@ module _ (image : List ℕ) where
         before = λ i a b. kept_rows i a (omega arith) (first.before i a b);
       }
 
-  pub first_fault_refused : (q row : ℕ) → FirstAtFault image q row → check_of image ≡ Refused q row
+  pub first_fault_refused : (q row : ℕ) → FirstAtFault image q row → check_of image ≡ Err (refused_at q row)
   unfolding check_of
   first_fault_refused q row first =
       let low = first.least in

@@ -1,8 +1,9 @@
 -- The check: eleven questions, and the first "no" decides.
+use Rattle.checker.specs.Check.{CheckAnswer}
+use Rattle.std.specs.Prelude.{Ok, Err}
+use Rattle.image.specs.Faults.{Verdict}
 use Rattle.std.specs.Prelude.{ℕ, zero, suc, ◌+◌, ◌*◌, Bool, true, false, List, eqb}
 use Rattle.prelude.specs.Choice.{choose}
-use Rattle.image.specs.declared.Verdict.{Verdict}
-use Rattle.image.specs.declared.Verdict.TheVariants.{Kept, Fault}
 use Rattle.header.specs.Header.{version_of, question1, question2, question3, tables_in, part_of}
 use Rattle.types.specs.Question.{question4}
 use Rattle.frames.specs.Variables.{question5}
@@ -12,8 +13,6 @@ use Rattle.statements.specs.Statements.{question8}
 use Rattle.names.specs.Names.{question9}
 use Rattle.typing.specs.Typing.{question10}
 use Rattle.rules.specs.Rules.{question11}
-use Rattle.checker.specs.declared.CheckAnswer.{CheckAnswer}
-use Rattle.checker.specs.declared.CheckAnswer.TheVariants.{Accepted, Refused}
 
 -- ---- the parts of an image that its tables are; no rows where questions 1 to 3 find none
 
@@ -39,8 +38,8 @@ statements_in image = part_of image (tables_in image).statements
 
 -- "the row is the lowest at fault, 0 for 1 to 3"
 unfoldable pub yes_or_no : Bool → Verdict
-yes_or_no true = Kept
-yes_or_no false = Fault 0
+yes_or_no true = Ok tt
+yes_or_no false = Err 0
 
 -- questions 4 to 11 of the six tables of an image of a version
 unfoldable pub table_question : ℕ → List ℕ → List ℕ → List ℕ → List ℕ → List ℕ → List ℕ → ℕ → Verdict
@@ -66,12 +65,12 @@ question_of image q =
 
 -- this question's "no", or what the later ones say
 unfoldable pub asked : ℕ → Verdict → CheckAnswer → CheckAnswer
-asked q Kept later = later
-asked q (Fault row) later = Refused q row
+asked q (Ok tt) later = later
+asked q (Err row) later = Err (refused_at q row)
 
 -- "The first "no" decides": of n questions from q on
 unfoldable pub first_no : (ℕ → Verdict) → ℕ → ℕ → CheckAnswer
-first_no question q zero = Accepted
+first_no question q zero = Ok tt
 first_no question q (suc n) = asked q (question q) (first_no question (q + 1) n)
 
 -- questions 1 to 11
@@ -82,12 +81,12 @@ check_of image = first_no (question_of image) 1 11
 
 -- "Refusal 0, row 0 is acceptance"
 unfoldable pub refusal_of : CheckAnswer → ℕ
-refusal_of Accepted = 0
-refusal_of (Refused q row) = q
+refusal_of (Ok tt) = 0
+refusal_of (Err (refused_at q row)) = q
 
 unfoldable pub row_of : CheckAnswer → ℕ
-row_of Accepted = 0
-row_of (Refused q row) = row
+row_of (Ok tt) = 0
+row_of (Err (refused_at q row)) = row
 
 -- "Firmware, written in C, calls the check with bytes and gets refusal × 65,536 + row."
 unfoldable pub number_of : CheckAnswer → ℕ

@@ -1,17 +1,17 @@
 -- What the check leaves in a lent plan.
+use Rattle.std.specs.Prelude.{Ok, Err}
+use Rattle.checker.specs.Check.{refused_at}
+use Rattle.checker.specs.Check.{CheckAnswer}
 use Rattle.std.specs.Prelude.{ℕ, ◌≤◌, ◌≡◌, List, eqb}
 use Rattle.prelude.specs.Choice.{choose}
 use Rattle.prelude.specs.Cells.{Filled}
 use Rattle.image.specs.Rows.{rows_of}
-use Rattle.header.specs.declared.HeaderAnswer.TheVariants.{No}
 use Rattle.header.specs.declared.Tables.{Tables}
 use Rattle.header.specs.Header.{version_of, header_of, tables_in}
 use Rattle.sizes.specs.Cells.{BOUNDS}
 use Rattle.types.specs.Plan.{Plan, Rest, passed}
 use Rattle.types.specs.Question.{question4}
 use Rattle.places.specs.Places.{Places}
-use Rattle.checker.specs.declared.CheckAnswer.{CheckAnswer}
-use Rattle.checker.specs.declared.CheckAnswer.TheVariants.{Accepted, Refused}
 use Rattle.checker.specs.Check.{types_in, fields_in, variables_in, procedures_in}
 
 -- six tables whose counts are in range
@@ -33,9 +33,9 @@ pub record Whole (t f v p old plan : List ℕ) : Type 0 where
 
 -- what the check leaves of six tables: where they are refused, what question 4 found of the type rows it passed
 pub data Leaves (version : ℕ) (t f v p old : List ℕ) : CheckAnswer → List ℕ → Type 0 where
-  whole : {plan : List ℕ} → Whole t f v p old plan → Leaves version t f v p old Accepted plan
+  whole : {plan : List ℕ} → Whole t f v p old plan → Leaves version t f v p old (Ok tt) plan
   some : {q row : ℕ} {plan : List ℕ} → Plan t f (passed t (question4 version t f)) plan
-      → Rest t (passed t (question4 version t f)) old plan → Leaves version t f v p old (Refused q row) plan
+      → Rest t (passed t (question4 version t f)) old plan → Leaves version t f v p old (Err (refused_at q row)) plan
 
 -- where the six tables stand: number j of twelve, a start and an end for each, in the tables' order
 unfoldable pub bound_of : Tables → ℕ → ℕ
@@ -58,12 +58,12 @@ pub record BoundsFit (t : Tables) : Type 0 where
 
 -- .. and of an image: nothing without tables; with acceptance also where they stand, from cell BOUNDS on
 pub data Prepared (image old : List ℕ) : CheckAnswer → List ℕ → Type 0 where
-  untouched : {q : ℕ} → header_of image ≡ No q → Prepared image old (Refused q 0) old
+  untouched : {q : ℕ} → header_of image ≡ Err q → Prepared image old (Err (refused_at q 0)) old
   refused : {q row : ℕ} {plan : List ℕ}
       → Leaves (version_of image) (types_in image) (fields_in image) (variables_in image) (procedures_in image) old
-      (Refused q row) plan
-      → Prepared image old (Refused q row) plan
+      (Err (refused_at q row)) plan
+      → Prepared image old (Err (refused_at q row)) plan
   prepared : {between plan : List ℕ}
-      → Leaves (version_of image) (types_in image) (fields_in image) (variables_in image) (procedures_in image) old Accepted
+      → Leaves (version_of image) (types_in image) (fields_in image) (variables_in image) (procedures_in image) old (Ok tt)
       between
-      → Filled BOUNDS 12 (bound_of (tables_in image)) between plan → Prepared image old Accepted plan
+      → Filled BOUNDS 12 (bound_of (tables_in image)) between plan → Prepared image old (Ok tt) plan

@@ -2,7 +2,6 @@
 #![tactic(auto)]
 
 ghost use Rattle.std.specs.Prelude.{◌≡◌, ℕ, ◌+◌, ◌*◌, ◌≤◌, ◌<◌, length, set};
-ghost use Rattle.image.specs.declared.Verdict.TheVariants.{Kept};
 ghost use Rattle.image.specs.Rows.{rows_of};
 ghost use Rattle.sizes.specs.Cells.{BOUNDS, CHECK_PLAN};
 ghost use Rattle.types.specs.Question.{TypesAccepted};
@@ -10,13 +9,11 @@ ghost use Rattle.types.specs.Plan.{Plan};
 ghost use Rattle.frames.specs.Variables.{question5};
 ghost use Rattle.frames.specs.Procedures.{question6};
 ghost use Rattle.typing.specs.Typing.{question10, type_of, passed, Typed};
-ghost use Rattle.checker.specs.declared.CheckAnswer.TheVariants.{Accepted};
 ghost use Rattle.checker.specs.Check.{table_question, asked, first_no, check_of};
 ghost use Rattle.prelude.specs.Cells.{Filled};
 ghost use Rattle.checker.specs.Prepared.{CountsFit, BoundsFit, Leaves, bound_of, Prepared};
 
 use header::{HeaderAnswer, Table, Tables};
-use image::Verdict;
 use sizes::{BOUNDS, CHECK_PLAN};
 
 // Accepted, or the number of the question that fails and its lowest row at fault.
@@ -27,12 +24,12 @@ pub enum CheckAnswer {
 }
 
 // What question q alone answers.
-fn answer_of(q: u8, v: Verdict) -> CheckAnswer
-    ensures { result ≡ asked q v Accepted }
+fn answer_of(q: u8, v: Result<(), u16>) -> Result<(), Refusal>
+    ensures { result ≡ asked q v (Ok tt) }
 {
     match v {
-        Verdict::Kept => CheckAnswer::Accepted,
-        Verdict::Fault(row) => CheckAnswer::Refused(q, row),
+        Ok(()) => Ok(()),
+        Err(row) => Err(Refusal { question: q, row }),
     }
 }
 
@@ -46,9 +43,9 @@ fn check_meaning(
     s: &[u8],
     plan: &[u32],
     types: &mut [u16],
-) -> CheckAnswer
+) -> Result<(), Refusal>
     requires { CountsFit t.now f.now v.now p.now n.now s.now × TypesAccepted t.now f.now ×
-        (question6 v.now p.now s.now ≡ Kept) × Plan t.now f.now (rows_of t.now) plan.now ×
+        (question6 v.now p.now s.now ≡ Ok tt) × Plan t.now f.now (rows_of t.now) plan.now ×
         (rows_of n.now ≤ length types.old) }
     ensures by_index { (version : ℕ) → result ≡ first_no (table_question version t.now f.now
         v.now p.now n.now s.now) 10 2 }
@@ -58,7 +55,7 @@ fn check_meaning(
 {
     let nodes = image::rows_of(n);
     let typed = typing::check_typing(t, f, plan, v, n, types);
-    let Verdict::Kept = typed else {
+    let Ok(()) = typed else {
         return answer_of(10, typed);
     };
     let ruled = rules::check_rules(t, v, p, n, s, &types[..nodes]);
@@ -75,32 +72,32 @@ fn check_rows(
     n: &[u8],
     s: &[u8],
     plan: &[u32],
-) -> CheckAnswer
+) -> Result<(), Refusal>
     requires { CountsFit t.now f.now v.now p.now n.now s.now × TypesAccepted t.now f.now
         × Plan t.now f.now (rows_of t.now) plan.now }
     ensures { result ≡ first_no (table_question version t.now f.now v.now
         p.now n.now s.now) 5 7 }
 {
     let variables = frames::check_variables(t, v);
-    let Verdict::Kept = variables else {
+    let Ok(()) = variables else {
         return answer_of(5, variables);
     };
     let procedures = frames::check_procedures(v, p, s);
-    let Verdict::Kept = procedures else {
+    let Ok(()) = procedures else {
         return answer_of(6, procedures);
     };
     let nodes = nodes::check_nodes(version, t, v, n);
-    let Verdict::Kept = nodes else {
+    let Ok(()) = nodes else {
         return answer_of(7, nodes);
     };
     // A number for each node: question 8's runs of arguments, then the types that questions 10 and 11 need.
     let mut table = [0u16; 2048];
     let statements = statements::check_statements(n, p, s, &mut table);
-    let Verdict::Kept = statements else {
+    let Ok(()) = statements else {
         return answer_of(8, statements);
     };
     let names = names::check_names(n, p, s);
-    let Verdict::Kept = names else {
+    let Ok(()) = names else {
         return answer_of(9, names);
     };
     check_meaning(t, f, v, p, n, s, plan, &mut table)
@@ -116,22 +113,22 @@ fn check_tables(
     n: &[u8],
     s: &[u8],
     plan: &mut [u32],
-) -> CheckAnswer
+) -> Result<(), Refusal>
     requires { CountsFit t.now f.now v.now p.now n.now s.now × (BOUNDS ≤ length plan.old) }
     ensures value { result ≡ first_no (table_question version t.now f.now v.now
         p.now n.now s.now) 4 8 }
     ensures plan { Leaves version t.now f.now v.now p.now plan.old result plan.new }
 {
     let types = types::check_types(version, t, f, plan);
-    let Verdict::Kept = types else {
+    let Ok(()) = types else {
         return answer_of(4, types);
     };
     let answer = check_rows(version, t, f, v, p, n, s, plan);
-    let CheckAnswer::Accepted = answer else {
+    let Ok(()) = answer else {
         return answer;
     };
     places::fill_places(t, f, v, p, plan);
-    CheckAnswer::Accepted
+    Ok(())
 }
 
 // Writes where table k of the six stands: its start, and its end behind it.
@@ -167,13 +164,13 @@ fn fill_bounds(tables: Tables, plan: &mut [u32])
 }
 
 // The check, which leaves sizes, offsets, places and frame sizes in a lent plan, and where the tables stand.
-pub fn prepare(image: &[u8], plan: &mut [u32]) -> CheckAnswer
+pub fn prepare(image: &[u8], plan: &mut [u32]) -> Result<(), Refusal>
     requires { CHECK_PLAN ≤ length plan.old }
     ensures value { result ≡ check_of image.now }
     ensures plan { Prepared image.now plan.old result plan.new }
 {
     match header::header(image) {
-        HeaderAnswer::No(question) => CheckAnswer::Refused(question, 0),
+        HeaderAnswer::No(question) => Err(Refusal { question, row: 0 }),
         HeaderAnswer::Yes(tables) => {
             let version = image[0];
             let types = tables.types;
@@ -189,17 +186,17 @@ pub fn prepare(image: &[u8], plan: &mut [u32]) -> CheckAnswer
             let n = header::part(image, nodes);
             let s = header::part(image, statements);
             let answer = check_tables(version, t, f, v, p, n, s, plan);
-            let CheckAnswer::Accepted = answer else {
+            let Ok(()) = answer else {
                 return answer;
             };
             fill_bounds(tables, plan);
-            CheckAnswer::Accepted
+            Ok(())
         }
     }
 }
 
 // The check alone.
-pub fn check(image: &[u8]) -> CheckAnswer
+pub fn check(image: &[u8]) -> Result<(), Refusal>
     ensures { result ≡ check_of image.now }
 {
     let mut plan = [0u32; CHECK_PLAN];

@@ -1,4 +1,7 @@
 -- What a field's cell says.
+use Rattle.relations.specs.Fields.{field_at}
+use Rattle.relations.specs.declared.FieldAt.{FieldAt}
+use Rattle.std.specs.Prelude.{Option, Some, None}
 use mathlib.Core.Path.{◌≡◌, sym, ◌∙◌, ap}
 use mathlib.Core.Logic.{◌⊎◌, inl, inr}
 use mathlib.Core.List.{List}
@@ -11,8 +14,6 @@ use Rattle.prelude.specs.Rec.{below}
 use Rattle.prelude.proofs.Choice.{choose_yes, choose_no}
 use Rattle.prelude.proofs.Rec.{rec_eq}
 use Rattle.image.specs.Rows.{row_at}
-use Rattle.relations.specs.declared.FieldAnswer.{FieldAnswer}
-use Rattle.relations.specs.declared.FieldAnswer.TheVariants.{Missing, Field}
 use Rattle.relations.specs.Fields.{field_of}
 use Rattle.designators.specs.Designators.{UNKNOWN, offset_in, type_in, record_in, field_cell}
 use Rattle.designators.specs.Designators.{cell_by, cell_of}
@@ -28,12 +29,12 @@ record Packed (d offset r cell : ℕ) : Type 0 where
 
 -- they have, or the cell says nothing
 packed : (d offset r : ℕ)
-    → (field_cell d (Field offset r) ≡ UNKNOWN) ⊎ Packed d offset r (field_cell d (Field offset r))
+    → (field_cell d (Some (field_at offset r)) ≡ UNKNOWN) ⊎ Packed d offset r (field_cell d (Some (field_at offset r)))
 unfolding field_cell
 packed d offset r = go (dec_lt 65535 offset) (dec_lt 254 r) (dec_lt 254 d)
   where
     go : Dec (65535 < offset) → Dec (254 < r) → Dec (254 < d)
-        → (field_cell d (Field offset r) ≡ UNKNOWN) ⊎ Packed d offset r (field_cell d (Field offset r))
+        → (field_cell d (Some (field_at offset r)) ≡ UNKNOWN) ⊎ Packed d offset r (field_cell d (Some (field_at offset r)))
     go (yes a) b c = inl (choose_yes _ _ _ (lt-ltb 65535 offset a))
     go (no a) (yes b) c =
         inl (choose_no _ _ _ (le-ltb 65535 offset (omega arith)) ∙ choose_yes _ _ _ (lt-ltb 254 r b))
@@ -53,14 +54,14 @@ packed d offset r = go (dec_lt 65535 offset) (dec_lt 254 r) (dec_lt 254 d)
     })
 
 -- what the cell of a field says is so
-packed_field : (e d : ℕ) (x : FieldAnswer) → d < 255 → record_in (field_cell e x) ≡ d
-    → (e ≡ d) × (x ≡ Field (offset_in (field_cell e x)) (type_in (field_cell e x)))
+packed_field : (e d : ℕ) (x : Option FieldAt) → d < 255 → record_in (field_cell e x) ≡ d
+    → (e ≡ d) × (x ≡ Some (field_at (offset_in (field_cell e x)) (type_in (field_cell e x))))
 unfolding field_cell
-packed_field e d Missing low is = absurd (omega arith)
-packed_field e d (Field offset r) low is = go (field_cell e (Field offset r)) (packed e offset r) is
+packed_field e d None low is = absurd (omega arith)
+packed_field e d (Some (field_at offset r)) low is = go (field_cell e (Some (field_at offset r))) (packed e offset r) is
   where
     go : (cell : ℕ) → (cell ≡ UNKNOWN) ⊎ Packed e offset r cell → record_in cell ≡ d
-        → (e ≡ d) × (Field offset r ≡ Field (offset_in cell) (type_in cell))
+        → (e ≡ d) × (Some (field_at offset r) ≡ Some (field_at (offset_in cell) (type_in cell)))
     go cell (inl none) same = absurd (omega arith)
     go cell (inr p) same =
         let place : offset ≡ offset_in cell = omega (arith, p.cell_is, p.type_low, p.record_low) in
@@ -77,7 +78,7 @@ module _ (t f v n : List ℕ) (r : ℕ) where
 
   -- "2 field b .. of a": in record d, if the cell says so, the field begins where the cell says, and has its type
   pub field_cell_lem : (d : ℕ) → (row_at n r).kind ≡ 2 → d < 255 → record_in (cell_of t f v n r) ≡ d
-      → field_of t f d (row_at n r).b ≡ Field (offset_in (cell_of t f v n r)) (type_in (cell_of t f v n r))
+      → field_of t f d (row_at n r).b ≡ Some (field_at (offset_in (cell_of t f v n r)) (type_in (cell_of t f v n r)))
   unfolding cell_by choose
   field_cell_lem d kind low is =
       let row = row_at n r in
@@ -88,4 +89,4 @@ module _ (t f v n : List ℕ) (r : ℕ) where
       let (same, found) = packed_field e d (field_of t f e row.b) low (sym (ap (λ c. record_in c) here) ∙ is) in
       ap (λ k. field_of t f k row.b) (sym same)
       ∙ found
-      ∙ ap (λ c. Field (offset_in c) (type_in c)) (sym here)
+      ∙ ap (λ c. Some (field_at (offset_in c) (type_in c))) (sym here)

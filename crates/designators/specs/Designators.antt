@@ -1,11 +1,12 @@
 -- One number for each node: the type of the object that it designates, and of a field where it begins in which record.
+use Rattle.relations.specs.Fields.{field_at}
+use Rattle.relations.specs.declared.FieldAt.{FieldAt}
+use Rattle.std.specs.Prelude.{Option, Some, None}
 use Rattle.std.specs.Prelude.{ℕ, ◌+◌, ◌*◌, ◌/◌, ◌%◌, List, eqb, ltb}
 use Rattle.prelude.specs.Choice.{choose}
 use Rattle.prelude.specs.Rec.{rec}
 use Rattle.image.specs.declared.Row.{Row}
 use Rattle.image.specs.Rows.{row_at}
-use Rattle.relations.specs.declared.FieldAnswer.{FieldAnswer}
-use Rattle.relations.specs.declared.FieldAnswer.TheVariants.{Missing, Field}
 use Rattle.relations.specs.Fields.{field_of}
 
 -- the cell of a node that designates nothing, or whose numbers have no room
@@ -25,9 +26,9 @@ abbrev pub record_in : ℕ → ℕ
 record_in cell = cell % 256
 
 -- a field of record d
-unfoldable pub field_cell : ℕ → FieldAnswer → ℕ
-field_cell d Missing = UNKNOWN
-field_cell d (Field offset r) =
+unfoldable pub field_cell : ℕ → Option FieldAt → ℕ
+field_cell d None = UNKNOWN
+field_cell d (Some (field_at offset r)) =
     choose (ltb 65535 offset) UNKNOWN
     (choose (ltb 254 r) UNKNOWN
     (choose (ltb 254 d) UNKNOWN (offset * 65536 + r * 256 + d)))

@@ -13,7 +13,7 @@ ghost use Rattle.designators.specs.Designators.{UNKNOWN, offset_in, type_in, rec
 ghost use Rattle.designators.specs.Designators.{cell_by, cell_of};
 
 use image::Row;
-use relations::FieldAnswer;
+use relations::FieldAt;
 use sizes::NODES;
 
 // The cell of a node that designates nothing, or whose numbers have no room.
@@ -45,10 +45,10 @@ pub fn record_in(cell: u32) -> u16
 // ---- the cell of a node
 
 // A field of record d.
-fn field_cell(d: u16, found: FieldAnswer) -> u32
+fn field_cell(d: u16, found: Option<FieldAt>) -> u32
     ensures { result ≡ field_cell d found }
 {
-    let FieldAnswer::Field(offset, r) = found else {
+    let Some(FieldAt { offset: offset, declared: r }) = found else {
         return UNKNOWN;
     };
     if 65535 < offset {

@@ -6,7 +6,7 @@ ghost use Rattle.checker.specs.Check.{check_of, number_of};
 ghost use Rattle.semantics.specs.Running.{result_of, store_after, output_after};
 ghost use Rattle.asking.specs.Continuing.{continue_result, continued_store, continued_output};
 
-use checker::CheckAnswer;
+use checker::Refusal;
 use semantics::RunResult;
 
 // Refusal times 65,536 plus row; 0 is acceptance.
@@ -15,8 +15,8 @@ pub extern "C" fn door_check(image: &[u8]) -> u32
     ensures { result ≡ number_of (check_of image.now) }
 {
     match checker::check(image) {
-        CheckAnswer::Accepted => 0,
-        CheckAnswer::Refused(question, row) => (question as u32) * 65536 + (row as u32),
+        Ok(()) => 0,
+        Err(Refusal { question, row }) => (question as u32) * 65536 + (row as u32),
     }
 }
 

@@ -1,4 +1,7 @@
 -- Objects that are found lie low enough to add an offset, and are of types that there are.
+use Rattle.relations.specs.Fields.{field_at}
+use Rattle.relations.specs.declared.FieldAt.{FieldAt}
+use Rattle.std.specs.Prelude.{Option, Some, None}
 use mathlib.Core.Path.{◌≡◌, refl, sym, subst, ◌∙◌}
 use mathlib.Core.List.{List}
 use Prim.Native.Nat.{ℕ, ◌+◌, ◌*◌, ◌≤◌, ◌<◌}
@@ -13,8 +16,6 @@ use Rattle.prelude.proofs.Rec.{rec_ind}
 use Rattle.image.specs.declared.Row.{Row}
 use Rattle.image.specs.Rows.{row_at, rows_of}
 use Rattle.image.proofs.Bytes.{row_missing}
-use Rattle.relations.specs.declared.FieldAnswer.{FieldAnswer}
-use Rattle.relations.specs.declared.FieldAnswer.TheVariants.{Missing, Field}
 use Rattle.relations.specs.Extends.{extends}
 use Rattle.relations.specs.Fields.{field_of}
 use Rattle.values.specs.declared.Trap.{Trap}
@@ -150,10 +151,10 @@ module _ {image plan : List ℕ} (p : Planned image plan) where
   unfolding field_place
   field_place_low n r j place l = go (field_of g.types g.fields r j) refl
     where
-      go : (answer : FieldAnswer) → field_of g.types g.fields r j ≡ answer
+      go : (answer : Option FieldAt) → field_of g.types g.fields r j ≡ answer
           → Low image (n + 4096) (field_place place answer)
-      go Missing e = low_stuck
-      go (Field offset x) e = let (h, t) = field_low p r j offset x e in object_low (omega arith) t
+      go None e = low_stuck
+      go (Some (field_at offset x)) e = let (h, t) = field_low p r j offset x e in object_low (omega arith) t
 
   -- and so does an element
   element_place_low : (n : ℕ) (place : Place) → place.address ≤ n

@@ -15,7 +15,7 @@ ghost use Rattle.finding.specs.Missed.{no_place, no_value};
 
 use access::Plan;
 use image::Row;
-use relations::FieldAnswer;
+use relations::FieldAt;
 use semantics::{Found, Mark, Place};
 use values::{Answer, Trap, Value};
 
@@ -132,7 +132,7 @@ fn field_place(image: &&[u8], plan: &Plan, whole: Place, k: u32) -> Found
 {
     let address = whole.address;
     let declared = whole.declared;
-    let FieldAnswer::Field(offset, r) = access::field(image, plan, k, declared) else {
+    let Some(FieldAt { offset: offset, declared: r }) = access::field(image, plan, k, declared) else {
         return Found::Stuck;
     };
     plain(address + offset, r)

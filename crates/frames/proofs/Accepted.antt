@@ -1,4 +1,5 @@
 -- What questions 5 and 6 say of accepted rows.
+use Rattle.std.specs.Prelude.{Ok}
 use mathlib.Core.Path.{◌≡◌, sym, ◌∙◌}
 use mathlib.Core.Bool.{true}
 use mathlib.Core.List.{List}
@@ -7,7 +8,6 @@ use native.Mathlib.Omega.{arith}
 use borrow.Author.Tests.{ltb-true, leb-true, eqb-true, eq-eqb}
 use Rattle.prelude.proofs.Choice.{choose_yes, also_true}
 use Rattle.image.specs.declared.Row.{Row}
-use Rattle.image.specs.declared.Verdict.TheVariants.{Kept}
 use Rattle.image.specs.Rows.{row_at, rows_of}
 use Rattle.image.specs.Faults.{KeptIn}
 use Rattle.image.proofs.Faults.{all_each, verdict_kept, up_to_kept}
@@ -37,7 +37,7 @@ variable_row t v r e =
       global = λ k. all_each (is_global v) r 0 (sym (choose_yes _ _ _ (eq-eqb (row_at v r).kind 0 k)) ∙ first);
     }
 
-pub variables_kept : (t v : List ℕ) → question5 t v ≡ Kept → (r : ℕ) → r < rows_of v → VariableRow t v r
+pub variables_kept : (t v : List ℕ) → question5 t v ≡ Ok tt → (r : ℕ) → r < rows_of v → VariableRow t v r
 unfolding question5
 variables_kept t v e r h = variable_row t v r (verdict_kept (variable_kept t v) (rows_of v) e r h)
 
@@ -82,7 +82,7 @@ pub record ProceduresKept (v p s : List ℕ) : Type 0 where
   pub row : (r : ℕ) → r < rows_of p → ProcedureRow v p s r (first_variable v p r)
   pub claimed : first_variable v p (rows_of p) ≡ rows_of v
 
-pub procedures_kept : (v p s : List ℕ) → question6 v p s ≡ Kept → ProceduresKept v p s
+pub procedures_kept : (v p s : List ℕ) → question6 v p s ≡ Ok tt → ProceduresKept v p s
 unfolding question6
 procedures_kept v p s e =
     let (kept, all) = up_to_kept (procedure_kept v p s) (rows_of p) _ e in

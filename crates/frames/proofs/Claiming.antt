@@ -1,4 +1,5 @@
 -- Laws of the loop over procedures.
+use Rattle.std.specs.Prelude.{Ok, Err}
 use mathlib.Core.Path.{◌≡◌, sym, ◌∙◌}
 use mathlib.Core.Bool.{Bool, true, false}
 use mathlib.Core.List.{List}
@@ -9,7 +10,6 @@ use lib.Dec.{eqb}
 use Rattle.prelude.specs.Choice.{choose}
 use Rattle.prelude.proofs.Choice.{also_true, also_yes, also_left, also_right}
 use Rattle.image.specs.declared.Row.{Row}
-use Rattle.image.specs.declared.Verdict.TheVariants.{Kept, Fault}
 use Rattle.image.specs.Rows.{row_at, rows_of}
 use Rattle.image.specs.Faults.{KeptIn}
 use Rattle.image.proofs.Faults.{kept_none, kept_next, up_to_bad, up_to_some, up_to_end}
@@ -51,19 +51,19 @@ unfolding own_kept claimed_by
 own_room v first row e = leb-true _ _ (also_true _ _ e).0
 
 module _ (v p s : List ℕ) (first r : ℕ) (c : Claimed v p s first r) where
-  faulty : r < rows_of p → procedure_kept v p s r ≡ false → Fault r ≡ question6 v p s
+  faulty : r < rows_of p → procedure_kept v p s r ≡ false → Err r ≡ question6 v p s
   unfolding question6
   faulty more bad = up_to_bad (procedure_kept v p s) (rows_of p) _ r c.kept c.within more bad
 
   module _ (more : r < rows_of p) (row : Row) (this_row : row ≡ row_at p r) where
-    pub body_bad : body_kept p (rows_of s) r row ≡ false → Fault r ≡ question6 v p s
+    pub body_bad : body_kept p (rows_of s) r row ≡ false → Err r ≡ question6 v p s
     unfolding procedure_kept
     body_bad e = faulty more (also_left _ (rw this_row at e))
 
     own_same : own_kept v first row ≡ own_kept v (first_variable v p r) (row_at p r)
     own_same = rw (this_row, c.next)
 
-    pub own_bad : own_kept v first row ≡ false → Fault r ≡ question6 v p s
+    pub own_bad : own_kept v first row ≡ false → Err r ≡ question6 v p s
     unfolding procedure_kept
     own_bad e = faulty more (also_right _ (sym own_same ∙ e))
 
@@ -83,13 +83,13 @@ module _ (v p s : List ℕ) (first r : ℕ) (c : Claimed v p s first r) where
     all_variables : eqb (first_variable v p (rows_of p)) (rows_of v) ≡ eqb first (rows_of v)
     all_variables = rw (c.next, all_rows)
 
-    pub variables_bad : (first ≡ rows_of v → ⊥) → Fault r ≡ question6 v p s
+    pub variables_bad : (first ≡ rows_of v → ⊥) → Err r ≡ question6 v p s
     unfolding question6
     variables_bad h =
         up_to_some (procedure_kept v p s) (rows_of p) _ r c.kept c.within done
         (all_variables ∙ ne_eqb first (rows_of v) h)
 
-    pub variables_all : first ≡ rows_of v → Kept ≡ question6 v p s
+    pub variables_all : first ≡ rows_of v → Ok tt ≡ question6 v p s
     unfolding question6
     variables_all h =
         up_to_end (procedure_kept v p s) (rows_of p) _ r c.kept c.within done

@@ -1,4 +1,5 @@
 -- Laws of the loops over variables.
+use Rattle.std.specs.Prelude.{Ok, Err}
 use mathlib.Core.Path.{◌≡◌, refl, sym, ◌∙◌}
 use mathlib.Core.Bool.{Bool, true, false}
 use mathlib.Core.List.{List}
@@ -8,7 +9,6 @@ use borrow.Author.Tests.{eq-eqb, ne_eqb, eqb-true}
 use lib.Dec.{eqb}
 use Rattle.prelude.proofs.Choice.{choose_yes, choose_no, also_true}
 use Rattle.image.specs.declared.Row.{Row}
-use Rattle.image.specs.declared.Verdict.TheVariants.{Kept, Fault}
 use Rattle.image.specs.Rows.{row_at, rows_of}
 use Rattle.image.specs.Faults.{all_from, KeptIn}
 use Rattle.image.proofs.Faults.{kept_none, kept_next, scan_bad, scan_end, all_each, each_all, not_all}
@@ -47,7 +47,7 @@ module _ (t v : List ℕ) (r : ℕ) (lower : Bool) (p : Passed t v r lower) (mor
   unfolding variable_kept
   variable_is = rw (← p.globals, ← this_row) (sym form)
 
-  pub variable_bad : x ≡ false → Fault r ≡ question5 t v
+  pub variable_bad : x ≡ false → Err r ≡ question5 t v
   unfolding question5
   variable_bad bad = scan_bad (variable_kept t v) (rows_of v) r p.kept more (variable_is ∙ bad)
 
@@ -76,7 +76,7 @@ module _ (t v : List ℕ) (r : ℕ) (lower : Bool) (p : Passed t v r lower) (mor
       globals = lower_next;
     }
 
-pub variables_good : (t v : List ℕ) (r : ℕ) (lower : Bool) → Passed t v r lower → rows_of v ≤ r → Kept ≡ question5 t v
+pub variables_good : (t v : List ℕ) (r : ℕ) (lower : Bool) → Passed t v r lower → rows_of v ≤ r → Ok tt ≡ question5 t v
 unfolding question5
 variables_good t v r lower p done = scan_end (variable_kept t v) (rows_of v) r p.kept done
 

@@ -1,8 +1,8 @@
 -- Question 5: the variables.
+use Rattle.image.specs.Faults.{Verdict}
 use Rattle.std.specs.Prelude.{ℕ, zero, suc, ◌+◌, Bool, true, List, ltb, leb, eqb}
 use Rattle.prelude.specs.Choice.{choose, ◌also◌}
 use Rattle.image.specs.declared.Row.{Row}
-use Rattle.image.specs.declared.Verdict.{Verdict}
 use Rattle.image.specs.Rows.{row_at, rows_of}
 use Rattle.image.specs.Faults.{all_from, lowest_fault}
 

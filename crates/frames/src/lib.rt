@@ -7,7 +7,7 @@ ghost use Rattle.image.specs.Rows.{rows_of};
 ghost use Rattle.frames.specs.Procedures.{body_end, module_kept, body_kept, own_kept, question6};
 ghost use Rattle.frames.specs.Variables.{kind_within, globals_of, form_kept, question5};
 
-use image::{Row, Verdict};
+use image::Row;
 
 // ---- question 5
 
@@ -39,7 +39,7 @@ fn form_kept(row: Row, types: usize, lower: bool) -> bool
 }
 
 // Question 5.
-pub fn check_variables(t: &[u8], v: &[u8]) -> Verdict
+pub fn check_variables(t: &[u8], v: &[u8]) -> Result<(), u16>
     requires { rows_of v.now ≤ 256 }
     ensures { result ≡ question5 t.now v.now }
 {
@@ -51,13 +51,13 @@ pub fn check_variables(t: &[u8], v: &[u8]) -> Verdict
         let row = image::row_at(v, r);
         if !form_kept(row, types, lower) {
             let bad = r as u16;
-            return Verdict::Fault(bad);
+            return Err(bad);
         }
         let kind = row.kind;
         lower = kind == 0;
         r = r + 1;
     }
-    Verdict::Kept
+    Ok(())
 }
 
 // How many globals there are.
@@ -165,7 +165,7 @@ fn own_kept(v: &[u8], first: usize, row: Row) -> bool
 }
 
 // Question 6.
-pub fn check_procedures(v: &[u8], p: &[u8], s: &[u8]) -> Verdict
+pub fn check_procedures(v: &[u8], p: &[u8], s: &[u8]) -> Result<(), u16>
     requires { (rows_of v.now ≤ 256) × (rows_of p.now ≤ 64) }
     ensures { result ≡ question6 v.now p.now s.now }
 {
@@ -177,11 +177,11 @@ pub fn check_procedures(v: &[u8], p: &[u8], s: &[u8]) -> Verdict
         let row = image::row_at(p, r);
         if !body_kept(p, statements, r, row) {
             let bad = r as u16;
-            return Verdict::Fault(bad);
+            return Err(bad);
         }
         if !own_kept(v, first, row) {
             let wrong = r as u16;
-            return Verdict::Fault(wrong);
+            return Err(wrong);
         }
         let b = row.b as usize;
         let c = row.c as usize;
@@ -189,8 +189,8 @@ pub fn check_procedures(v: &[u8], p: &[u8], s: &[u8]) -> Verdict
         r = r + 1;
     }
     if first == image::rows_of(v) {
-        return Verdict::Kept;
+        return Ok(());
     }
     let count = r as u16;
-    Verdict::Fault(count)
+    Err(count)
 }

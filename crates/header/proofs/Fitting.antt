@@ -1,4 +1,5 @@
 -- What an accepted header guarantees of the six tables.
+use Rattle.std.specs.Prelude.{Result, Option, Some, None, Ok, Err}
 use mathlib.Core.Path.{◌≡◌, refl, subst}
 use mathlib.Core.List.{List, []}
 use mathlib.Core.Bool.{Bool, true, false}
@@ -16,37 +17,31 @@ use Rattle.image.specs.Versions.{scalar_rows}
 use Rattle.image.proofs.Bytes.{slice_bytes}
 use Rattle.header.specs.Header.{question1, question2, table_from, then_table, tables_of, third_answer, header_of}
 use Rattle.header.specs.Header.{version_of, part_of, question3, are_six, six_of, tables_in}
-use Rattle.header.specs.declared.HeaderAnswer.{HeaderAnswer}
 use Rattle.header.specs.declared.Table.{Table}
 use Rattle.header.specs.declared.Tables.{Tables}
-use Rattle.header.specs.declared.TableAnswer.{TableAnswer}
-use Rattle.header.specs.declared.TableAnswer.TheVariants.{Unfit, Found}
-use Rattle.header.specs.declared.TablesAnswer.{TablesAnswer}
-use Rattle.header.specs.declared.TablesAnswer.TheVariants.{Amiss, Six}
-use Rattle.header.specs.declared.HeaderAnswer.TheVariants.{No, Yes}
 
 -- ---- one table after the other
 
-pub found_then : (x : TableAnswer) (next : Table → TablesAnswer) {t : Table} → x ≡ Found t → then_table x next ≡ next t
+pub found_then : (x : Option Table) (next : Table → Option Tables) {t : Table} → x ≡ Some t → then_table x next ≡ next t
 unfolding then_table
 found_then x next e = rw e
 
-pub unfit_then : (x : TableAnswer) (next : Table → TablesAnswer) → x ≡ Unfit → then_table x next ≡ Amiss
+pub unfit_then : (x : Option Table) (next : Table → Option Tables) → x ≡ None → then_table x next ≡ None
 unfolding then_table
 unfit_then x next e = rw e
 
-not_found : {t : Table} {C : Type 0} → Unfit ≡ Found t → C
+not_found : {t : Table} {C : Type 0} → None ≡ Some t → C
 not_found e = let z : ◌≡◌ {A = ℕ} 0 1 = cc in absurd (omega arith)
 
-not_six : {t : Tables} {C : Type 0} → Amiss ≡ Six t → C
+not_six : {t : Tables} {C : Type 0} → None ≡ Some t → C
 not_six e = let z : ◌≡◌ {A = ℕ} 0 1 = cc in absurd (omega arith)
 
-then_six : (x : TableAnswer) (next : Table → TablesAnswer) {ts : Tables} → then_table x next ≡ Six ts → (t : Table) × (x ≡ Found t) × (next t ≡ Six ts)
+then_six : (x : Option Table) (next : Table → Option Tables) {ts : Tables} → then_table x next ≡ Some ts → (t : Table) × (x ≡ Some t) × (next t ≡ Some ts)
 unfolding then_table
-then_six Unfit next e = not_six e
-then_six (Found t) next e = (t, refl, e)
+then_six None next e = not_six e
+then_six (Some t) next e = (t, refl, e)
 
-unless : (b : Bool) {x : TableAnswer} {t : Table} → choose b Unfit x ≡ Found t → (b ≡ false) × (x ≡ Found t)
+unless : (b : Bool) {x : (Option Table)} {t : Table} → choose b None x ≡ Some t → (b ≡ false) × (x ≡ Some t)
 unless b e = ⊎_elim (λ h. not_found h.1) (λ h. h) (choose_cases b e)
 
 -- ---- a table in the image
@@ -73,7 +68,7 @@ rows_are : (l : List ℕ) (n : ℕ) → length l ≡ n * 8 → rows_of l ≡ n
 unfolding rows_of
 rows_are l n h = omega arith
 
-placed : (image : List ℕ) (from low high : ℕ) {t : Table} → table_from image from low high ≡ Found t → Placed image from low high t
+placed : (image : List ℕ) (from low high : ℕ) {t : Table} → table_from image from low high ≡ Some t → Placed image from low high t
 unfolding table_from
 placed image from low high {t} e =
     let (a, e₁) = unless _ e in
@@ -101,7 +96,7 @@ placed image from low high {t} e =
       bytes = omega arith;
     }
 
-pub found_within : (image : List ℕ) (from low high : ℕ) {t : Table} → table_from image from low high ≡ Found t → t.end ≤ length image
+pub found_within : (image : List ℕ) (from low high : ℕ) {t : Table} → table_from image from low high ≡ Some t → t.end ≤ length image
 found_within image from low high e = (placed image from low high e).within
 
 -- ---- the six tables
@@ -119,7 +114,7 @@ pub record Fits (image : List ℕ) (ts : Tables) : Type 0 where
   pub filled : ts.statements.end ≡ length image
 
 tables_fit : (image : List ℕ) (ts : Tables) → version_of image ≡ 1 → word_at image 1 ≡ length image
-    → tables_of image ≡ Six ts → Fits image ts
+    → tables_of image ≡ Some ts → Fits image ts
 unfolding tables_of
 tables_fit image ts version size e =
     let (t, a, e₁) = then_six _ _ e in
@@ -137,7 +132,7 @@ tables_fit image ts version size e =
     six : (t f v p n s : Table) → Placed image 5 (scalar_rows (version_of image)) 64 t → Placed image t.end 0 256 f
         → Placed image f.end 0 256 v → Placed image v.end 1 64 p → Placed image p.end 0 2048 n
         → Placed image n.end 1 1024 s → s.end ≡ length image
-        → Six (record { types = t; fields = f; variables = v; procedures = p; nodes = n; statements = s }) ≡ Six ts → Fits image ts
+        → Some (record { types = t; fields = f; variables = v; procedures = p; nodes = n; statements = s }) ≡ Some ts → Fits image ts
     six t f v p n s a b c d g h end e =
         let same : record { types = t; fields = f; variables = v; procedures = p; nodes = n; statements = s } ≡ ts = cc in
         subst (Fits image) same
@@ -153,16 +148,16 @@ tables_fit image ts version size e =
           filled = end;
         })
 
-no_header : {q : ℕ} {ts : Tables} {C : Type 0} → No q ≡ Yes ts → C
+no_header : {q : ℕ} {ts : Tables} {C : Type 0} → Err q ≡ Ok ts → C
 no_header e = let z : ◌≡◌ {A = ℕ} 0 1 = cc in absurd (omega arith)
 
-third_six : (x : TablesAnswer) {ts : Tables} → third_answer x ≡ Yes ts → x ≡ Six ts
+third_six : (x : Option Tables) {ts : Tables} → third_answer x ≡ Ok ts → x ≡ Some ts
 unfolding third_answer
-third_six Amiss e = no_header e
-third_six (Six t) e = cc
+third_six None e = no_header e
+third_six (Some t) e = cc
 
 -- an accepted header gives the six tables their places
-pub header_fits : (image : List ℕ) (ts : Tables) → header_of image ≡ Yes ts → Fits image ts
+pub header_fits : (image : List ℕ) (ts : Tables) → header_of image ≡ Ok ts → Fits image ts
 unfolding header_of question1 question2
 header_fits image ts e =
     ⊎_elim
@@ -189,25 +184,25 @@ part_bytes image h t = go (leb t.start t.end also leb t.end (length image))
 
 -- ---- which answer the header gives, and why
 
-pub data HeaderCase (image : List ℕ) : HeaderAnswer → Type 0 where
-  first_no_lem : question1 image ≡ false → HeaderCase image (No 1)
-  second_no : question1 image ≡ true → question2 image ≡ false → HeaderCase image (No 2)
-  third_no : question1 image ≡ true → question2 image ≡ true → question3 image ≡ false → HeaderCase image (No 3)
+pub data HeaderCase (image : List ℕ) : Result Tables ℕ → Type 0 where
+  first_no_lem : question1 image ≡ false → HeaderCase image (Err 1)
+  second_no : question1 image ≡ true → question2 image ≡ false → HeaderCase image (Err 2)
+  third_no : question1 image ≡ true → question2 image ≡ true → question3 image ≡ false → HeaderCase image (Err 3)
   all_yes : {ts : Tables} → question1 image ≡ true → question2 image ≡ true → question3 image ≡ true → tables_in image ≡ ts
-      → HeaderCase image (Yes ts)
+      → HeaderCase image (Ok ts)
 
-third_case : (image : List ℕ) → question1 image ≡ true → question2 image ≡ true → (x : TablesAnswer) → tables_of image ≡ x
+third_case : (image : List ℕ) → question1 image ≡ true → question2 image ≡ true → (x : Option Tables) → tables_of image ≡ x
     → HeaderCase image (third_answer x)
 unfolding third_answer question3 tables_in are_six six_of
-third_case image p q Amiss e = third_no p q (rw e)
-third_case image p q (Six t) e = all_yes {ts = t} p q (rw e) (rw e)
+third_case image p q None e = third_no p q (rw e)
+third_case image p q (Some t) e = all_yes {ts = t} p q (rw e) (rw e)
 
 pub header_case : (image : List ℕ) → HeaderCase image (header_of image)
 unfolding header_of choose
 header_case image = go (question1 image) (question2 image) refl refl
   where
     go : (a b : Bool) → question1 image ≡ a → question2 image ≡ b
-        → HeaderCase image (choose a (choose b (third_answer (tables_of image)) (No 2)) (No 1))
+        → HeaderCase image (choose a (choose b (third_answer (tables_of image)) (Err 2)) (Err 1))
     go false b p q = first_no_lem p
     go true false p q = second_no p q
     go true true p q = third_case image p q (tables_of image) refl

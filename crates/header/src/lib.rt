@@ -41,7 +41,7 @@ pub enum HeaderAnswer {
 }
 
 // The table whose count stands at a byte.
-fn table_from(image: &[u8], at: usize, low: usize, high: usize) -> TableAnswer
+fn table_from(image: &[u8], at: usize, low: usize, high: usize) -> Option<Table>
     requires { at ≤ length image.now }
     ensures { result ≡ table_from image.now at low high }
 {
@@ -64,7 +64,7 @@ fn table_from(image: &[u8], at: usize, low: usize, high: usize) -> TableAnswer
 }
 
 // Question 3 of an image of a version.
-fn tables_of(version: u8, image: &[u8]) -> TablesAnswer
+fn tables_of(version: u8, image: &[u8]) -> Option<Tables>
     requires { (version ≡ version_of image.now) × (5 ≤ length image.now) }
     ensures { result ≡ tables_of image.now }
 {
@@ -101,7 +101,7 @@ fn tables_of(version: u8, image: &[u8]) -> TablesAnswer
 }
 
 // Questions 1 to 3.
-pub fn header(image: &[u8]) -> HeaderAnswer
+pub fn header(image: &[u8]) -> Result<Tables, u8>
     ensures { result ≡ header_of image.now }
 {
     if image.len() == 0 {

@@ -1,4 +1,5 @@
 -- Laws of the lowest row at fault.
+use Rattle.std.specs.Prelude.{Ok, Err}
 use mathlib.Core.Path.{◌≡◌, refl, sym, ◌∙◌}
 use mathlib.Core.Bool.{Bool, true, false}
 use mathlib.Core.Logic.{⊎_elim}
@@ -9,9 +10,8 @@ use borrow.Author.Tests.{lt-ltb, le-ltb}
 use Rattle.prelude.specs.Choice.{choose, ◌also◌}
 use Rattle.prelude.proofs.Choice.{choose_yes, choose_no, choose_cases, also_true, also_yes, also_left, also_right}
 use Rattle.image.specs.Faults.{first_from, lowest_fault, rule_up_to, all_from, KeptIn, Lowest}
-use Rattle.image.specs.declared.Verdict.TheVariants.{Kept, Fault}
 
-differ : {r : ℕ} {C : Type 0} → Fault r ≡ Kept → C
+differ : {r : ℕ} {C : Type 0} → Err r ≡ Ok tt → C
 differ e = let z : ◌≡◌ {A = ℕ} 0 1 = cc in absurd (omega arith)
 
 module _ (keeps : ℕ → Bool) where
@@ -34,7 +34,7 @@ module _ (keeps : ℕ → Bool) where
       go j (yes h) low high = rest.each j h high
       go j (no h) low high = let q : k ≡ j = omega arith in rw (← q) here
 
-  from_kept : (n k : ℕ) → first_from keeps k n ≡ Kept → KeptIn keeps k (k + n)
+  from_kept : (n k : ℕ) → first_from keeps k n ≡ Ok tt → KeptIn keeps k (k + n)
   unfolding first_from
   from_kept zero k e = record { each = λ j low high. absurd (omega arith) }
   from_kept (suc n) k e =
@@ -43,14 +43,14 @@ module _ (keeps : ℕ → Bool) where
       (λ h. differ h.1)
       (choose_cases (keeps k) e)
 
-  kept_from : (n k : ℕ) → KeptIn keeps k (k + n) → first_from keeps k n ≡ Kept
+  kept_from : (n k : ℕ) → KeptIn keeps k (k + n) → first_from keeps k n ≡ Ok tt
   unfolding first_from choose
   kept_from zero k h = refl
   kept_from (suc n) k h =
       rw (h.each k (omega arith) (omega arith))
       (kept_from n (k + 1) (record { each = λ j low high. h.each j (omega arith) (omega arith) }))
 
-  from_fault : (n k r : ℕ) → first_from keeps k n ≡ Fault r → (k ≤ r) × (r < k + n) × (keeps r ≡ false) × KeptIn keeps k r
+  from_fault : (n k r : ℕ) → first_from keeps k n ≡ Err r → (k ≤ r) × (r < k + n) × (keeps r ≡ false) × KeptIn keeps k r
   unfolding first_from
   from_fault zero k r e = differ (sym e)
   from_fault (suc n) k r e =
@@ -59,35 +59,35 @@ module _ (keeps : ℕ → Bool) where
       (λ h. let q : k ≡ r = cc in (omega arith, omega arith, rw (← q) h.0, record { each = λ j low high. absurd (omega arith) }))
       (choose_cases (keeps k) e)
 
-  fault_from : (n k r : ℕ) → k ≤ r → r < k + n → keeps r ≡ false → KeptIn keeps k r → first_from keeps k n ≡ Fault r
+  fault_from : (n k r : ℕ) → k ≤ r → r < k + n → keeps r ≡ false → KeptIn keeps k r → first_from keeps k n ≡ Err r
   unfolding first_from choose
   fault_from zero k r a b f l = absurd (omega arith)
   fault_from (suc n) k r a b f l =
       go (dec_le (k + 1) r)
       (λ h. fault_from n (k + 1) r h (omega arith) f (record { each = λ j low high. l.each j (omega arith) high }))
     where
-      go : Dec (k + 1 ≤ r) → (k + 1 ≤ r → first_from keeps (k + 1) n ≡ Fault r)
-          → choose (keeps k) (first_from keeps (k + 1) n) (Fault k) ≡ Fault r
+      go : Dec (k + 1 ≤ r) → (k + 1 ≤ r → first_from keeps (k + 1) n ≡ Err r)
+          → choose (keeps k) (first_from keeps (k + 1) n) (Err k) ≡ Err r
       go (yes h) rest = rw (l.each k (omega arith) (omega arith)) (rest h)
       go (no h) rest = let q : k ≡ r = omega arith in rw (q, f)
 
   -- none at fault gives the rule at every row, and the other way round
-  pub verdict_kept : (n : ℕ) → lowest_fault keeps n ≡ Kept → (j : ℕ) → j < n → keeps j ≡ true
+  pub verdict_kept : (n : ℕ) → lowest_fault keeps n ≡ Ok tt → (j : ℕ) → j < n → keeps j ≡ true
   unfolding lowest_fault
   verdict_kept n e j h = (from_kept n 0 e).each j (omega arith) (omega arith)
 
-  pub kept_verdict : (n : ℕ) → ((j : ℕ) → j < n → keeps j ≡ true) → lowest_fault keeps n ≡ Kept
+  pub kept_verdict : (n : ℕ) → ((j : ℕ) → j < n → keeps j ≡ true) → lowest_fault keeps n ≡ Ok tt
   unfolding lowest_fault
   kept_verdict n h = kept_from n 0 (record { each = λ j low high. h j (omega arith) })
 
   -- the first at fault is at fault and no lower one is, and the other way round
-  pub verdict_fault : (n r : ℕ) → lowest_fault keeps n ≡ Fault r → Lowest keeps n r
+  pub verdict_fault : (n r : ℕ) → lowest_fault keeps n ≡ Err r → Lowest keeps n r
   unfolding lowest_fault
   verdict_fault n r e =
       let (a, b, f, l) = from_fault n 0 r e in
       record { within = omega arith; fault = f; lower = λ j h. l.each j (omega arith) h }
 
-  pub fault_verdict : (n r : ℕ) → Lowest keeps n r → lowest_fault keeps n ≡ Fault r
+  pub fault_verdict : (n r : ℕ) → Lowest keeps n r → lowest_fault keeps n ≡ Err r
   unfolding lowest_fault
   fault_verdict n r h =
       let w = h.within in
@@ -95,11 +95,11 @@ module _ (keeps : ℕ → Bool) where
 
 -- a loop over the rows that stops at the first fault
 module _ (keeps : ℕ → Bool) (n r : ℕ) (kept : KeptIn keeps 0 r) where
-  pub scan_bad : r < n → keeps r ≡ false → Fault r ≡ lowest_fault keeps n
+  pub scan_bad : r < n → keeps r ≡ false → Err r ≡ lowest_fault keeps n
   scan_bad h bad =
       sym (fault_verdict keeps n r (record { within = h; fault = bad; lower = λ j low. kept.each j (omega arith) low }))
 
-  pub scan_end : n ≤ r → Kept ≡ lowest_fault keeps n
+  pub scan_end : n ≤ r → Ok tt ≡ lowest_fault keeps n
   scan_end h = sym (kept_verdict keeps n (λ j low. kept.each j (omega arith) (omega arith)))
 
 -- a rule for each of n rows, and one row more for what no row claims
@@ -116,7 +116,7 @@ module _ (keeps : ℕ → Bool) (n : ℕ) (none : Bool) where
   rule_top r h = choose_no _ _ _ (le-ltb r n h)
 
   -- none at fault: the rows keep the rule, and nothing is unclaimed
-  pub up_to_kept : lowest_fault (rule_up_to keeps n none) (n + 1) ≡ Kept → KeptIn keeps 0 n × (none ≡ true)
+  pub up_to_kept : lowest_fault (rule_up_to keeps n none) (n + 1) ≡ Ok tt → KeptIn keeps 0 n × (none ≡ true)
   up_to_kept e =
       let kept = verdict_kept rule (n + 1) e in
       let rows : KeptIn keeps 0 n = record { each = λ j low high. sym (rule_low j high) ∙ kept j (omega arith) } in
@@ -127,13 +127,13 @@ module _ (keeps : ℕ → Bool) (n : ℕ) (none : Bool) where
     rules : KeptIn rule 0 r
     rules = record { each = λ j low high. rule_low j (omega arith) ∙ kept.each j low high }
 
-    pub up_to_bad : r < n → keeps r ≡ false → Fault r ≡ lowest_fault (rule_up_to keeps n none) (n + 1)
+    pub up_to_bad : r < n → keeps r ≡ false → Err r ≡ lowest_fault (rule_up_to keeps n none) (n + 1)
     up_to_bad h bad = scan_bad rule (n + 1) r rules (omega arith) (rule_low r h ∙ bad)
 
-    pub up_to_some : n ≤ r → none ≡ false → Fault r ≡ lowest_fault (rule_up_to keeps n none) (n + 1)
+    pub up_to_some : n ≤ r → none ≡ false → Err r ≡ lowest_fault (rule_up_to keeps n none) (n + 1)
     up_to_some h some = scan_bad rule (n + 1) r rules (omega arith) (rule_top r h ∙ some)
 
-    pub up_to_end : n ≤ r → none ≡ true → Kept ≡ lowest_fault (rule_up_to keeps n none) (n + 1)
+    pub up_to_end : n ≤ r → none ≡ true → Ok tt ≡ lowest_fault (rule_up_to keeps n none) (n + 1)
     up_to_end h e = scan_end rule (n + 1) (r + 1) (kept_next rule 0 r rules (rule_top r h ∙ e)) (omega arith)
 
 from_same : (f g : ℕ → Bool) (n k : ℕ) → ((j : ℕ) → k ≤ j → j < k + n → f j ≡ g j) → first_from f k n ≡ first_from g k n

@@ -1,13 +1,12 @@
 -- The lowest row at fault.
+use Rattle.std.specs.Prelude.{Ok, Err}
 use Rattle.std.specs.Prelude.{◌≡◌, ℕ, zero, suc, ◌+◌, ◌≤◌, ◌<◌, Bool, true, false, ltb}
 use Rattle.prelude.specs.Choice.{choose, ◌also◌}
-use Rattle.image.specs.declared.Verdict.{Verdict}
-use Rattle.image.specs.declared.Verdict.TheVariants.{Kept, Fault}
 
 -- the first of the n rows from k on that does not keep the rule
 unfoldable pub first_from : (ℕ → Bool) → ℕ → ℕ → Verdict
-first_from keeps k zero = Kept
-first_from keeps k (suc n) = choose (keeps k) (first_from keeps (k + 1) n) (Fault k)
+first_from keeps k zero = Ok tt
+first_from keeps k (suc n) = choose (keeps k) (first_from keeps (k + 1) n) (Err k)
 
 -- "the row is the lowest at fault": of the rows 0 to n - 1
 unfoldable pub lowest_fault : (ℕ → Bool) → ℕ → Verdict

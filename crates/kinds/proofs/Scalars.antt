@@ -1,4 +1,5 @@
 -- What an operator takes and what it gives are of scalar kinds.
+use Rattle.std.specs.Prelude.{Option, Some, None}
 use mathlib.Core.Path.{◌≡◌, refl, sym}
 use mathlib.Core.Bool.{Bool, true, false, ◌&&◌}
 use Prim.Native.Nat.{ℕ}
@@ -10,27 +11,25 @@ use Rattle.prelude.proofs.Choice.{clash}
 use Rattle.values.specs.Values.{BOOLEAN, INTEGER, SET, Scalar, Scalar.a_boolean, Scalar.an_integer, Scalar.a_set}
 use Rattle.values.proofs.Scalars.{below_scalar}
 use Rattle.kinds.specs.Kinds.{integers_kind, sets_kind, booleans_kind, dyadic_kind, monadic_kind}
-use Rattle.kinds.specs.declared.KindAnswer.{KindAnswer}
-use Rattle.kinds.specs.declared.KindAnswer.TheVariants.{Untyped, Kind}
 
 -- ---- what holds of the kind that an answer has
 
-record Given (P : ℕ → Type 0) (a : KindAnswer) : Type 0 where
-  holds : (x : ℕ) → a ≡ Kind x → P x
+record Given (P : ℕ → Type 0) (a : Option ℕ) : Type 0 where
+  holds : (x : ℕ) → a ≡ Some x → P x
 
 module _ {P : ℕ → Type 0} where
-  none : Given P Untyped
+  none : Given P None
   none = record { holds = λ x e. let z : ◌≡◌ {A = ℕ} 0 1 = cc in absurd (omega arith) }
 
-  one : {k : ℕ} → P k → Given P (Kind k)
+  one : {k : ℕ} → P k → Given P (Some k)
   one {k} h = record { holds = λ x e. let same : k ≡ x = cc in rw same at h }
 
-  when : (b : Bool) {x y : KindAnswer} → (b ≡ true → Given P x) → Given P y → Given P (choose b x y)
+  when : (b : Bool) {x y : (Option ℕ)} → (b ≡ true → Given P x) → Given P y → Given P (choose b x y)
   unfolding choose
   when true p q = p refl
   when false p q = q
 
-  either : (b : Bool) {x y : KindAnswer} → Given P x → Given P y → Given P (choose b x y)
+  either : (b : Bool) {x y : (Option ℕ)} → Given P x → Given P y → Given P (choose b x y)
   either b p q = when b (λ e. p) q
 
 -- ---- by the operands' kinds
@@ -55,7 +54,7 @@ pub record Operands (left right x : ℕ) : Type 0 where
   pub right_scalar : Scalar right
   pub given_scalar : Scalar x
 
-both : (left right : ℕ) {j k : ℕ} {a : KindAnswer} → Scalar j → Scalar k → eqb left j ≡ true → eqb right k ≡ true
+both : (left right : ℕ) {j k : ℕ} {a : (Option ℕ)} → Scalar j → Scalar k → eqb left j ≡ true → eqb right k ≡ true
     → Given Scalar a → Given (Operands left right) a
 both left right {j} {k} p q l r given = record {
   holds = λ x e. record {
@@ -77,7 +76,7 @@ dyadic_given op left right =
     (when (eqb left SET) (λ l. when (eqb right SET)
     (λ r. both left right a_set a_set l r (sets_scalar op)) none) none))
 
-pub dyadic_scalar : (op left right x : ℕ) → dyadic_kind op left right ≡ Kind x → Operands left right x
+pub dyadic_scalar : (op left right x : ℕ) → dyadic_kind op left right ≡ Some x → Operands left right x
 dyadic_scalar op left right = (dyadic_given op left right).holds
 
 both_true : (a b : Bool) → a && b ≡ true → b ≡ true
@@ -96,5 +95,5 @@ monadic_given op operand =
     one (rw (eqb-true operand BOOLEAN e) a_boolean, a_boolean)) none) none)
 
 -- the operand's kind, and the one that is given
-pub monadic_scalar : (op operand x : ℕ) → monadic_kind op operand ≡ Kind x → Scalar operand × Scalar x
+pub monadic_scalar : (op operand x : ℕ) → monadic_kind op operand ≡ Some x → Scalar operand × Scalar x
 monadic_scalar op operand = (monadic_given op operand).holds

@@ -1,4 +1,7 @@
 -- The fresh state in the lent store, and what the code of a run and of a continuation gives back.
+use Rattle.std.specs.Prelude.{Ok, Err}
+use Rattle.checker.specs.Check.{refused_at}
+use Rattle.checker.specs.Check.{CheckAnswer}
 use mathlib.Core.Path.{◌≡◌, sym, ◌∙◌, ap}
 use mathlib.Core.Bool.{Bool, true, false}
 use mathlib.Core.List.{List, ◌∷◌, ◌++◌, map-id}
@@ -9,8 +12,6 @@ use lib.IntN.{ℤ, pos}
 use lib.ListN.{length, drop, replicate, length-replicate}
 use Rattle.prelude.specs.Choice.{choose}
 use Rattle.prelude.proofs.Choice.{choose_yes, choose_no}
-use Rattle.checker.specs.declared.CheckAnswer.{CheckAnswer}
-use Rattle.checker.specs.declared.CheckAnswer.TheVariants.{Accepted, Refused}
 use Rattle.checker.specs.Check.{question_of, check_of, refusal_of, row_of}
 use Rattle.checker.proofs.Chain.{refused_first}
 use Rattle.image.specs.Rows.{Bytes, row_at}
@@ -85,12 +86,12 @@ fresh_stands g store cells base top room few same = record {
 -- ---- what is asked first
 
 -- a refusal's question has a number
-question_some : (image : List ℕ) (q row : ℕ) → check_of image ≡ Refused q row → 1 ≤ q
+question_some : (image : List ℕ) (q row : ℕ) → check_of image ≡ Err (refused_at q row) → 1 ≤ q
 unfolding check_of
 question_some image q row e = (refused_first (question_of image) 11 1 q row e).least
 
 -- a refusal of the check is the run's
-check_refuses : (image : List ℕ) (store : List ℤ) (q row : ℕ) → check_of image ≡ Refused q row
+check_refuses : (image : List ℕ) (store : List ℤ) (q row : ℕ) → check_of image ≡ Err (refused_at q row)
     → (refusal image store ≡ q) × (q ≡ 0 → ⊥) × (row_of (check_of image) ≡ row)
 unfolding refusal refusal_of row_of
 check_refuses image store q row this =
@@ -99,7 +100,7 @@ check_refuses image store q row this =
     (choose_no _ _ _ (ne_eqb _ 0 (λ z. some (sym number ∙ z))) ∙ number, some, rw this)
 
 -- behind the check, 12 and 13 are asked
-pub store_refuses : (image : List ℕ) (store : List ℤ) → check_of image ≡ Accepted
+pub store_refuses : (image : List ℕ) (store : List ℤ) → check_of image ≡ Ok tt
     → refusal image store ≡ store_question (program_of image) (length store)
 unfolding refusal refusal_of store_question
 store_refuses image store accepted =
@@ -111,7 +112,7 @@ module _ (image : List ℕ) (store : List ℤ) {q : ℕ}
     (first : (asked : ℕ) → refusal image store ≡ asked → (asked ≡ 0 → ⊥) → q ≡ asked) {e : Ended Cell}
     {output : List ℤ} {r : RunResult} where
   -- refused by the check
-  pub gives_check : (x : CheckAnswer) (asked row : ℕ) → x ≡ Refused asked row → x ≡ check_of image
+  pub gives_check : (x : CheckAnswer) (asked row : ℕ) → x ≡ Err (refused_at asked row) → x ≡ check_of image
       → r ≡ refused_with (refusal_of x) (row_of x)
       → GivesBack q (row_of (check_of image)) e store output r store output
   unfolding refusal_of row_of
@@ -120,7 +121,7 @@ module _ (image : List ℕ) (store : List ℤ) {q : ℕ}
       gives_refused (first asked number some) at some (rw is at result)
 
   -- by question 12 or 13
-  pub gives_store : check_of image ≡ Accepted → (asked : ℕ)
+  pub gives_store : check_of image ≡ Ok tt → (asked : ℕ)
       → asked ≡ store_question (program_of image) (length store) → (asked ≡ 0 → ⊥) → r ≡ refused_with asked 0
       → GivesBack q (row_of (check_of image)) e store output r store output
   unfolding row_of

@@ -14,7 +14,7 @@ ghost use Rattle.machine.specs.Stopping.{ended_with, stop_by, Stops, store_quest
 
 use access::Plan;
 use calling::Step;
-use checker::CheckAnswer;
+use checker::Refusal;
 use semantics::{Registers, RunResult};
 use sizes::RUN_PLAN;
 
@@ -115,12 +115,12 @@ fn refused(question: u32, row: u32) -> RunResult
 }
 
 // An answer of the check that is a refusal.
-fn refused_by(answer: CheckAnswer) -> RunResult
+fn refused_by(answer: Result<(), Refusal>) -> RunResult
     ensures { result ≡ refused_with (refusal_of answer) (row_of answer) }
 {
     match answer {
-        CheckAnswer::Accepted => refused(0, 0),
-        CheckAnswer::Refused(question, row) => refused(question as u32, row as u32),
+        Ok(()) => refused(0, 0),
+        Err(Refusal { question, row }) => refused(question as u32, row as u32),
     }
 }
 
@@ -166,7 +166,7 @@ pub fn run(
 {
     let mut plan = [0u32; RUN_PLAN];
     let answer = access::open_image(image, &mut plan);
-    let CheckAnswer::Accepted = answer else {
+    let Ok(()) = answer else {
         return refused_by(answer);
     };
     let question = store_question(&image, &plan, store.len());
@@ -218,7 +218,7 @@ pub fn resume(
 {
     let mut plan = [0u32; RUN_PLAN];
     let answer = access::open_image(image, &mut plan);
-    let CheckAnswer::Accepted = answer else {
+    let Ok(()) = answer else {
         return refused_by(answer);
     };
     let question = store_question(&image, &plan, store.len());

@@ -1,8 +1,8 @@
 -- Question 9: each node is named exactly once.
+use Rattle.image.specs.Faults.{Verdict}
 use Rattle.std.specs.Prelude.{ℕ, zero, suc, ◌+◌, Bool, List, [], ◌∷◌, ◌++◌, eqb}
 use Rattle.prelude.specs.Choice.{choose}
 use Rattle.image.specs.declared.Row.{Row}
-use Rattle.image.specs.declared.Verdict.{Verdict}
 use Rattle.image.specs.Rows.{row_at, rows_of}
 use Rattle.image.specs.Faults.{lowest_fault}
 

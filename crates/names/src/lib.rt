@@ -9,7 +9,7 @@ ghost use Rattle.names.specs.Names.{names_of_node, names_of_statement, rows_from
 ghost use Rattle.names.specs.Often.{NEVER, ONCE, Says, more as more_of, Named};
 ghost use Rattle.names.specs.Often.{node_names_a, node_names_b, statement_names_a};
 
-use image::{Row, Verdict};
+use image::Row;
 
 // ---- how often a node is named: one of these numbers
 
@@ -176,7 +176,7 @@ fn count_names(n: &[u8], p: &[u8], s: &[u8], often: &mut [u8])
 }
 
 // Whether each of the rows is named once.
-fn each_once(often: &[u8], rows: usize) -> Verdict
+fn each_once(often: &[u8], rows: usize) -> Result<(), u16>
     requires { (rows ≤ 2048) × (rows ≤ length often.now) }
     ensures { result ≡ lowest_fault (λ k. eqb (get_or often.now k NEVER) ONCE) rows }
 {
@@ -185,15 +185,15 @@ fn each_once(often: &[u8], rows: usize) -> Verdict
         let byte = often[k];
         if byte != ONCE {
             let bad = k as u16;
-            return Verdict::Fault(bad);
+            return Err(bad);
         }
         k = k + 1;
     }
-    Verdict::Kept
+    Ok(())
 }
 
 // Question 9.
-pub fn check_names(n: &[u8], p: &[u8], s: &[u8]) -> Verdict
+pub fn check_names(n: &[u8], p: &[u8], s: &[u8]) -> Result<(), u16>
     requires { rows_of n.now ≤ 2048 }
     ensures { result ≡ question9 n.now p.now s.now }
 {

@@ -1,4 +1,5 @@
 -- What question 7 says of an accepted node row.
+use Rattle.std.specs.Prelude.{Ok}
 use mathlib.Core.Path.{◌≡◌, sym, ◌∙◌, ap}
 use mathlib.Core.Bool.{true, false}
 use mathlib.Core.List.{List}
@@ -10,7 +11,6 @@ use lib.Dec.{eqb}
 use Rattle.prelude.specs.Choice.{choose}
 use Rattle.prelude.proofs.Choice.{choose_yes, choose_cases, also_true, clash}
 use Rattle.image.specs.declared.Row.{Row}
-use Rattle.image.specs.declared.Verdict.TheVariants.{Kept}
 use Rattle.image.specs.Rows.{row_at, rows_of}
 use Rattle.image.specs.Versions.{scalar_rows, monadics}
 use Rattle.image.proofs.Bytes.{row_there}
@@ -228,7 +228,7 @@ module _ (n : List ℕ) (r : ℕ) (h : r < rows_of n) where
 
 -- question 7 accepts the nodes of an image of a version
 pub record NodesAccepted (version : ℕ) (t v n : List ℕ) : Type 0 where
-  pub passes : question7 version t v n ≡ Kept
+  pub passes : question7 version t v n ≡ Ok tt
 
 module _ {version : ℕ} (t v n : List ℕ) (accepted : NodesAccepted version t v n) (r : ℕ) (h : r < rows_of n) where
   kept : node_kept version (rows_of t) (rows_of v) n r ≡ true

@@ -7,7 +7,7 @@ ghost use Rattle.nodes.specs.Nodes.{is_designator, is_argument, child_kept, desi
 ghost use Rattle.nodes.specs.Nodes.{variable_kept, field_kept, element_kept, guard_kept, dyadic_kept, monadic_kept};
 ghost use Rattle.nodes.specs.Nodes.{argument_kept, form_kept, question7};
 
-use image::{Row, Verdict};
+use image::Row;
 
 // Whether node row k is a designator.
 pub fn is_designator(n: &[u8], k: usize) -> bool
@@ -193,7 +193,7 @@ fn node_form(version: u8, types: usize, variables: usize, n: &[u8], r: usize, ro
 }
 
 // Question 7 of an image of a version.
-pub fn check_nodes(version: u8, t: &[u8], v: &[u8], n: &[u8]) -> Verdict
+pub fn check_nodes(version: u8, t: &[u8], v: &[u8], n: &[u8]) -> Result<(), u16>
     requires { rows_of n.now ≤ 2048 }
     ensures { result ≡ question7 version t.now v.now n.now }
 {
@@ -206,13 +206,13 @@ pub fn check_nodes(version: u8, t: &[u8], v: &[u8], n: &[u8]) -> Verdict
         let zero = row.zero;
         if zero != 0 {
             let filled = r as u16;
-            return Verdict::Fault(filled);
+            return Err(filled);
         }
         if !node_form(version, types, variables, n, r, row) {
             let bad = r as u16;
-            return Verdict::Fault(bad);
+            return Err(bad);
         }
         r = r + 1;
     }
-    Verdict::Kept
+    Ok(())
 }

@@ -1,4 +1,5 @@
 -- Each result of an operator is in its kind's range.
+use Rattle.std.specs.Prelude.{Option}
 use mathlib.Core.Path.{◌≡◌}
 use Prim.Native.Nat.{ℕ}
 use Rattle.values.specs.Values.{InRange}
@@ -6,7 +7,6 @@ use Rattle.operators.specs.Operators.{dyadic_of, monadic_of}
 use Rattle.values.specs.declared.Value.{Value}
 use Rattle.values.specs.declared.Answer.{Answer}
 use Rattle.values.specs.declared.Answer.TheVariants as As
-use Rattle.kinds.specs.declared.KindAnswer.{KindAnswer}
 use Rattle.values.proofs.Cells.{no_value}
 use Rattle.values.proofs.Giving.{gives_range}
 use Rattle.operators.proofs.Typed.{Agree, dyadic_agree, monadic_agree}
@@ -14,7 +14,7 @@ use Rattle.operators.proofs.Typed.Agree.{typed, untyped}
 
 -- operators, typed or not
 
-agree_range : {H : Type 0} {x : KindAnswer} {a : Answer} {r : Value} → Agree H x a → H → a ≡ As.Val r → InRange r
+agree_range : {H : Type 0} {x : (Option ℕ)} {a : Answer} {r : Value} → Agree H x a → H → a ≡ As.Val r → InRange r
 agree_range (typed f) h e = gives_range (rw e at (f h))
 agree_range untyped h e = no_value e
 

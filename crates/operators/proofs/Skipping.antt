@@ -1,5 +1,6 @@
 -- "Operands go left to right": & and OR "skip the right one when the left decides", which changes nothing and keeps
 -- kinds and ranges; elsewhere a trap of the right one comes before the operator's own.
+use Rattle.std.specs.Prelude.{Some, None}
 use mathlib.Core.Path.{◌≡◌, refl, sym}
 use mathlib.Core.Bool.{Bool, true, false}
 use mathlib.Core.Logic.{inl, inr}
@@ -18,16 +19,15 @@ use Rattle.values.specs.declared.Value.TheVariants as Vs
 use Rattle.values.specs.declared.Trap.{Trap}
 use Rattle.values.specs.declared.Answer.{Answer}
 use Rattle.values.specs.declared.Answer.TheVariants as As
-use Rattle.kinds.specs.declared.KindAnswer.TheVariants.{Untyped, Kind}
 use Rattle.values.proofs.Giving.{gives_one}
 use Rattle.operators.proofs.Typed.{dyadic_typed}
 use Rattle.operators.proofs.Ranges.{dyadic_range}
 use Rattle.values.proofs.Cells.{no_value}
 
-no_kind : {X : Type 0} {k : ℕ} → Untyped ≡ Kind k → X
+no_kind : {X : Type 0} {k : ℕ} → None ≡ Some k → X
 no_kind e = let z : ◌≡◌ {A = ℕ} 0 1 = cc in absurd (omega arith)
 
-same_kind : {j k : ℕ} → Kind j ≡ Kind k → j ≡ k
+same_kind : {j k : ℕ} → Some j ≡ Some k → j ≡ k
 same_kind e = cc
 
 -- what decides: FALSE the operator 13, TRUE the operator 14
@@ -59,7 +59,7 @@ decides_same op v q e = go (decided op v e)
     go or_true = refl
 
 -- the kind that a typed operator gives where the left operand decides
-decided_kind : {op : ℕ} {v : Value} (j : ℕ) {k : ℕ} → Decided op v → dyadic_kind op (kind_of v) j ≡ Kind k → kind_of v ≡ k
+decided_kind : {op : ℕ} {v : Value} (j : ℕ) {k : ℕ} → Decided op v → dyadic_kind op (kind_of v) j ≡ Some k → kind_of v ≡ k
 unfolding dyadic_kind booleans_kind kind_of choose
 decided_kind j and_false e =
     elim (choose_cases (eqb j BOOLEAN) e) [ inl h ↦ same_kind h.1 | inr h ↦ no_kind h.1 ]
@@ -73,13 +73,13 @@ pub right_traps : (op : ℕ) (v : Value) (t : Trap) → decides op v ≡ false �
 unfolding applied_to bind choose
 right_traps op v t e = rw e
 
-pub applied_typed : (op : ℕ) {v : Value} {right : Answer} {j k : ℕ} → dyadic_kind op (kind_of v) j ≡ Kind k
+pub applied_typed : (op : ℕ) {v : Value} {right : Answer} {j k : ℕ} → dyadic_kind op (kind_of v) j ≡ Some k
     → InRange v → Gives j right → Gives k (applied_to op v right)
 unfolding applied_to bind
 applied_typed op {v} {j = j} {k} e p g =
     gives_one (decides op v) (λ h. value (decided_kind j (decided op v h) e) p) (λ h. go g e)
   where
-    go : {right : Answer} {j : ℕ} → Gives j right → dyadic_kind op (kind_of v) j ≡ Kind k
+    go : {right : Answer} {j : ℕ} → Gives j right → dyadic_kind op (kind_of v) j ≡ Some k
         → Gives k (bind right (λ w. dyadic_of op v w))
     go (value {v = w} i q) e = dyadic_typed op (rw (sym i) at e) p q
     go trapped e = trapped

@@ -1,5 +1,6 @@
 -- The type rules and the operators agree: a typed operator gives a value of its kind, in its range, or a trap,
 -- and an untyped one is stuck.
+use Rattle.std.specs.Prelude.{Option, Some, None}
 use mathlib.Core.Path.{◌≡◌, refl, ap, ◌∙◌}
 use mathlib.Core.Bool.{Bool, true, false, ◌&&◌}
 use Prim.Native.Nat.{ℕ, suc, ◌<◌, ◌≤◌}
@@ -21,8 +22,6 @@ use Rattle.values.specs.declared.Value.{Value}
 use Rattle.values.specs.declared.Value.TheVariants as Vs
 use Rattle.values.specs.declared.Answer.{Answer}
 use Rattle.values.specs.declared.Answer.TheVariants as As
-use Rattle.kinds.specs.declared.KindAnswer.{KindAnswer}
-use Rattle.kinds.specs.declared.KindAnswer.TheVariants.{Untyped, Kind}
 use Rattle.values.proofs.Numbers.{inside, under, over, integer_fits}
 use Rattle.values.proofs.Giving.{gives_boolean, gives_set}
 use Rattle.integers.proofs.Results.{integer_gives, arithmetic_gives}
@@ -31,13 +30,13 @@ use Rattle.sets.proofs.Results.{contains_gives, range_gives, complement_gives}
 -- ---- a kind and an answer that go together
 
 -- under H the answer is one of the kind, and without a kind it is stuck
-pub data Agree (H : Type 0) : KindAnswer → Answer → Type 0 where
-  typed : {k : ℕ} {a : Answer} → (H → Gives k a) → Agree H (Kind k) a
-  untyped : Agree H Untyped As.Stuck
+pub data Agree (H : Type 0) : Option ℕ → Answer → Type 0 where
+  typed : {k : ℕ} {a : Answer} → (H → Gives k a) → Agree H (Some k) a
+  untyped : Agree H None As.Stuck
 
 module _ {H : Type 0} where
   -- by the same test
-  agree : (b : Bool) {x y : KindAnswer} {a c : Answer} → Agree H x a → Agree H y c
+  agree : (b : Bool) {x y : (Option ℕ)} {a c : Answer} → Agree H x a → Agree H y c
       → Agree H (choose b x y) (choose b a c)
   unfolding choose
   agree true p q = p
@@ -73,28 +72,28 @@ module _ {X : Type 0} (x y : X) (n : ℕ) where
 -- ---- the rules of the kinds and the operators, test by test
 
 booleans_listed : (op : ℕ) → booleans_kind op
-    ≡ choose (leb 7 op && leb op 8) (Kind BOOLEAN)
-    (choose (eqb op 13) (Kind BOOLEAN) (choose (eqb op 14) (Kind BOOLEAN) Untyped))
+    ≡ choose (leb 7 op && leb op 8) (Some BOOLEAN)
+    (choose (eqb op 13) (Some BOOLEAN) (choose (eqb op 14) (Some BOOLEAN) None))
 unfolding booleans_kind
 booleans_listed op =
-    ap (choose (leb 7 op && leb op 8) (Kind BOOLEAN))
-    (first_of_lem (Kind BOOLEAN) Untyped op 13 14 (omega arith)
-    ∙ ap (choose (eqb op 13) (Kind BOOLEAN))
-    (first_of_lem (Kind BOOLEAN) Untyped op 14 14 (omega arith)
-    ∙ ap (choose (eqb op 14) (Kind BOOLEAN)) (none_of (Kind BOOLEAN) Untyped op 15 14 (omega arith))))
+    ap (choose (leb 7 op && leb op 8) (Some BOOLEAN))
+    (first_of_lem (Some BOOLEAN) None op 13 14 (omega arith)
+    ∙ ap (choose (eqb op 13) (Some BOOLEAN))
+    (first_of_lem (Some BOOLEAN) None op 14 14 (omega arith)
+    ∙ ap (choose (eqb op 14) (Some BOOLEAN)) (none_of (Some BOOLEAN) None op 15 14 (omega arith))))
 
 sets_listed : (op : ℕ)
-    → let rest = choose (eqb op 6) (Kind SET) (choose (leb 7 op && leb op 8) (Kind BOOLEAN) Untyped) in
-    sets_kind op ≡ choose (eqb op 1) (Kind SET) (choose (eqb op 2) (Kind SET) (choose (eqb op 3) (Kind SET) rest))
+    → let rest = choose (eqb op 6) (Some SET) (choose (leb 7 op && leb op 8) (Some BOOLEAN) None) in
+    sets_kind op ≡ choose (eqb op 1) (Some SET) (choose (eqb op 2) (Some SET) (choose (eqb op 3) (Some SET) rest))
 unfolding sets_kind
 sets_listed op =
-    let rest = choose (eqb op 6) (Kind SET) (choose (leb 7 op && leb op 8) (Kind BOOLEAN) Untyped) in
-    first_of_lem (Kind SET) rest op 1 3 (omega arith)
-    ∙ ap (choose (eqb op 1) (Kind SET))
-    (first_of_lem (Kind SET) rest op 2 3 (omega arith)
-    ∙ ap (choose (eqb op 2) (Kind SET))
-    (first_of_lem (Kind SET) rest op 3 3 (omega arith)
-    ∙ ap (choose (eqb op 3) (Kind SET)) (none_of (Kind SET) rest op 4 3 (omega arith))))
+    let rest = choose (eqb op 6) (Some SET) (choose (leb 7 op && leb op 8) (Some BOOLEAN) None) in
+    first_of_lem (Some SET) rest op 1 3 (omega arith)
+    ∙ ap (choose (eqb op 1) (Some SET))
+    (first_of_lem (Some SET) rest op 2 3 (omega arith)
+    ∙ ap (choose (eqb op 2) (Some SET))
+    (first_of_lem (Some SET) rest op 3 3 (omega arith)
+    ∙ ap (choose (eqb op 3) (Some SET)) (none_of (Some SET) rest op 4 3 (omega arith))))
 
 module _ {H : Type 0} (op : ℕ) where
   booleans_agree : (p q : Bool) → Agree H (booleans_kind op) (booleans_of op p q)
@@ -148,38 +147,38 @@ monadic_agree op (Vs.Bool p) = go (eqb op 1) refl
   where
     go : (t : Bool) → eqb op 1 ≡ t
         → Agree (InRange (Vs.Bool p))
-        (choose t Untyped (choose (eqb op 2) (Kind BOOLEAN) Untyped)) (monadic_of op (Vs.Bool p))
+        (choose t None (choose (eqb op 2) (Some BOOLEAN) None)) (monadic_of op (Vs.Bool p))
     go true e = rw (eqb-true op 1 e) untyped
     go false e = agree (eqb op 2) (typed (λ h. gives_boolean _)) untyped
 monadic_agree op (Vs.Int x) =
-    rw (choose_same (eqb op 2) Untyped) (agree (eqb op 1) (typed (λ h. integer_gives (neg_ℤ x))) untyped)
+    rw (choose_same (eqb op 2) None) (agree (eqb op 1) (typed (λ h. integer_gives (neg_ℤ x))) untyped)
 monadic_agree op (Vs.Set s) =
-    rw (choose_same (eqb op 2) Untyped)
+    rw (choose_same (eqb op 2) None)
     (agree (eqb op 1) (typed (λ h. complement_gives s)) untyped)
 
 -- ---- the laws
 
 module _ {H : Type 0} where
-  agree_typed : {x : KindAnswer} {a : Answer} {k : ℕ} → Agree H x a → x ≡ Kind k → H → Gives k a
+  agree_typed : {x : (Option ℕ)} {a : Answer} {k : ℕ} → Agree H x a → x ≡ Some k → H → Gives k a
   agree_typed {k = k} (typed {k = j} f) e h = let i : j ≡ k = cc in rw i at (f h)
   agree_typed untyped e h = let z : ◌≡◌ {A = ℕ} 0 1 = cc in absurd (omega arith)
 
-  agree_untyped : {x : KindAnswer} {a : Answer} → Agree H x a → x ≡ Untyped → a ≡ As.Stuck
+  agree_untyped : {x : (Option ℕ)} {a : Answer} → Agree H x a → x ≡ None → a ≡ As.Stuck
   agree_untyped (typed f) e = let z : ◌≡◌ {A = ℕ} 0 1 = cc in absurd (omega arith)
   agree_untyped untyped e = refl
 
 -- a typed operator is never stuck
-pub dyadic_typed : (op : ℕ) {v w : Value} {k : ℕ} → dyadic_kind op (kind_of v) (kind_of w) ≡ Kind k
+pub dyadic_typed : (op : ℕ) {v w : Value} {k : ℕ} → dyadic_kind op (kind_of v) (kind_of w) ≡ Some k
     → InRange v → InRange w → Gives k (dyadic_of op v w)
 dyadic_typed op {v} {w} e p q = agree_typed (dyadic_agree op v w) e (p, q)
 
-pub monadic_typed : (op : ℕ) {v : Value} {k : ℕ} → monadic_kind op (kind_of v) ≡ Kind k
+pub monadic_typed : (op : ℕ) {v : Value} {k : ℕ} → monadic_kind op (kind_of v) ≡ Some k
     → InRange v → Gives k (monadic_of op v)
 monadic_typed op {v} e p = agree_typed (monadic_agree op v) e p
 
 -- an untyped one always is
-pub dyadic_untyped : (op : ℕ) (v w : Value) → dyadic_kind op (kind_of v) (kind_of w) ≡ Untyped → dyadic_of op v w ≡ As.Stuck
+pub dyadic_untyped : (op : ℕ) (v w : Value) → dyadic_kind op (kind_of v) (kind_of w) ≡ None → dyadic_of op v w ≡ As.Stuck
 dyadic_untyped op v w e = agree_untyped (dyadic_agree op v w) e
 
-pub monadic_untyped : (op : ℕ) (v : Value) → monadic_kind op (kind_of v) ≡ Untyped → monadic_of op v ≡ As.Stuck
+pub monadic_untyped : (op : ℕ) (v : Value) → monadic_kind op (kind_of v) ≡ None → monadic_of op v ≡ As.Stuck
 monadic_untyped op v e = agree_untyped (monadic_agree op v) e

@@ -1,10 +1,10 @@
 -- What the layers above cite: where a variable's cells stand, that variables do not overlap, and how large frames are.
+use Rattle.std.specs.Prelude.{Ok}
 use mathlib.Core.Path.{◌≡◌, ◌∙◌}
 use mathlib.Core.List.{List}
 use Prim.Native.Nat.{ℕ, suc, ◌+◌, ◌-◌, ◌*◌, ◌≤◌, ◌<◌}
 use native.Mathlib.Omega.{arith}
 use lib.ListN.{get_or}
-use Rattle.image.specs.declared.Verdict.TheVariants.{Kept}
 use Rattle.image.specs.Rows.{row_at, rows_of}
 use Rattle.shapes.specs.Sizes.{size_of}
 use Rattle.types.specs.Question.{TypesAccepted}
@@ -22,7 +22,7 @@ use Rattle.places.proofs.Rooms.{width_small, room_both, room_up, room_small}
 use Rattle.places.proofs.Counting.{first_next}
 
 -- on accepted procedures every procedure's variables exist
-pub claims_kept : (v p s : List ℕ) → question6 v p s ≡ Kept → Claims v p
+pub claims_kept : (v p s : List ℕ) → question6 v p s ≡ Ok tt → Claims v p
 unfolding claimed_by
 claims_kept v p s e q h = ((procedures_kept v p s e).row q h).room
 
@@ -103,7 +103,7 @@ module _ (t f v : List ℕ) (k : ℕ) where
   global_within h = global_apart (globals_of v) h
 
 -- bounds of accepted tables
-module _ (t f v : List ℕ) (four : TypesAccepted t f) (five : question5 t v ≡ Kept) where
+module _ (t f v : List ℕ) (four : TypesAccepted t f) (five : question5 t v ≡ Ok tt) where
   pub width_kept : (k : ℕ) → k < rows_of v → width_of t f v k ≤ 4096
   width_kept k h =
       let typed = (variables_kept t v five k h).typed in

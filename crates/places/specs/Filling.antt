@@ -1,6 +1,6 @@
 -- What the functions that fill the plan ask and give.
+use Rattle.std.specs.Prelude.{Ok}
 use Rattle.std.specs.Prelude.{ℕ, ◌+◌, ◌≤◌, ◌<◌, ◌≡◌, List, length, get_or}
-use Rattle.image.specs.declared.Verdict.TheVariants.{Kept}
 use Rattle.image.specs.Rows.{row_at, rows_of}
 use Rattle.sizes.specs.Cells.{PLACES, FRAMES, FIRSTS, BOUNDS}
 use Rattle.types.specs.Question.{TypesAccepted}
@@ -49,6 +49,6 @@ pub record PlacesFit (t f v p plan : List ℕ) : Type 0 where
   pub few_variables : rows_of v ≤ 256
   pub few_procedures : rows_of p ≤ 64
   pub types : TypesAccepted t f
-  pub variables : question5 t v ≡ Kept
+  pub variables : question5 t v ≡ Ok tt
   pub claims : Claims v p
   pub planned : Plan t f (rows_of t) plan

@@ -1,4 +1,5 @@
 -- Laws of the walk up a record's bases, a row at a time.
+use Rattle.std.specs.Prelude.{None}
 use mathlib.Core.Path.{◌≡◌, refl, sym, ◌∙◌, ap}
 use mathlib.Core.Bool.{true, false}
 use mathlib.Core.List.{List}
@@ -12,7 +13,6 @@ use Rattle.prelude.proofs.Choice.{choose_yes, choose_no}
 use Rattle.prelude.proofs.Rec.{rec_eq, below_low, below_high}
 use Rattle.image.specs.declared.Row.{Row}
 use Rattle.image.specs.Rows.{row_at}
-use Rattle.relations.specs.declared.FieldAnswer.TheVariants.{Missing}
 use Rattle.shapes.specs.Forms.{form_of, form, base_of, of_base}
 use Rattle.relations.specs.Extends.{extends_to}
 use Rattle.relations.specs.Fields.{planned_own, planned_by, planned_field}
@@ -59,22 +59,22 @@ module _ (t : List ℕ) (u r : ℕ) where
 -- ---- fields
 
 module _ (t f plan : List ℕ) (n r : ℕ) {row : Row} (this_row : row ≡ row_at t r) where
-  planned_eq : planned_field t f plan n r ≡ planned_by f plan n (below Missing r (planned_field t f plan n)) r (form_of row)
+  planned_eq : planned_field t f plan n r ≡ planned_by f plan n (below None r (planned_field t f plan n)) r (form_of row)
   unfolding planned_field
   planned_eq =
-      rec_eq Missing (λ above r. planned_by f plan n above r (form t r)) r
-      ∙ ap (λ x. planned_by f plan n (below Missing r (planned_field t f plan n)) r x) (sym (row_form t r this_row))
+      rec_eq None (λ above r. planned_by f plan n above r (form t r)) r
+      ∙ ap (λ x. planned_by f plan n (below None r (planned_field t f plan n)) r x) (sym (row_form t r this_row))
 
-  pub planned_other : (row.kind ≡ 4 → ⊥) → planned_field t f plan n r ≡ Missing
+  pub planned_other : (row.kind ≡ 4 → ⊥) → planned_field t f plan n r ≡ None
   unfolding planned_by
   planned_other h =
       planned_eq
-      ∙ by_form row (λ x. planned_by f plan n (below Missing r (planned_field t f plan n)) r x ≡ Missing) (λ k. refl) (λ e m. refl) refl h
+      ∙ by_form row (λ x. planned_by f plan n (below None r (planned_field t f plan n)) r x ≡ None) (λ k. refl) (λ e m. refl) refl h
 
   module _ (kind : row.kind ≡ 4) where
     planned_record : planned_field t f plan n r
         ≡ choose (ltb n (get_or plan (INHERITED + r) 0))
-        (of_base Missing (below Missing r (planned_field t f plan n)) row.a)
+        (of_base None (below None r (planned_field t f plan n)) row.a)
         (planned_own f plan row.b row.c (n - get_or plan (INHERITED + r) 0))
     unfolding planned_by
     planned_record = planned_eq ∙ rw (form_record row kind)
@@ -84,14 +84,14 @@ module _ (t f plan : List ℕ) (n r : ℕ) {row : Row} (this_row : row ≡ row_a
     planned_own_lem h = planned_record ∙ choose_no _ _ _ (le-ltb n (get_or plan (INHERITED + r) 0) h)
 
     module _ (less : n < get_or plan (INHERITED + r) 0) where
-      planned_up : planned_field t f plan n r ≡ of_base Missing (below Missing r (planned_field t f plan n)) row.a
+      planned_up : planned_field t f plan n r ≡ of_base None (below None r (planned_field t f plan n)) row.a
       planned_up = planned_record ∙ choose_yes _ _ _ (lt-ltb n (get_or plan (INHERITED + r) 0) less)
 
-      pub planned_none : row.a ≡ 0 → planned_field t f plan n r ≡ Missing
-      planned_none e = planned_up ∙ up_none Missing (planned_field t f plan n) r row.a e
+      pub planned_none : row.a ≡ 0 → planned_field t f plan n r ≡ None
+      planned_none e = planned_up ∙ up_none None (planned_field t f plan n) r row.a e
 
-      pub planned_high : 0 < row.a → r ≤ row.a - 1 → planned_field t f plan n r ≡ Missing
-      planned_high h l = planned_up ∙ up_high Missing (planned_field t f plan n) r row.a h l
+      pub planned_high : 0 < row.a → r ≤ row.a - 1 → planned_field t f plan n r ≡ None
+      planned_high h l = planned_up ∙ up_high None (planned_field t f plan n) r row.a h l
 
       pub planned_low : 0 < row.a → row.a - 1 < r → planned_field t f plan n r ≡ planned_field t f plan n (row.a - 1)
-      planned_low h l = planned_up ∙ up_low Missing (planned_field t f plan n) r row.a h l
+      planned_low h l = planned_up ∙ up_low None (planned_field t f plan n) r row.a h l

@@ -1,4 +1,7 @@
 -- A plan that question 4 filled has every field at its offset.
+use Rattle.relations.specs.Fields.{field_at}
+use Rattle.relations.specs.declared.FieldAt.{FieldAt}
+use Rattle.std.specs.Prelude.{Option, Some, None}
 use mathlib.Core.Path.{◌≡◌, refl, sym, ◌∙◌, ap}
 use mathlib.Core.List.{List, [], ◌∷◌, ◌++◌, map}
 use mathlib.Core.Logic.{◌⊎◌, inl, inr, ⊎_elim}
@@ -17,8 +20,6 @@ use Rattle.image.specs.Rows.{row_at, rows_of}
 use Rattle.image.proofs.Bytes.{row_missing}
 use Rattle.types.specs.Question.{TypesAccepted}
 use Rattle.types.proofs.Accepted.{types_kept}
-use Rattle.relations.specs.declared.FieldAnswer.{FieldAnswer}
-use Rattle.relations.specs.declared.FieldAnswer.TheVariants.{Missing, Field}
 use Rattle.shapes.specs.Forms.{Form.record_of, form, of_base, own_types}
 use Rattle.shapes.specs.Sizes.{size_of, fields_of, offset_of}
 use Rattle.relations.specs.Fields.{field_of, planned_own, planned_field}
@@ -32,8 +33,8 @@ use Rattle.sizes.specs.Cells.{INHERITED, OFFSETS}
 
 -- ---- a field in a list of types
 
-abbrev field_in : (ℕ → ℕ) → List ℕ → ℕ → FieldAnswer
-field_in size l n = choose (ltb n (length l)) (Field (sum (map size (take n l))) (get_or l n 0)) Missing
+abbrev field_in : (ℕ → ℕ) → List ℕ → ℕ → Option FieldAt
+field_in size l n = choose (ltb n (length l)) (Some (field_at (sum (map size (take n l))) (get_or l n 0))) None
 
 sum_append : (a b : List ℕ) → sum (a ++ b) ≡ sum a + sum b
 unfolding sum
@@ -49,14 +50,14 @@ module _ (size : ℕ → ℕ) (l m : List ℕ) where
       ∙ sym (choose_yes _ _ _ (lt-ltb n (length l) h))
 
   field_back : (j : ℕ) → j < length m
-      → field_in size (l ++ m) (length l + j) ≡ Field (sum (map size l) + sum (map size (take j m))) (get_or m j 0)
+      → field_in size (l ++ m) (length l + j) ≡ Some (field_at (sum (map size l) + sum (map size (take j m))) (get_or m j 0))
   field_back j h =
       let whole : length l + j < length (l ++ m) = omega (arith, length-append l m) in
       let place : sum (map size (take (length l + j) (l ++ m))) ≡ sum (map size l) + sum (map size (take j m)) =
       rw (take-append-add l m j, map_append size l (take j m)) (sum_append (map size l) (map size (take j m))) in
       choose_yes _ _ _ (lt-ltb (length l + j) (length (l ++ m)) whole) ∙ rw (place, get_or-append-add l m j 0)
 
-  field_past : (j : ℕ) → length m ≤ j → field_in size (l ++ m) (length l + j) ≡ Missing
+  field_past : (j : ℕ) → length m ≤ j → field_in size (l ++ m) (length l + j) ≡ None
   field_past j h =
       let past : length (l ++ m) ≤ length l + j = omega (arith, length-append l m) in
       choose_no _ _ _ (le-ltb (length l + j) (length (l ++ m)) past)
@@ -67,8 +68,8 @@ field_in_lem : (t f : List ℕ) (r n : ℕ) → field_of t f r n ≡ field_in (s
 unfolding field_of
 field_in_lem t f r n = rw (offset_is t f r n)
 
-field_found : (t f : List ℕ) (r n at x : ℕ) → field_of t f r n ≡ Field at x
-    → (n < length (fields_of t f r)) × (Field (offset_of t f r n) (get_or (fields_of t f r) n 0) ≡ Field at x)
+field_found : (t f : List ℕ) (r n at x : ℕ) → field_of t f r n ≡ Some (field_at at x)
+    → (n < length (fields_of t f r)) × (Some (field_at (offset_of t f r n) (get_or (fields_of t f r) n 0)) ≡ Some (field_at at x))
 unfolding field_of
 field_found t f r n at x e =
     ⊎_elim
@@ -82,7 +83,7 @@ nth_cell (x ∷ l) zero d h = here
 nth_cell (x ∷ l) (suc n) d h = there (nth_cell l n d (omega arith))
 
 -- a field that exists stands in the list of its record's fields: where it begins, and its type
-pub field_nth : (t f : List ℕ) (r n at x : ℕ) → field_of t f r n ≡ Field at x
+pub field_nth : (t f : List ℕ) (r n at x : ℕ) → field_of t f r n ≡ Some (field_at at x)
     → (at ≡ offset_of t f r n) × Nth (fields_of t f r) n x
 field_nth t f r n at x e =
     let found = field_found t f r n at x e in
@@ -93,7 +94,7 @@ field_nth t f r n at x e =
 
 -- what begins with a type's fields has them too, at the same places
 pub field_more : (t f : List ℕ) (r u n : ℕ) {at x : ℕ} → Part (fields_of t f r) 0 (fields_of t f u)
-    → field_of t f u n ≡ Field at x → field_of t f r n ≡ Field at x
+    → field_of t f u n ≡ Some (field_at at x) → field_of t f r n ≡ Some (field_at at x)
 field_more t f r u n {at} {x} p e =
     field_in_lem t f r n
     ∙ ap (λ l. field_in (size_of t f) l n) p.seen
@@ -117,7 +118,7 @@ module _ (t f plan : List ℕ) (kept : TypesKept t f) (p : Plan t f (rows_of t) 
     own_field j = go (dec_lt j c)
       where
         go : Dec (j < c)
-            → choose (ltb j c) (Field (get_or plan (OFFSETS + (b + j)) 0) (row_at f (b + j)).a) Missing
+            → choose (ltb j c) (Some (field_at (get_or plan (OFFSETS + (b + j)) 0) (row_at f (b + j)))) None
             ≡ field_in (size_of t f) (inner ++ own_types f b c) (length inner + j)
         go (yes h) =
             choose_yes _ _ _ (lt-ltb j c h)
@@ -187,7 +188,7 @@ module _ (t f plan : List ℕ) (kept : TypesKept t f) (p : Plan t f (rows_of t) 
 -- ---- every type
 
 -- a type that is no row has no field
-no_field : (t f : List ℕ) (r n : ℕ) → rows_of t ≤ r → field_of t f r n ≡ Missing
+no_field : (t f : List ℕ) (r n : ℕ) → rows_of t ≤ r → field_of t f r n ≡ None
 no_field t f r n h =
     field_in_lem t f r n ∙ rw (missing_fields t f r h) (choose_no _ _ _ (le-ltb n 0 (omega arith)))
 

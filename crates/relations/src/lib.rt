@@ -36,11 +36,11 @@ pub fn extends(t: &[u8], r: u16, u: u16) -> bool
 }
 
 // Own field j of a record whose own fields are c rows from row b on.
-fn own_field(f: &[u8], plan: &[u32], b: u16, c: u16, j: usize) -> FieldAnswer
+fn own_field(f: &[u8], plan: &[u32], b: u16, c: u16, j: usize) -> Option<FieldAt>
     ensures { result ≡ planned_own f.now plan.now b c j }
 {
     if c as usize <= j {
-        return FieldAnswer::Missing;
+        return None;
     }
     let k = (b as usize) + j;
     let row = image::row_at(f, k);
@@ -49,7 +49,7 @@ fn own_field(f: &[u8], plan: &[u32], b: u16, c: u16, j: usize) -> FieldAnswer
 }
 
 // Field n of type row r, the base's fields counted first, as the plan has it.
-pub fn field(t: &[u8], f: &[u8], plan: &[u32], r: u16, n: u16) -> FieldAnswer
+pub fn field(t: &[u8], f: &[u8], plan: &[u32], r: u16, n: u16) -> Option<FieldAt>
     ensures { result ≡ planned_field t.now f.now plan.now n r }
 {
     let sought = n as usize;
@@ -61,18 +61,18 @@ pub fn field(t: &[u8], f: &[u8], plan: &[u32], r: u16, n: u16) -> FieldAnswer
         let b = row.b;
         let c = row.c;
         if kind != 4 {
-            return FieldAnswer::Missing;
+            return None;
         }
         let inherited = sizes::cell(plan, INHERITED + at) as usize;
         if inherited <= sought {
             return own_field(f, plan, b, c, sought - inherited);
         }
         if a == 0 {
-            return FieldAnswer::Missing;
+            return None;
         }
         let base = (a as usize) - 1;
         if at <= base {
-            return FieldAnswer::Missing;
+            return None;
         }
         at = base;
     }

@@ -1,4 +1,6 @@
 -- What question 11 says of an accepted statement row.
+use Rattle.std.specs.Prelude.{Option, Some, None}
+use Rattle.std.specs.Prelude.{Ok}
 use mathlib.Core.Path.{◌≡◌, refl, sym, ◌∙◌, ap}
 use mathlib.Core.Bool.{Bool, true}
 use mathlib.Core.List.{List}
@@ -8,12 +10,9 @@ use borrow.Author.Tests.{eqb-true, eq-eqb}
 use Rattle.prelude.specs.Choice.{choose}
 use Rattle.prelude.proofs.Choice.{choose_yes, also_true, clash}
 use Rattle.image.specs.declared.Row.{Row}
-use Rattle.image.specs.declared.Verdict.TheVariants.{Kept}
 use Rattle.image.specs.Rows.{row_at, rows_of}
 use Rattle.image.proofs.Faults.{all_each, verdict_kept}
 use Rattle.values.specs.Values.{BOOLEAN, INTEGER}
-use Rattle.kinds.specs.declared.KindAnswer.{KindAnswer}
-use Rattle.kinds.specs.declared.KindAnswer.TheVariants.{Untyped, Kind}
 use Rattle.relations.specs.Extends.{extends}
 use Rattle.frames.specs.Procedures.{first_variable}
 use Rattle.nodes.specs.Nodes.{is_designator}
@@ -32,8 +31,8 @@ use Rattle.rules.specs.Rules.{halt_rule, rule_by, statement_rule, rules_by, ques
 pub record AssignRuled (t f v p n : List ℕ) (q : ℕ) (row : Row) : Type 0 where
   pub source : ℕ
   pub target : ℕ
-  pub source_type : type_of t f v n row.b ≡ Kind source
-  pub target_type : type_of t f v n row.a ≡ Kind target
+  pub source_type : type_of t f v n row.b ≡ Some source
+  pub target_type : type_of t f v n row.a ≡ Some target
   pub extension : extends t source target ≡ true
   pub own_source : own_below v p n q row.b ≡ true
   pub own_target : own_below v p n q row.a ≡ true
@@ -41,7 +40,7 @@ pub record AssignRuled (t f v p n : List ℕ) (q : ℕ) (row : Row) : Type 0 whe
 -- argument row k, for parameter row a
 pub record ArgumentRuled (t f v p n : List ℕ) (q k a : ℕ) : Type 0 where
   pub passed : ℕ
-  pub passed_type : type_of t f v n k ≡ Kind passed
+  pub passed_type : type_of t f v n k ≡ Some passed
   pub extension : extends t passed (row_at v a).a ≡ true
   pub designator : (row_at v a).kind ≡ 3 → is_designator n (row_at n k).a ≡ true
   pub own : own_below v p n q k ≡ true
@@ -52,7 +51,7 @@ pub record CallRuled (t f v p n : List ℕ) (q : ℕ) (row : Row) : Type 0 where
 
 -- a statement whose node's type is row x
 pub record ValueRuled (t f v p n : List ℕ) (q : ℕ) (row : Row) (x : ℕ) : Type 0 where
-  pub type : type_of t f v n row.a ≡ Kind x
+  pub type : type_of t f v n row.a ≡ Some x
   pub own : own_below v p n q row.a ≡ true
 
 pub record HaltRuled (t f v p n : List ℕ) (q : ℕ) (row : Row) : Type 0 where
@@ -75,30 +74,30 @@ pub data StatementRuled (t f v p n s : List ℕ) (r : ℕ) : Type 0 where
 
 -- ---- what the rules say
 
-type_there : (a : KindAnswer) (x : ℕ) → is_type a x ≡ true → a ≡ Kind x
+type_there : (a : Option ℕ) (x : ℕ) → is_type a x ≡ true → a ≡ Some x
 unfolding is_type
-type_there Untyped x e = clash (sym e)
-type_there (Kind y) x e = ap Kind (eqb-true y x e)
+type_there None x e = clash (sym e)
+type_there (Some y) x e = ap Some (eqb-true y x e)
 
-assignable_there : (t : List ℕ) (a b : KindAnswer) → assignable t a b ≡ true
-    → (x : ℕ) × (y : ℕ) × (a ≡ Kind x) × (b ≡ Kind y) × (extends t x y ≡ true)
+assignable_there : (t : List ℕ) (a b : Option ℕ) → assignable t a b ≡ true
+    → (x : ℕ) × (y : ℕ) × (a ≡ Some x) × (b ≡ Some y) × (extends t x y ≡ true)
 unfolding assignable
-assignable_there t Untyped b e = clash (sym e)
-assignable_there t (Kind x) Untyped e = clash (sym e)
-assignable_there t (Kind x) (Kind y) e = (x, y, refl, refl, e)
+assignable_there t None b e = clash (sym e)
+assignable_there t (Some x) None e = clash (sym e)
+assignable_there t (Some x) (Some y) e = (x, y, refl, refl, e)
 
-passable_there : (t : List ℕ) (a : KindAnswer) (y : ℕ) → assignable t a (Kind y) ≡ true
-    → (x : ℕ) × (a ≡ Kind x) × (extends t x y ≡ true)
+passable_there : (t : List ℕ) (a : Option ℕ) (y : ℕ) → assignable t a (Some y) ≡ true
+    → (x : ℕ) × (a ≡ Some x) × (extends t x y ≡ true)
 unfolding assignable
-passable_there t Untyped y e = clash (sym e)
-passable_there t (Kind x) y e = (x, refl, e)
+passable_there t None y e = clash (sym e)
+passable_there t (Some x) y e = (x, refl, e)
 
 form_ruled : (n : List ℕ) (kind k : ℕ) → form_rule n kind k ≡ true → kind ≡ 3 → is_designator n (row_at n k).a ≡ true
 unfolding form_rule
 form_ruled n kind k e var = sym (choose_yes _ _ _ (eq-eqb kind 3 var)) ∙ e
 
 module _ (t f v p n : List ℕ) (q : ℕ) where
-  abbrev types : ℕ → KindAnswer
+  abbrev types : ℕ → Option ℕ
   types = type_of t f v n
 
   abbrev own : ℕ → Bool
@@ -155,7 +154,7 @@ module _ (t f v p n : List ℕ) (q : ℕ) where
 
 -- ---- the whole table
 
-module _ (t f v p n s : List ℕ) (e : question11 t f v p n s ≡ Kept) (r : ℕ) (h : r < rows_of s) where
+module _ (t f v p n s : List ℕ) (e : question11 t f v p n s ≡ Ok tt) (r : ℕ) (h : r < rows_of s) where
   -- where the kind is known
   ruled : (k : ℕ) → (row_at s r).kind ≡ k
       → rule_by t v p n (type_of t f v n) (own_below v p n (procedure_at p r)) k (row_at s r) ≡ true
@@ -188,7 +187,7 @@ module _ (t f v p n s : List ℕ) (e : question11 t f v p n s ≡ Kept) (r : ℕ
   unfolding rule_by choose
   halt_ruled k = halt_there t f v p n (procedure_at p r) (row_at s r) (ruled 7 k)
 
-  pub statements_ruled : question8 n p s ≡ Kept → StatementRuled t f v p n s r
+  pub statements_ruled : question8 n p s ≡ Ok tt → StatementRuled t f v p n s r
   statements_ruled formed = go (statements_kept n p s formed r h)
     where
       go : StatementRow n p s r → StatementRuled t f v p n s r

@@ -1,4 +1,5 @@
 -- Laws of a statement's rules.
+use Rattle.std.specs.Prelude.{Option, Some, None}
 use mathlib.Core.Path.{◌≡◌, sym, ◌∙◌, ap, fun_ext}
 use mathlib.Core.Bool.{Bool, false}
 use mathlib.Core.List.{List}
@@ -22,35 +23,33 @@ use Rattle.owners.specs.Owners.{Spans}
 use Rattle.owners.proofs.Owning.{span_own}
 use Rattle.owners.proofs.Spanning.{spans_known}
 use Rattle.places.specs.Places.{Firsts}
-use Rattle.kinds.specs.declared.KindAnswer.{KindAnswer}
-use Rattle.kinds.specs.declared.KindAnswer.TheVariants.{Untyped, Kind}
 use Rattle.relations.specs.Extends.{extends}
 use Rattle.rules.specs.Rules.{is_type, assignable, argument_rule, call_rule, rule_by, statement_rule, FirstTable, Ready, RowsFit}
 
-pub no_type : (x : KindAnswer) (r : ℕ) → x ≡ Untyped → is_type x r ≡ false
+pub no_type : (x : Option ℕ) (r : ℕ) → x ≡ None → is_type x r ≡ false
 unfolding is_type
 no_type x r e = rw e
 
-pub type_is : (x : KindAnswer) (r : ℕ) {k : ℕ} → x ≡ Kind k → is_type x r ≡ eqb k r
+pub type_is : (x : Option ℕ) (r : ℕ) {k : ℕ} → x ≡ Some k → is_type x r ≡ eqb k r
 unfolding is_type
 type_is x r e = rw e
 
-pub no_source : (t : List ℕ) (x y : KindAnswer) → x ≡ Untyped → assignable t x y ≡ false
+pub no_source : (t : List ℕ) (x y : Option ℕ) → x ≡ None → assignable t x y ≡ false
 unfolding assignable
 no_source t x y e = rw e
 
-pub no_target : (t : List ℕ) (x y : KindAnswer) {a : ℕ} → x ≡ Kind a → y ≡ Untyped → assignable t x y ≡ false
+pub no_target : (t : List ℕ) (x y : Option ℕ) {a : ℕ} → x ≡ Some a → y ≡ None → assignable t x y ≡ false
 unfolding assignable
 no_target t x y e d = rw (e, d)
 
-pub assignable_is : (t : List ℕ) (x y : KindAnswer) {a b : ℕ} → x ≡ Kind a → y ≡ Kind b → assignable t x y ≡ extends t a b
+pub assignable_is : (t : List ℕ) (x y : Option ℕ) {a b : ℕ} → x ≡ Some a → y ≡ Some b → assignable t x y ≡ extends t a b
 unfolding assignable
 assignable_is t x y e d = rw (e, d)
 
 -- ---- the arguments of a call
 
 -- a procedure that is not there has no parameters, and the table has the first parameter of every other
-pub call_is : (t v p n firsts : List ℕ) (type : ℕ → KindAnswer) (own : ℕ → Bool) → FirstTable v p firsts → (row called : Row) (first : ℕ)
+pub call_is : (t v p n firsts : List ℕ) (type : ℕ → Option ℕ) (own : ℕ → Bool) → FirstTable v p firsts → (row called : Row) (first : ℕ)
     → called ≡ row_at p row.a → first ≡ get_or firsts row.a 0
     → all_from (λ j. argument_rule t v n type own (row.b + j) (first + j)) 0 called.b ≡ call_rule t v p n type own row
 unfolding call_rule
@@ -80,7 +79,7 @@ first_few v p s kept q h = go (dec_lt q (rows_of p))
         let last : q ≡ rows_of p = omega arith in
         rw last (omega arith)
 
-module _ (t v p n s least past firsts : List ℕ) (ready : Ready v p n s least past firsts) (type : ℕ → KindAnswer) (r q : ℕ)
+module _ (t v p n s least past firsts : List ℕ) (ready : Ready v p n s least past firsts) (type : ℕ → Option ℕ) (r q : ℕ)
     (inside : r < rows_of s) (this_procedure : q ≡ procedure_at p r) where
   kept : ProceduresKept v p s
   kept = procedures_kept v p s ready.procedures

@@ -2,7 +2,6 @@
 #![tactic(auto)]
 
 ghost use Rattle.std.specs.Prelude.{◌≡◌, ℕ, ◌+◌, ◌≤◌, ◌<◌, length, get_or};
-ghost use Rattle.image.specs.declared.Verdict.TheVariants.{Kept};
 ghost use Rattle.image.specs.Faults.{all_from};
 ghost use Rattle.image.specs.Rows.{rows_of};
 ghost use Rattle.frames.specs.Procedures.{first_variable, question6};
@@ -11,26 +10,25 @@ ghost use Rattle.owners.specs.Owners.{span_of, span_in, within};
 ghost use Rattle.rules.specs.Rules.{is_type, assignable as is_assignable, assign_rule, form_rule, argument_rule};
 ghost use Rattle.rules.specs.Rules.{call_rule, type_rule, halt_rule, rule_by, rules_by, FirstTable, Ready, RowsFit};
 
-use image::{Row, Verdict};
-use kinds::KindAnswer;
+use image::Row;
 
 fn is_type(types: &[u16], k: usize, r: u16) -> bool
     ensures { result ≡ is_type (type_in types.now k) r }
 {
-    let KindAnswer::Kind(found) = typing::type_at(types, k) else {
+    let Some(found) = typing::type_at(types, k) else {
         return false;
     };
     found == r
 }
 
 // Whether a node of type `source` may go where one of type `target` stands.
-fn assignable(t: &[u8], source: KindAnswer, target: KindAnswer) -> bool
+fn assignable(t: &[u8], source: Option<u16>, target: Option<u16>) -> bool
     ensures { result ≡ is_assignable t.now source target }
 {
-    let KindAnswer::Kind(from) = source else {
+    let Some(from) = source else {
         return false;
     };
-    let KindAnswer::Kind(to) = target else {
+    let Some(to) = target else {
         return false;
     };
     relations::extends(t, from, to)
@@ -92,7 +90,7 @@ fn argument_rule(
     let kind = parameter.kind;
     let declared = parameter.a;
     let source = typing::type_at(types, k);
-    if !assignable(t, source, KindAnswer::Kind(declared)) {
+    if !assignable(t, source, Some(declared)) {
         return false;
     }
     if !form_rule(n, kind, k) {
@@ -237,7 +235,7 @@ fn rules_by(
     least: &[u16],
     past: &[u16],
     firsts: &[u32],
-) -> Verdict
+) -> Result<(), u16>
     requires { Ready v.now p.now n.now s.now least.now past.now firsts.now }
     ensures { result ≡ rules_by t.now v.now p.now n.now s.now (type_in types.now) }
 {
@@ -250,16 +248,16 @@ fn rules_by(
         let next = sizes::cell(firsts, q + 1);
         if !rule_by(t, v, p, n, types, least, past, firsts, first, next, row) {
             let bad = r as u16;
-            return Verdict::Fault(bad);
+            return Err(bad);
         }
         r = r + 1;
         q = statements::next_procedure(p, q, r);
     }
-    Verdict::Kept
+    Ok(())
 }
 
 // Question 11, by a table that holds the type of each node.
-pub fn check_rules(t: &[u8], v: &[u8], p: &[u8], n: &[u8], s: &[u8], types: &[u16]) -> Verdict
+pub fn check_rules(t: &[u8], v: &[u8], p: &[u8], n: &[u8], s: &[u8], types: &[u16]) -> Result<(), u16>
     requires { RowsFit v.now p.now n.now s.now }
     ensures { result ≡ rules_by t.now v.now p.now n.now s.now (type_in types.now) }
 {

@@ -1,11 +1,11 @@
 -- Document 01's starred cases as one table: the paper's words, and what the definitions give.
+use Rattle.std.specs.Prelude.{Ok}
 use mathlib.Core.Path.{◌≡◌, refl}
 use mathlib.Core.Bool.{true, false}
 use mathlib.Core.List.{List, [], ◌∷◌}
 use Prim.Native.Nat.{ℕ}
 use lib.IntN.{ℤ, pos, neg_ℤ}
 use Rattle.prelude.specs.Parts.{joined}
-use Rattle.image.specs.declared.Verdict.TheVariants.{Kept}
 use Rattle.values.specs.Values.{trap_number}
 use Rattle.values.specs.declared.Value.{Value}
 use Rattle.values.specs.declared.Value.TheVariants as Vs
@@ -16,7 +16,6 @@ use Rattle.operators.specs.Operators.{dyadic_of, monadic_of}
 use Rattle.shapes.specs.Sizes.{size_of, layout_of}
 use Rattle.relations.specs.Extends.{extends}
 use Rattle.types.specs.Question.{question4}
-use Rattle.checker.specs.declared.CheckAnswer.TheVariants.{Accepted}
 use Rattle.checker.specs.Check.{check_of, number_of}
 use Rattle.semantics.specs.declared.Found.{Found}
 use Rattle.semantics.specs.declared.Found.TheVariants as Fs
@@ -130,7 +129,7 @@ skipping = joined (
 
 -- 6. "FALSE & (7 DIV 0 = 1): FALSE." The right operand by itself traps; the program that asks both finishes.
 pub case_6 :
-    (check_of skipping ≡ Accepted)
+    (check_of skipping ≡ Ok tt)
     × (value_after skipping 0 5 ≡ As.Trap Ts.Divisor)
     × (value_after skipping 0 6 ≡ As.Val (Vs.Bool false))
     × (result_of skipping [] (zeros 32) [] 100 ≡ results 0 0 1 0 0 1 2 0 0 0 3 3)
@@ -150,7 +149,7 @@ field_rows = row 0 1 0 0 ∷ row 0 2 0 0 ∷ []
 pub case_7 :
     let types = joined type_rows in
     let fields = joined field_rows in
-    (question4 1 types fields ≡ Kept)
+    (question4 1 types fields ≡ Ok tt)
     × (size_of types fields 3 ≡ 1)
     × (size_of types fields 4 ≡ 2)
     × (layout_of types fields 4 ≡ 1 ∷ 2 ∷ [])
@@ -193,7 +192,7 @@ changing = joined (
 -- 8. "VAR of type 3 holding a 4: IS 4 TRUE; assigning a 3 to it: trap 3." Steps: the call; the jump, not taken; the
 -- assignment in row 3. The test is node 2, asked in the state after the call.
 pub case_8 :
-    (check_of changing ≡ Accepted)
+    (check_of changing ≡ Ok tt)
     × (value_after changing 1 2 ≡ As.Val (Vs.Bool true))
     × (result_of changing [] (zeros 32) [] 100 ≡ results 0 0 2 3 0 3 3 0 0 6 11 11)
 unfolding run
@@ -259,7 +258,7 @@ smallest =
 
 -- 10. "`doorrun` prints `0 0 1 0 0 0 1 0 0`.": "no inputs, 8,192 cells, 4,096 outputs, 100,000 steps"
 pub case_10 :
-    (check_of smallest ≡ Accepted)
+    (check_of smallest ≡ Ok tt)
     × (number_of (check_of smallest) ≡ 0)
     × (result_of smallest [] (zeros 8192) (zeros 4096) 100000 ≡ results 0 0 1 0 0 0 1 0 0 0 3 3)
 unfolding run

@@ -2,7 +2,7 @@
 -- finishes or traps its next step goes on, finishes, or ends in a named trap. It is never stuck.
 --
 -- The claim is `sound_after`, which is `demand3_from` at the fresh state. The definitions that it cites:
---   check_of, Accepted           checker/specs/Check: questions 1 to 11
+--   check_of, (Ok tt)           checker/specs/Check: questions 1 to 11
 --   Bytes                        image/specs/Rows: the image's numbers are bytes
 --   program_of, first_top, fresh specs/Running: the image's tables, G + F0, the fresh state
 --   tagged, Cell                 specs/Memory: cells with kinds
@@ -11,6 +11,7 @@
 --   Sound                        specs/Sound: sound states
 --   Unchanged, NextOk            specs/Demand3: what a trap leaves; a step that goes on, finishes or traps
 --   SoundAfter                   specs/Demand3: where the machine stands after n steps
+use Rattle.std.specs.Prelude.{Ok}
 use mathlib.Core.Path.{◌≡◌, refl}
 use mathlib.Core.List.{List}
 use Prim.Native.Nat.{ℕ, zero, suc, ◌≤◌}
@@ -19,7 +20,6 @@ use lib.ListN.{length}
 use Rattle.image.specs.Rows.{Bytes}
 use Rattle.header.specs.Header.{tables_in}
 use Rattle.header.proofs.Fitting.{part_bytes}
-use Rattle.checker.specs.declared.CheckAnswer.TheVariants.{Accepted}
 use Rattle.checker.specs.Check.{check_of}
 use Rattle.checker.proofs.Accepted.{AcceptedTables, image_accepted}
 use Rattle.semantics.specs.Memory.{Cell, tagged}
@@ -40,7 +40,7 @@ module _ (image : List ℕ) where
   abbrev program : Program
   program = program_of image
 
-  pub program_accepted : check_of image ≡ Accepted
+  pub program_accepted : check_of image ≡ Ok tt
       → AcceptedTables program.types program.fields program.variables program.procedures program.nodes
       program.statements
   unfolding program_of
@@ -86,14 +86,14 @@ module _ (g : Program)
       (λ u h. machine_sound n u h)
 
 -- from every sound state
-pub demand3_from : (image : List ℕ) → Bytes image → check_of image ≡ Accepted → (input : List ℤ) (s : State Cell)
+pub demand3_from : (image : List ℕ) → Bytes image → check_of image ≡ Ok tt → (input : List ℤ) (s : State Cell)
     → Sound (program_of image) s → (n : ℕ)
     → SoundAfter (program_of image) input (after tagged (program_of image) input n s)
 demand3_from image bytes accepted input s sound n =
     machine_sound (program_of image) (program_accepted image accepted) (program_bytes image bytes) input n s sound
 
 -- "Demand 3 is a single claim, about every number of steps from the fresh state"
-pub sound_after : (image : List ℕ) → Bytes image → check_of image ≡ Accepted
+pub sound_after : (image : List ℕ) → Bytes image → check_of image ≡ Ok tt
     → (input store output : List ℤ) → length store ≤ 65536 → first_top (program_of image) ≤ length store
     → (n : ℕ) → SoundAfter (program_of image) input
     (after tagged (program_of image) input n (fresh tagged (program_of image) store output))

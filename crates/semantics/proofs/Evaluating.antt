@@ -1,5 +1,7 @@
 -- Finding and evaluating from a sound state: an object of the node's type, a value of its kind, or a trap; and what
 -- cells below top read as.
+use Rattle.relations.specs.Fields.{field_at}
+use Rattle.std.specs.Prelude.{Option, Some}
 use mathlib.Core.Path.{◌≡◌, refl, sym, ◌∙◌, subst}
 use mathlib.Core.Bool.{true}
 use mathlib.Core.List.{[], List, ◌∷◌}
@@ -22,7 +24,6 @@ use Rattle.image.proofs.Versions.{three_rows}
 use Rattle.shapes.specs.Forms.{kind_in, is_single}
 use Rattle.shapes.proofs.Singles.{kind_single, single_layout}
 use Rattle.types.proofs.Accepted.{scalar_row}
-use Rattle.relations.specs.declared.FieldAnswer.TheVariants.{Field}
 use Rattle.relations.specs.Extends.{extends}
 use Rattle.relations.specs.Fields.{field_of}
 use Rattle.relations.proofs.Extension.{extends_refl, extends_trans}
@@ -37,8 +38,6 @@ use Rattle.values.proofs.Giving.{gives_boolean}
 use Rattle.values.proofs.Ranges.{constant_typed}
 use Rattle.values.proofs.Cases.{integer_only}
 use Rattle.values.proofs.Scalars.{scalar_below, below_scalar}
-use Rattle.kinds.specs.declared.KindAnswer.{KindAnswer}
-use Rattle.kinds.specs.declared.KindAnswer.TheVariants.{Kind}
 use Rattle.kinds.proofs.Scalars.{dyadic_scalar, monadic_scalar}
 use Rattle.operators.specs.Operators.{monadic_of, applied_to}
 use Rattle.operators.proofs.Typed.{monadic_typed as operator_typed}
@@ -362,13 +361,13 @@ module _ (g : Program)
       refl e object)
       (λ e. found_trap))
 
-  field_ok : (w j at x : ℕ) {m : Found} → field_of g.types g.fields w j ≡ Field at x → FoundOk g frames w m
+  field_ok : (w j at x : ℕ) {m : Found} → field_of g.types g.fields w j ≡ Some (field_at at x) → FoundOk g frames w m
       → FoundOk g frames x (reach m (λ whole. field_place whole (field_of g.types g.fields whole.declared j)))
   unfolding field_place
   field_ok w j at x field is =
       reach_ok (λ whole. field_place whole (field_of g.types g.fields whole.declared j)) is
       (λ place declared extended object.
-      let here : field_of g.types g.fields place.declared j ≡ Field at x = rw declared field in
+      let here : field_of g.types g.fields place.declared j ≡ Some (field_at at x) = rw declared field in
       rw here
       (object_ok (of_field j object (extension_field g.types g.fields ok.types place.dynamic
       place.declared j extended (object_typed g ok object) here))))
@@ -413,7 +412,7 @@ module _ (g : Program)
   -- ---- every node, from the low rows up
 
   abbrev Right : ℕ → Meaning → Type 0
-  Right r m = r < rows_of g.nodes → (x : ℕ) → type_of g.types g.fields g.variables g.nodes r ≡ Kind x
+  Right r m = r < rows_of g.nodes → (x : ℕ) → type_of g.types g.fields g.variables g.nodes r ≡ Some x
       → own_below g.variables g.procedures g.nodes procedure r ≡ true → MeaningOk g frames r x m
 
   abbrev by : (ℕ → Meaning) → ℕ → Row → Meaning
@@ -437,24 +436,24 @@ module _ (g : Program)
 
   module _ (r : ℕ) (child : ℕ → Meaning) (ih : (k : ℕ) → k < r → Right k (child k)) (low : r < rows_of g.nodes)
       (x : ℕ)
-      (typed : type_of g.types g.fields g.variables g.nodes r ≡ Kind x)
+      (typed : type_of g.types g.fields g.variables g.nodes r ≡ Some x)
       (own : own_below g.variables g.procedures g.nodes procedure r ≡ true) where
     abbrev row : Row
     row = row_at g.nodes r
 
-    abbrev types_of : ℕ → KindAnswer
+    abbrev types_of : ℕ → Option ℕ
     types_of k = type_of g.types g.fields g.variables g.nodes k
 
     abbrev owned : ℕ → Type 0
     owned k = own_below g.variables g.procedures g.nodes procedure k ≡ true
 
-    whole_place : (k w : ℕ) → Whole g.nodes r k → types_of k ≡ Kind w → owned k
+    whole_place : (k w : ℕ) → Whole g.nodes r k → types_of k ≡ Some w → owned k
         → FoundOk g frames w (child k).place
     whole_place k w is type own_child =
         let there_row = is.node.within in
         (ih k is.low there_row w type own_child).place (itself (designator_yes is.node))
 
-    child_value : (k w : ℕ) → k < r → k < rows_of g.nodes → types_of k ≡ Kind w → owned k
+    child_value : (k w : ℕ) → k < r → k < rows_of g.nodes → types_of k ≡ Some w → owned k
         → is_single g.types w ≡ true → Gives (kind_in g.types w) (child k).value
     child_value k w less there_row type own_child h = (ih k less there_row w type own_child).value h
 
@@ -595,7 +594,7 @@ module _ (g : Program)
   -- ---- what the statements cite
 
   module _ (r x : ℕ) (low : r < rows_of g.nodes)
-      (typed : type_of g.types g.fields g.variables g.nodes r ≡ Kind x)
+      (typed : type_of g.types g.fields g.variables g.nodes r ≡ Some x)
       (own : own_below g.variables g.procedures g.nodes procedure r ≡ true) where
     pub find_ok : Designates g r → FoundOk g frames x (find_of tagged g s.at.base s.at.top s.cells r)
     unfolding find_of

@@ -1,4 +1,6 @@
 -- Laws of extension, of guards, and of the globals that come first.
+use Rattle.relations.specs.Fields.{field_at}
+use Rattle.std.specs.Prelude.{Some}
 use mathlib.Core.Path.{◌≡◌, refl}
 use mathlib.Core.Bool.{Bool, true, false}
 use mathlib.Core.List.{List}
@@ -14,7 +16,6 @@ use Rattle.shapes.specs.Forms.{is_single}
 use Rattle.shapes.proofs.Singles.{single_base, single_low}
 use Rattle.shapes.proofs.Accepted.{TypesKept}
 use Rattle.shapes.proofs.ByKind.{base_record}
-use Rattle.relations.specs.declared.FieldAnswer.TheVariants.{Field}
 use Rattle.relations.specs.Extends.{extends}
 use Rattle.relations.specs.Fields.{field_of}
 use Rattle.relations.proofs.Extension.{Extends, Extends.same, Extends.up, extends_yes, extended_low, extension_begins}
@@ -60,8 +61,8 @@ module _ (t f : List ℕ) (kept : TypesKept t f) where
 
   -- a record's fields are an extension's too, at the same places
   pub extension_field : (r u n : ℕ) {offset x : ℕ} → extends t r u ≡ true → r < rows_of t
-      → field_of t f u n ≡ Field offset x
-      → field_of t f r n ≡ Field offset x
+      → field_of t f u n ≡ Some (field_at offset x)
+      → field_of t f r n ≡ Some (field_at offset x)
   extension_field r u n e h found =
       field_more t f r u n (extension_begins t f kept (extends_yes t r u e) h).fields found
 

@@ -1,5 +1,8 @@
 -- What demand 3 says of a run: its outcome has a number of the paper's, and the bare machine does the same. And what
 -- every run keeps, whatever the image: the numbers of traps and HALT, and output places that were not written.
+use Rattle.std.specs.Prelude.{Ok, Err}
+use Rattle.checker.specs.Check.{refused_at}
+use Rattle.checker.specs.Check.{CheckAnswer}
 use mathlib.Core.Path.{◌≡◌, refl, sym, ◌∙◌}
 use mathlib.Core.Bool.{Bool, true, false}
 use mathlib.Core.List.{List}
@@ -16,8 +19,6 @@ use Rattle.image.specs.Rows.{Bytes}
 use Rattle.values.specs.declared.Trap.{Trap}
 use Rattle.values.specs.Values.{trap_number}
 use Rattle.values.proofs.Ranges.{trap_range}
-use Rattle.checker.specs.declared.CheckAnswer.{CheckAnswer}
-use Rattle.checker.specs.declared.CheckAnswer.TheVariants.{Accepted, Refused}
 use Rattle.checker.specs.Check.{question_of, check_of, refusal_of, row_of}
 use Rattle.checker.proofs.Chain.{refused_first}
 use Rattle.checker.proofs.Accepted.{AcceptedTables}
@@ -158,17 +159,17 @@ steps_lent image input store output steps =
 
 -- ---- who is not refused
 
-checked : (image : List ℕ) → refusal_of (check_of image) ≡ 0 → check_of image ≡ Accepted
+checked : (image : List ℕ) → refusal_of (check_of image) ≡ 0 → check_of image ≡ Ok tt
 unfolding refusal_of check_of
 checked image none = go (check_of image) refl none
   where
-    go : (x : CheckAnswer) → check_of image ≡ x → refusal_of x ≡ 0 → check_of image ≡ Accepted
-    go Accepted e h = e
-    go (Refused q row) e h = let low = (refused_first (question_of image) 11 1 q row e).least in absurd (omega arith)
+    go : (x : CheckAnswer) → check_of image ≡ x → refusal_of x ≡ 0 → check_of image ≡ Ok tt
+    go (Ok tt) e h = e
+    go (Err (refused_at q row)) e h = let low = (refused_first (question_of image) 11 1 q row e).least in absurd (omega arith)
 
 -- a run without refusal: the check accepts, and questions 12 and 13 are answered by yes
 pub refusal_none : (image : List ℕ) (store : List ℤ) → refusal image store ≡ 0
-    → (check_of image ≡ Accepted) × (length store ≤ 65536) × (first_top (program_of image) ≤ length store)
+    → (check_of image ≡ Ok tt) × (length store ≤ 65536) × (first_top (program_of image) ≤ length store)
 unfolding refusal
 refusal_none image store e =
     ⊎_elim
@@ -183,7 +184,7 @@ refusal_none image store e =
     (choose_cases (eqb (refusal_of (check_of image)) 0) e)
 
 -- and back
-pub none_refusal : (image : List ℕ) (store : List ℤ) → check_of image ≡ Accepted → length store ≤ 65536
+pub none_refusal : (image : List ℕ) (store : List ℤ) → check_of image ≡ Ok tt → length store ≤ 65536
     → first_top (program_of image) ≤ length store → refusal image store ≡ 0
 unfolding refusal refusal_of
 none_refusal image store accepted most least =
@@ -191,7 +192,7 @@ none_refusal image store accepted most least =
     choose_yes _ _ _ (eq-eqb _ 0 none) ∙ choose_yes _ _ _ (le-leb _ 65536 most) ∙ choose_yes _ _ _ (le-leb _ _ least)
 
 -- an accepted image with too few cells
-pub refusal_13 : (image : List ℕ) (store : List ℤ) → check_of image ≡ Accepted → length store ≤ 65536
+pub refusal_13 : (image : List ℕ) (store : List ℤ) → check_of image ≡ Ok tt → length store ≤ 65536
     → length store < first_top (program_of image) → refusal image store ≡ 13
 unfolding refusal refusal_of
 refusal_13 image store accepted most few =
@@ -271,7 +272,7 @@ module _ (g : Program)
       let few = (run_ok n k mark s sound).outcome in
       run_follows g input n k mark s (λ three. absurd (omega arith))
 
-module _ (image : List ℕ) (bytes : Bytes image) (accepted : check_of image ≡ Accepted) (input store output : List ℤ)
+module _ (image : List ℕ) (bytes : Bytes image) (accepted : check_of image ≡ Ok tt) (input store output : List ℤ)
     (most : length store ≤ 65536) (least : first_top (program_of image) ≤ length store) (steps : ℕ) where
   abbrev first : State Cell
   first = fresh tagged (program_of image) store output

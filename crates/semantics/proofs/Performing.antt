@@ -1,4 +1,5 @@
 -- Each statement but the call, from a sound state: it goes on to a sound state, finishes, or ends in a trap.
+use Rattle.std.specs.Prelude.{Some}
 use mathlib.Core.Path.{◌≡◌, refl, sym, ◌∙◌, ap, subst}
 use mathlib.Core.Bool.{Bool, true, false}
 use mathlib.Core.List.{List, [], ◌∷◌}
@@ -25,7 +26,6 @@ use Rattle.values.specs.declared.Answer.{Answer}
 use Rattle.values.proofs.Cells.{cell_back}
 use Rattle.values.proofs.Cases.{boolean_only, integer_only}
 use Rattle.values.proofs.Scalars.{below_scalar}
-use Rattle.kinds.specs.declared.KindAnswer.TheVariants.{Kind}
 use Rattle.kinds.proofs.Scalars.{dyadic_scalar, monadic_scalar}
 use Rattle.nodes.specs.Nodes.{is_designator}
 use Rattle.nodes.proofs.Accepted.{Plain, constant_is}
@@ -132,7 +132,7 @@ input_range input i = go (is_integer (get_or input i (pos 0))) (get_or input i (
 module _ (g : Program)
     (ok : AcceptedTables g.types g.fields g.variables g.procedures g.nodes g.statements) where
   -- a node's type is a row
-  pub typed_low : (r x : ℕ) → type_of g.types g.fields g.variables g.nodes r ≡ Kind x
+  pub typed_low : (r x : ℕ) → type_of g.types g.fields g.variables g.nodes r ≡ Some x
       → x < rows_of g.types
   typed_low r x e =
       let said = ok.questions in
@@ -141,7 +141,7 @@ module _ (g : Program)
 
   -- "Assign: target, source": a source of a structured type is a designator
   pub structured_designator : (r x : ℕ) → Plain g.nodes r
-      → type_of g.types g.fields g.variables g.nodes r ≡ Kind x → (is_single g.types x ≡ true → ⊥)
+      → type_of g.types g.fields g.variables g.nodes r ≡ Some x → (is_single g.types x ≡ true → ⊥)
       → is_designator g.nodes r ≡ true
   structured_designator r x plain type structured =
       go (typed_node g.types g.fields g.variables g.nodes ok.questions.nodes r plain.within type)
@@ -322,7 +322,7 @@ module _ (g : Program)
   own_here r e = rw procedure_is e
 
   module _ (r x : ℕ) (low : r < rows_of g.nodes)
-      (typed : type_of g.types g.fields g.variables g.nodes r ≡ Kind x)
+      (typed : type_of g.types g.fields g.variables g.nodes r ≡ Some x)
       (own : own_below g.variables g.procedures g.nodes here r ≡ true) where
     pub found_here : Designates g r → FoundOk g frames x (found r)
     found_here d = find_ok g ok bytes s sound r x low typed (own_here r own) d

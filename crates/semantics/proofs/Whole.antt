@@ -1,12 +1,12 @@
 -- A whole program that the check accepts and that runs to its end, so that what is shown of accepted images is shown
 -- of something. It has an extended record passed to a VAR parameter and handed on, a nested call, a type test, guards
 -- and a HALT.
+use Rattle.std.specs.Prelude.{Ok}
 use mathlib.Core.Path.{◌≡◌, refl}
 use mathlib.Core.List.{List, [], ◌∷◌, map}
 use Prim.Native.Nat.{ℕ}
 use lib.IntN.{ℤ, pos}
 use Rattle.prelude.specs.Parts.{joined}
-use Rattle.checker.specs.declared.CheckAnswer.TheVariants.{Accepted}
 use Rattle.checker.specs.Check.{check_of}
 use Rattle.semantics.specs.Running.{result_of, store_after, output_after}
 use Rattle.semantics.proofs.Opened.{run}
@@ -72,7 +72,7 @@ whole = joined (
     ∷ row 4 0 0 0  -- 9 RETURN
     ∷ [])
 
-pub whole_accepted : check_of whole ≡ Accepted
+pub whole_accepted : check_of whole ≡ Ok tt
 unfolding run
 whole_accepted = refl
 

@@ -1,4 +1,7 @@
 -- Finding a designator and evaluating an expression.
+use Rattle.relations.specs.Fields.{field_at}
+use Rattle.relations.specs.declared.FieldAt.{FieldAt}
+use Rattle.std.specs.Prelude.{Option, Some, None}
 use Rattle.std.specs.Prelude.{ℕ, ◌+◌, ◌*◌, List, ltb, leb, eqb, ℤ, pos, negsuc}
 use Rattle.prelude.specs.Choice.{choose}
 use Rattle.prelude.specs.Rec.{rec}
@@ -6,8 +9,6 @@ use Rattle.image.specs.declared.Row.{Row}
 use Rattle.image.specs.Rows.{row_at}
 use Rattle.shapes.specs.Forms.{kind_in}
 use Rattle.shapes.specs.Sizes.{size_of}
-use Rattle.relations.specs.declared.FieldAnswer.{FieldAnswer}
-use Rattle.relations.specs.declared.FieldAnswer.TheVariants.{Missing, Field}
 use Rattle.relations.specs.Extends.{extends}
 use Rattle.relations.specs.Fields.{field_of}
 use Rattle.values.specs.Values.{constant_of, as_integer, bind}
@@ -69,9 +70,9 @@ variable_place m g base top cells a row =
     (choose (eqb row.kind 3) (parameter_place m top cells (base + place_of g a) row.a) Fs.Stuck))
 
 -- "2 field b (base's fields counted first) of a."
-unfoldable pub field_place : Place → FieldAnswer → Found
-field_place whole Missing = Fs.Stuck
-field_place whole (Field offset r) = object (whole.address + offset) r
+unfoldable pub field_place : Place → Option FieldAt → Found
+field_place whole None = Fs.Stuck
+field_place whole (Some (field_at offset r)) = object (whole.address + offset) r
 
 -- "3 element of a at b."; trap "1 index"
 unfoldable pub element_place : Program → Place → Row → ℤ → Found

@@ -1,9 +1,10 @@
 -- Sound states of the tagged machine. The frames are ghost data: what they say is of the cells, by place.
+use Rattle.relations.specs.Fields.{field_at}
+use Rattle.std.specs.Prelude.{Some}
 use Rattle.std.specs.Prelude.{ℕ, ◌+◌, ◌*◌, ◌≤◌, ◌<◌, ◌≡◌, true, List, [], ◌∷◌, ◌++◌, map, pos, length, take}
 use Rattle.prelude.specs.Parts.{joined}
 use Rattle.image.specs.Rows.{row_at, rows_of}
 use Rattle.shapes.specs.Sizes.{size_of, layout_of}
-use Rattle.relations.specs.declared.FieldAnswer.TheVariants.{Field}
 use Rattle.relations.specs.Extends.{extends}
 use Rattle.relations.specs.Fields.{field_of}
 use Rattle.frames.specs.Variables.{globals_of}
@@ -82,7 +83,7 @@ module _ (g : Program) where
         (row_at g.variables k).a
     of_older : {f : Frame} {fs : List Frame} {at r : ℕ} → Object fs at r → Object (f ∷ fs) at r
     of_field : {fs : List Frame} {at r offset u : ℕ} (j : ℕ) → Object fs at r
-        → field_of g.types g.fields r j ≡ Field offset u → Object fs (at + offset) u
+        → field_of g.types g.fields r j ≡ Some (field_at offset u) → Object fs (at + offset) u
     of_element : {fs : List Frame} {at r i : ℕ} → Object fs at r → (row_at g.types r).kind ≡ 3
         → i < (row_at g.types r).b → Object fs (at + i * size_of g.types g.fields (row_at g.types r).a) (row_at g.types r).a
 

@@ -1,4 +1,5 @@
 -- What question 8 says of an accepted statement row.
+use Rattle.std.specs.Prelude.{Ok}
 use mathlib.Core.Path.{◌≡◌, sym, ◌∙◌, ap}
 use mathlib.Core.Bool.{true}
 use mathlib.Core.List.{List}
@@ -10,7 +11,6 @@ use lib.Dec.{eqb}
 use Rattle.prelude.specs.Choice.{choose}
 use Rattle.prelude.proofs.Choice.{choose_yes, choose_cases, also_true, clash}
 use Rattle.image.specs.declared.Row.{Row}
-use Rattle.image.specs.declared.Verdict.TheVariants.{Kept}
 use Rattle.image.specs.Rows.{row_at, rows_of}
 use Rattle.image.specs.Faults.{KeptIn}
 use Rattle.image.proofs.Faults.{all_each, verdict_kept}
@@ -214,7 +214,7 @@ ends_row n p s r e =
 
 -- ---- the whole table
 
-module _ (n p s : List ℕ) (e : question8 n p s ≡ Kept) (r : ℕ) (h : r < rows_of s) where
+module _ (n p s : List ℕ) (e : question8 n p s ≡ Ok tt) (r : ℕ) (h : r < rows_of s) where
   kept : statement_kept n p s r ≡ true
   unfolding question8
   kept = verdict_kept (statement_kept n p s) (rows_of s) e r h
@@ -275,7 +275,7 @@ module _ (v p s : List ℕ) (kept : ProceduresKept v p s) (some : 1 ≤ rows_of 
   target_in b t = record { procedure = (in_body v p s kept some r h).procedure; start = t.start; end = t.end }
 
   -- and so does the row behind one that ends no body
-  pub behind_in : (n : List ℕ) → question8 n p s ≡ Kept → (Ends (row_at s r) → ⊥) → InBody p s (procedure_at p r) (r + 1)
+  pub behind_in : (n : List ℕ) → question8 n p s ≡ Ok tt → (Ends (row_at s r) → ⊥) → InBody p s (procedure_at p r) (r + 1)
   behind_in n e other =
       let b = in_body v p s kept some r h in
       let low = b.start in

@@ -10,7 +10,7 @@ ghost use Rattle.statements.specs.Statements.{begins_at, next_procedure, is_node
 ghost use Rattle.statements.specs.Statements.{assign_kept, call_kept, jump_kept, goto_kept, return_kept, read_kept};
 ghost use Rattle.statements.specs.Statements.{value_kept, form_kept, last_kept, statement_in, question8};
 
-use image::{Row, Verdict};
+use image::Row;
 
 // Whether a body begins behind procedure q's at statement row r.
 fn begins_at(p: &[u8], q: usize, r: usize) -> bool
@@ -276,7 +276,7 @@ fn statement_in(
 }
 
 // The lowest statement row at fault, by the runs of arguments.
-fn scan_statements(n: &[u8], runs: &[u16], p: &[u8], s: &[u8]) -> Verdict
+fn scan_statements(n: &[u8], runs: &[u16], p: &[u8], s: &[u8]) -> Result<(), u16>
     requires { (rows_of s.now ≤ 1024) × Runs n.now runs.now }
     ensures { result ≡ question8 n.now p.now s.now }
 {
@@ -287,16 +287,16 @@ fn scan_statements(n: &[u8], runs: &[u16], p: &[u8], s: &[u8]) -> Verdict
         let row = image::row_at(s, r);
         if !statement_in(n, runs, p, statements, q, r, row) {
             let bad = r as u16;
-            return Verdict::Fault(bad);
+            return Err(bad);
         }
         r = r + 1;
         q = next_procedure(p, q, r);
     }
-    Verdict::Kept
+    Ok(())
 }
 
 // Question 8. The runs of arguments go into a lent table, one number a node.
-pub fn check_statements(n: &[u8], p: &[u8], s: &[u8], runs: &mut [u16]) -> Verdict
+pub fn check_statements(n: &[u8], p: &[u8], s: &[u8], runs: &mut [u16]) -> Result<(), u16>
     requires { (rows_of n.now ≤ 2048) × (rows_of s.now ≤ 1024) × (rows_of n.now ≤ length runs.old) }
     ensures value { result ≡ question8 n.now p.now s.now }
     ensures runs { RunsIn n.now runs.old runs.new }

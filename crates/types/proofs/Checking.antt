@@ -1,4 +1,6 @@
 -- Laws of the loop that asks question 4, row by row.
+use Rattle.std.specs.Prelude.{Ok, Err}
+use Rattle.image.specs.Faults.{Verdict}
 use mathlib.Core.Path.{◌≡◌, sym, ◌∙◌, ap}
 use mathlib.Core.Bool.{true, false}
 use mathlib.Core.List.{List}
@@ -9,8 +11,6 @@ use lib.Dec.{eqb}
 use lib.ListN.{length, get_or}
 use Rattle.prelude.proofs.Choice.{also_yes, also_left, also_right}
 use Rattle.image.specs.declared.Row.{Row}
-use Rattle.image.specs.declared.Verdict.{Verdict}
-use Rattle.image.specs.declared.Verdict.TheVariants.{Kept, Fault}
 use Rattle.image.specs.Rows.{row_at, rows_of}
 use Rattle.image.specs.Faults.{KeptIn}
 use Rattle.image.proofs.Faults.{kept_none, kept_next, up_to_bad, up_to_some, up_to_end}
@@ -61,7 +61,7 @@ module _ {version : ℕ} (t f old plan : List ℕ) (r used : ℕ) (s : Sofar ver
   used_small = let fits = used_fits version t f r below in omega arith
 
   -- a row at fault
-  faulty : r < rows_of t → type_kept version t f r ≡ false → Answered version t f old plan (Fault r)
+  faulty : r < rows_of t → type_kept version t f r ≡ false → Answered version t f old plan (Err r)
   unfolding question4 passed
   faulty more bad = (up_to_bad (type_kept version t f) (rows_of t) _ r below within more bad, (planned, rest))
 
@@ -69,7 +69,7 @@ module _ {version : ℕ} (t f old plan : List ℕ) (r used : ℕ) (s : Sofar ver
     shape_same : shape_kept version t f used r row ≡ shape_kept version t f (used_below t r) r (row_at t r)
     shape_same = rw (this_row, claimed)
 
-    pub shape_bad : shape_kept version t f used r row ≡ false → Answered version t f old plan (Fault r)
+    pub shape_bad : shape_kept version t f used r row ≡ false → Answered version t f old plan (Err r)
     unfolding type_kept
     shape_bad e = faulty more (also_left _ (sym shape_same ∙ e))
 
@@ -85,7 +85,7 @@ module _ {version : ℕ} (t f old plan : List ℕ) (r used : ℕ) (s : Sofar ver
           ∙ size_agree (λ b. get_or plan b 0) (size_of t f) here_shape (λ b low. planned.size b low)
           ∙ sym (size_is t f r here_shape)
 
-      pub size_bad : 4096 < size → Answered version t f old plan (Fault r)
+      pub size_bad : 4096 < size → Answered version t f old plan (Err r)
       unfolding type_kept
       size_bad h = faulty more (also_right _ (lt-leb (size_of t f r) 4096 (let e = sized in omega arith)))
 
@@ -131,13 +131,13 @@ module _ {version : ℕ} (t f old plan : List ℕ) (r used : ℕ) (s : Sofar ver
     all_fields : eqb (used_below t (rows_of t)) (rows_of f) ≡ eqb used (rows_of f)
     all_fields = rw (claimed, all_rows)
 
-    pub fields_bad : (used ≡ rows_of f → ⊥) → Answered version t f old plan (Fault r)
+    pub fields_bad : (used ≡ rows_of f → ⊥) → Answered version t f old plan (Err r)
     unfolding question4 passed
     fields_bad h =
         let bad = all_fields ∙ ne_eqb used (rows_of f) h in
         (up_to_some (type_kept version t f) (rows_of t) _ r below within done bad, (planned, rest))
 
-    pub fields_good : used ≡ rows_of f → Answered version t f old plan Kept
+    pub fields_good : used ≡ rows_of f → Answered version t f old plan (Ok tt)
     unfolding question4 passed
     fields_good h = (
       up_to_end (type_kept version t f) (rows_of t) _ r below within done (all_fields ∙ eq-eqb used (rows_of f) h),

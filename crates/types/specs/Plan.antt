@@ -1,11 +1,11 @@
 -- The plan: a table of numbers that question 4 fills, so that a step need not add up sizes.
 -- Cell r: the size of type row r. Cell INHERITED + r: how many fields the record in row r has from its base.
 -- Cell OFFSETS + k: where field row k begins in its record.
+use Rattle.std.specs.Prelude.{Ok, Err}
+use Rattle.image.specs.Faults.{Verdict}
 use Rattle.std.specs.Prelude.{ℕ, ◌+◌, ◌≤◌, ◌<◌, ◌≡◌, List, map, length, get_or}
 use Rattle.prelude.specs.Parts.{sum}
 use Rattle.image.specs.Rows.{rows_of}
-use Rattle.image.specs.declared.Verdict.{Verdict}
-use Rattle.image.specs.declared.Verdict.TheVariants.{Kept, Fault}
 use Rattle.shapes.specs.Forms.{Form.record_of, form, base_of, of_base, own_types}
 use Rattle.shapes.specs.Sizes.{size_of, fields_of}
 use Rattle.shapes.specs.Shapes.{used_below}
@@ -35,5 +35,5 @@ pub record Rest (t : List ℕ) (n : ℕ) (old plan : List ℕ) : Type 0 where
 
 -- how many type rows were passed
 unfoldable pub passed : List ℕ → Verdict → ℕ
-passed t Kept = rows_of t
-passed t (Fault r) = r
+passed t (Ok tt) = rows_of t
+passed t (Err r) = r

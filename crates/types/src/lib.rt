@@ -9,7 +9,7 @@ ghost use Rattle.types.specs.Plan.{Plan, Rest, passed};
 ghost use Rattle.types.specs.Filling.{OffsetsFit, Offsets, Ready};
 ghost use Rattle.types.specs.Question.{question4};
 
-use image::{Row, Verdict};
+use image::Row;
 use sizes::{INHERITED, OFFSETS};
 
 // How many fields a record has from its base, by the plan's number for the base.
@@ -61,7 +61,7 @@ fn plan_row(t: &[u8], f: &[u8], plan: &mut [u32], used: usize, r: usize, row: Ro
 }
 
 // Question 4 of an image of a version, with the plan of the rows that it passes.
-pub fn check_types(version: u8, t: &[u8], f: &[u8], plan: &mut [u32]) -> Verdict
+pub fn check_types(version: u8, t: &[u8], f: &[u8], plan: &mut [u32]) -> Result<(), u16>
     requires { (rows_of t.now ≤ 64) × (rows_of f.now ≤ 256) × (PLACES ≤ length plan.old) }
     ensures value { result ≡ question4 version t.now f.now }
     ensures plan { Plan t.now f.now (passed t.now result) plan.new }
@@ -75,12 +75,12 @@ pub fn check_types(version: u8, t: &[u8], f: &[u8], plan: &mut [u32]) -> Verdict
         let row = image::row_at(t, r);
         if !shapes::shape_kept(version, t, f, used, r, row) {
             let bad = r as u16;
-            return Verdict::Fault(bad);
+            return Err(bad);
         }
         let size = sizes::type_size(f, plan, row);
         if 4096 < size {
             let large = r as u16;
-            return Verdict::Fault(large);
+            return Err(large);
         }
         let small = size as u32;
         plan_row(t, f, plan, used, r, row, small);
@@ -88,8 +88,8 @@ pub fn check_types(version: u8, t: &[u8], f: &[u8], plan: &mut [u32]) -> Verdict
         r = r + 1;
     }
     if used == fields {
-        return Verdict::Kept;
+        return Ok(());
     }
     let count = r as u16;
-    Verdict::Fault(count)
+    Err(count)
 }

@@ -1,4 +1,8 @@
 -- What question 10 says of an accepted node: its type, by its kind.
+use Rattle.relations.specs.Fields.{field_at}
+use Rattle.relations.specs.declared.FieldAt.{FieldAt}
+use Rattle.std.specs.Prelude.{Option, Some, None}
+use Rattle.std.specs.Prelude.{Ok}
 use mathlib.Core.Path.{◌≡◌, refl, sym, ◌∙◌, ap}
 use mathlib.Core.Bool.{Bool, true, false}
 use mathlib.Core.List.{List}
@@ -11,7 +15,6 @@ use Rattle.prelude.specs.Choice.{choose}
 use Rattle.prelude.proofs.Choice.{also_true, clash}
 use Rattle.prelude.proofs.Rec.{below_low, rec_eq}
 use Rattle.image.specs.declared.Row.{Row}
-use Rattle.image.specs.declared.Verdict.TheVariants.{Kept}
 use Rattle.image.specs.Rows.{row_at, rows_of}
 use Rattle.image.proofs.Faults.{verdict_kept}
 use Rattle.values.specs.Values.{BOOLEAN, INTEGER}
@@ -19,10 +22,6 @@ use Rattle.values.proofs.Scalars.{scalar_below}
 use Rattle.kinds.specs.Kinds.{dyadic_kind, monadic_kind}
 use Rattle.kinds.proofs.Scalars.{dyadic_scalar, monadic_scalar}
 use Rattle.shapes.specs.Forms.{kind_in}
-use Rattle.kinds.specs.declared.KindAnswer.{KindAnswer}
-use Rattle.kinds.specs.declared.KindAnswer.TheVariants.{Untyped, Kind}
-use Rattle.relations.specs.declared.FieldAnswer.{FieldAnswer}
-use Rattle.relations.specs.declared.FieldAnswer.TheVariants.{Missing, Field}
 use Rattle.relations.specs.Extends.{extends}
 use Rattle.relations.specs.Fields.{field_of}
 use Rattle.nodes.proofs.Accepted.{NodeRow, NodeRow.is_constant, NodeRow.is_variable, NodeRow.is_field}
@@ -44,15 +43,15 @@ use Rattle.typing.proofs.Lower.{field_row, element_row}
 pub record FieldTyped (t f v n : List ℕ) (r x : ℕ) : Type 0 where
   pub whole : ℕ
   pub at : ℕ
-  pub whole_type : type_of t f v n (row_at n r).a ≡ Kind whole
-  pub field : field_of t f whole (row_at n r).b ≡ Field at x
+  pub whole_type : type_of t f v n (row_at n r).a ≡ Some whole
+  pub field : field_of t f whole (row_at n r).b ≡ Some (field_at at x)
 
 pub record ElementTyped (t f v n : List ℕ) (r x : ℕ) : Type 0 where
   pub whole : ℕ
-  pub whole_type : type_of t f v n (row_at n r).a ≡ Kind whole
+  pub whole_type : type_of t f v n (row_at n r).a ≡ Some whole
   pub array : (row_at t whole).kind ≡ 3
   pub element : x ≡ (row_at t whole).a
-  pub index_type : type_of t f v n (row_at n r).b ≡ Kind INTEGER
+  pub index_type : type_of t f v n (row_at n r).b ≡ Some INTEGER
 
 -- a guard or a test of variable a for type b
 pub record Narrowing (t v : List ℕ) (a b : ℕ) : Type 0 where
@@ -67,14 +66,14 @@ pub record GuardTyped (t v n : List ℕ) (r x : ℕ) : Type 0 where
 pub record DyadicTyped (t f v n : List ℕ) (r x : ℕ) : Type 0 where
   pub left : ℕ
   pub right : ℕ
-  pub left_type : type_of t f v n (row_at n r).a ≡ Kind left
-  pub right_type : type_of t f v n (row_at n r).b ≡ Kind right
-  pub result : dyadic_kind (row_at n r).c (kind_in t left) (kind_in t right) ≡ Kind x
+  pub left_type : type_of t f v n (row_at n r).a ≡ Some left
+  pub right_type : type_of t f v n (row_at n r).b ≡ Some right
+  pub result : dyadic_kind (row_at n r).c (kind_in t left) (kind_in t right) ≡ Some x
 
 pub record MonadicTyped (t f v n : List ℕ) (r x : ℕ) : Type 0 where
   pub operand : ℕ
-  pub operand_type : type_of t f v n (row_at n r).a ≡ Kind operand
-  pub result : monadic_kind (row_at n r).c (kind_in t operand) ≡ Kind x
+  pub operand_type : type_of t f v n (row_at n r).a ≡ Some operand
+  pub result : monadic_kind (row_at n r).c (kind_in t operand) ≡ Some x
 
 pub record TestTyped (t v n : List ℕ) (r x : ℕ) : Type 0 where
   pub narrowing : Narrowing t v (row_at n r).a (row_at n r).b
@@ -90,38 +89,38 @@ pub data NodeTyped (t f v n : List ℕ) (r x : ℕ) : Type 0 where
   by_dyadic : (row_at n r).kind ≡ 5 → DyadicTyped t f v n r x → NodeTyped t f v n r x
   by_monadic : (row_at n r).kind ≡ 6 → MonadicTyped t f v n r x → NodeTyped t f v n r x
   by_test : (row_at n r).kind ≡ 7 → TestTyped t v n r x → NodeTyped t f v n r x
-  by_argument : (row_at n r).kind ≡ 8 → type_of t f v n (row_at n r).a ≡ Kind x → NodeTyped t f v n r x
+  by_argument : (row_at n r).kind ≡ 8 → type_of t f v n (row_at n r).a ≡ Some x → NodeTyped t f v n r x
 
 -- ---- what the definitions say
 
-no_kind : {C : Type 0} {x : ℕ} → Untyped ≡ Kind x → C
+no_kind : {C : Type 0} {x : ℕ} → None ≡ Some x → C
 no_kind e = let z : ◌≡◌ {A = ℕ} 0 1 = cc in absurd (omega arith)
 
-pub same_kind : {x y : ℕ} → Kind x ≡ Kind y → x ≡ y
+pub same_kind : {x y : ℕ} → Some x ≡ Some y → x ≡ y
 same_kind e = cc
 
-has_type_lem : (a : KindAnswer) → has_type a ≡ true → (x : ℕ) × (a ≡ Kind x)
+has_type_lem : (a : Option ℕ) → has_type a ≡ true → (x : ℕ) × (a ≡ Some x)
 unfolding has_type
-has_type_lem Untyped e = clash (sym e)
-has_type_lem (Kind x) e = (x, refl)
+has_type_lem None e = clash (sym e)
+has_type_lem (Some x) e = (x, refl)
 
-typed_is : (a : KindAnswer) (next : ℕ → KindAnswer) {x : ℕ} → typed a next ≡ Kind x
-    → (k : ℕ) × (a ≡ Kind k) × (next k ≡ Kind x)
+typed_is : (a : Option ℕ) (next : ℕ → Option ℕ) {x : ℕ} → typed a next ≡ Some x
+    → (k : ℕ) × (a ≡ Some k) × (next k ≡ Some x)
 unfolding typed
-typed_is Untyped next e = no_kind e
-typed_is (Kind k) next e = (k, refl, e)
+typed_is None next e = no_kind e
+typed_is (Some k) next e = (k, refl, e)
 
-choose_kind : (b : Bool) (a : KindAnswer) {x : ℕ} → choose b a Untyped ≡ Kind x → (b ≡ true) × (a ≡ Kind x)
+choose_kind : (b : Bool) (a : Option ℕ) {x : ℕ} → choose b a None ≡ Some x → (b ≡ true) × (a ≡ Some x)
 unfolding choose
 choose_kind true a e = (refl, e)
 choose_kind false a e = no_kind e
 
-field_there : (a : FieldAnswer) {x : ℕ} → field_type a ≡ Kind x → (at : ℕ) × (a ≡ Field at x)
+field_there : (a : Option FieldAt) {x : ℕ} → field_type a ≡ Some x → (at : ℕ) × (a ≡ Some (field_at at x))
 unfolding field_type
-field_there Missing e = no_kind e
-field_there (Field at type) e = let q : type ≡ _ = same_kind e in (at, rw q)
+field_there None e = no_kind e
+field_there (Some (field_at at type)) e = let q : type ≡ _ = same_kind e in (at, rw q)
 
-element_there : (array : Row) (index : ℕ) {x : ℕ} → element_type array index ≡ Kind x
+element_there : (array : Row) (index : ℕ) {x : ℕ} → element_type array index ≡ Some x
     → (array.kind ≡ 3) × (index ≡ INTEGER) × (x ≡ array.a)
 unfolding element_type
 element_there array index e =
@@ -136,7 +135,7 @@ narrowing_is t v a b e =
     let (declared, extension) = also_true _ _ e₁ in
     record { parameter = eqb-true _ _ kind; declared = eqb-true _ _ declared; extension = extension }
 
-narrow_there : (t v : List ℕ) (row : Row) (given : ℕ) {x : ℕ} → narrow_node t v row given ≡ Kind x
+narrow_there : (t v : List ℕ) (row : Row) (given : ℕ) {x : ℕ} → narrow_node t v row given ≡ Some x
     → Narrowing t v row.a row.b × (x ≡ given)
 unfolding narrow_node
 narrow_there t v row given e =
@@ -145,7 +144,7 @@ narrow_there t v row given e =
 
 -- ---- a node's type from its children's, which stand in lower rows
 
-module _ (t f v n : List ℕ) (r : ℕ) (g h : ℕ → KindAnswer) (same : (k : ℕ) → k < r → g k ≡ h k) where
+module _ (t f v n : List ℕ) (r : ℕ) (g h : ℕ → Option ℕ) (same : (k : ℕ) → k < r → g k ≡ h k) where
   type_agree : NodeRow t v n r
       → type_by t f v g (row_at n r).kind (row_at n r) ≡ type_by t f v h (row_at n r).kind (row_at n r)
   unfolding type_by choose field_node element_node dyadic_node monadic_node
@@ -163,12 +162,12 @@ module _ {version : ℕ} (t f v n : List ℕ) (kept : NodesAccepted version t v 
   pub type_is : type_of t f v n r ≡ type_by t f v (type_of t f v n) (row_at n r).kind (row_at n r)
   unfolding type_of
   type_is =
-      rec_eq Untyped (λ type k. type_by t f v type (row_at n k).kind (row_at n k)) r
-      ∙ type_agree t f v n r _ _ (λ k low. below_low Untyped r _ k low) (nodes_kept t v n kept r h)
+      rec_eq None (λ type k. type_by t f v type (row_at n k).kind (row_at n k)) r
+      ∙ type_agree t f v n r _ _ (λ k low. below_low None r _ k low) (nodes_kept t v n kept r h)
 
   -- where the node has a type
-  module _ {x : ℕ} (type : type_of t f v n r ≡ Kind x) where
-    given : (k : ℕ) → (row_at n r).kind ≡ k → type_by t f v (type_of t f v n) k (row_at n r) ≡ Kind x
+  module _ {x : ℕ} (type : type_of t f v n r ≡ Some x) where
+    given : (k : ℕ) → (row_at n r).kind ≡ k → type_by t f v (type_of t f v n) k (row_at n r) ≡ Some x
     given k kind = sym (ap (λ j. type_by t f v (type_of t f v n) j (row_at n r)) kind) ∙ sym type_is ∙ type
 
     pub constant_typed : (row_at n r).kind ≡ 0 → x ≡ (row_at n r).a
@@ -192,7 +191,7 @@ module _ {version : ℕ} (t f v n : List ℕ) (kept : NodesAccepted version t v 
         let (w, whole, e) = typed_is (type_of t f v n (row_at n r).a) _ (given 3 k) in
         let (i, index, e₁) = typed_is (type_of t f v n (row_at n r).b) _ e in
         let (array, integer, element) = element_there (row_at t w) i e₁ in
-        let integer_index = index ∙ ap Kind integer in
+        let integer_index = index ∙ ap Some integer in
         record { whole = w; whole_type = whole; array = array; element = element; index_type = integer_index }
 
     pub guard_typed : (row_at n r).kind ≡ 4 → GuardTyped t v n r x
@@ -220,7 +219,7 @@ module _ {version : ℕ} (t f v n : List ℕ) (kept : NodesAccepted version t v 
         let (narrowing, boolean) = narrow_there t v (row_at n r) _ (given 7 k) in
         record { narrowing = narrowing; boolean = boolean }
 
-    pub argument_typed : (row_at n r).kind ≡ 8 → type_of t f v n (row_at n r).a ≡ Kind x
+    pub argument_typed : (row_at n r).kind ≡ 8 → type_of t f v n (row_at n r).a ≡ Some x
     unfolding type_by choose
     argument_typed k = given 8 k
 
@@ -240,14 +239,14 @@ module _ {version : ℕ} (t f v n : List ℕ) (kept : NodesAccepted version t v 
 
 -- ---- the whole table
 
-pub nodes_typed : (t f v n : List ℕ) → question10 t f v n ≡ Kept → (r : ℕ) → r < rows_of n
-    → (x : ℕ) × (type_of t f v n r ≡ Kind x)
+pub nodes_typed : (t f v n : List ℕ) → question10 t f v n ≡ Ok tt → (r : ℕ) → r < rows_of n
+    → (x : ℕ) × (type_of t f v n r ≡ Some x)
 unfolding question10
 nodes_typed t f v n e r h = has_type_lem (type_of t f v n r) (verdict_kept _ (rows_of n) e r h)
 
-pub node_typed : {version : ℕ} (t f v n : List ℕ) → NodesAccepted version t v n → question10 t f v n ≡ Kept
+pub node_typed : {version : ℕ} (t f v n : List ℕ) → NodesAccepted version t v n → question10 t f v n ≡ Ok tt
     → (r : ℕ) → r < rows_of n
-    → (x : ℕ) × NodeTyped t f v n r x × (type_of t f v n r ≡ Kind x)
+    → (x : ℕ) × NodeTyped t f v n r x × (type_of t f v n r ≡ Some x)
 node_typed t f v n formed e r h =
     let (x, type) = nodes_typed t f v n e r h in
     (x, typed_node t f v n formed r h type, type)
@@ -255,9 +254,9 @@ node_typed t f v n formed e r h =
 -- ---- a node's type is a type row
 
 module _ {version : ℕ} (t f v n : List ℕ) (types : TypesKept t f) (scalars : 3 ≤ rows_of t)
-    (variables : question5 t v ≡ Kept) (nodes : NodesAccepted version t v n) where
+    (variables : question5 t v ≡ Ok tt) (nodes : NodesAccepted version t v n) where
   low_node : (r x : ℕ) → r < rows_of n
-      → ((k : ℕ) → k < r → (y : ℕ) → type_of t f v n k ≡ Kind y → y < rows_of t)
+      → ((k : ℕ) → k < r → (y : ℕ) → type_of t f v n k ≡ Some y → y < rows_of t)
       → NodeTyped t f v n r x → x < rows_of t
   low_node r x h ih (by_constant k e) = let low = (constant_is t v n nodes r h k).typed in omega arith
   low_node r x h ih (by_variable k e) =
@@ -281,15 +280,15 @@ module _ {version : ℕ} (t f v n : List ℕ) (types : TypesKept t f) (scalars :
   low_node r x h ih (by_test k e) = let zero_row = e.boolean in omega arith
   low_node r x h ih (by_argument k e) = ih (row_at n r).a (argument_is t v n nodes r h k).holds.low x e
 
-  low_by : (m r : ℕ) → r < m → (x : ℕ) → type_of t f v n r ≡ Kind x → x < rows_of t
+  low_by : (m r : ℕ) → r < m → (x : ℕ) → type_of t f v n r ≡ Some x → x < rows_of t
   low_by zero r less x type = absurd (omega arith)
   low_by (suc m) r less x type = go (dec_lt r (rows_of n)) (λ k low. low_by m k (omega arith))
     where
-      go : Dec (r < rows_of n) → ((k : ℕ) → k < r → (y : ℕ) → type_of t f v n k ≡ Kind y → y < rows_of t) → x < rows_of t
+      go : Dec (r < rows_of n) → ((k : ℕ) → k < r → (y : ℕ) → type_of t f v n k ≡ Some y → y < rows_of t) → x < rows_of t
       go (yes h) ih = low_node r x h ih (typed_node t f v n nodes r h type)
       go (no h) ih = no_kind (sym (type_missing t f v n r (omega arith)) ∙ type)
 
-pub type_low : {version : ℕ} (t f v n : List ℕ) → TypesAccepted t f → 3 ≤ rows_of t → question5 t v ≡ Kept
-    → NodesAccepted version t v n → (r x : ℕ) → type_of t f v n r ≡ Kind x → x < rows_of t
+pub type_low : {version : ℕ} (t f v n : List ℕ) → TypesAccepted t f → 3 ≤ rows_of t → question5 t v ≡ Ok tt
+    → NodesAccepted version t v n → (r x : ℕ) → type_of t f v n r ≡ Some x → x < rows_of t
 type_low t f v n types scalars variables nodes r x =
     low_by t f v n (types_kept t f types) scalars variables nodes (suc r) r (omega arith) x

@@ -1,4 +1,7 @@
 -- Laws of a node's type from those of its children.
+use Rattle.relations.specs.Fields.{field_at}
+use Rattle.relations.specs.declared.FieldAt.{FieldAt}
+use Rattle.std.specs.Prelude.{Option, Some, None}
 use mathlib.Core.Path.{◌≡◌, ◌∙◌}
 use mathlib.Core.List.{List}
 use Prim.Native.Nat.{ℕ}
@@ -6,38 +9,34 @@ use borrow.Author.Tests.{eq-eqb, ne_eqb}
 use Rattle.prelude.proofs.Choice.{choose_yes, choose_no}
 use Rattle.image.specs.declared.Row.{Row}
 use Rattle.image.specs.Rows.{row_at}
-use Rattle.relations.specs.declared.FieldAnswer.{FieldAnswer}
-use Rattle.relations.specs.declared.FieldAnswer.TheVariants.{Missing, Field}
-use Rattle.kinds.specs.declared.KindAnswer.{KindAnswer}
-use Rattle.kinds.specs.declared.KindAnswer.TheVariants.{Untyped, Kind}
 use Rattle.typing.specs.Typing.{typed, field_type, element_type}
 
-pub typed_none : (x : KindAnswer) (next : ℕ → KindAnswer) → x ≡ Untyped → typed x next ≡ Untyped
+pub typed_none : (x : Option ℕ) (next : ℕ → Option ℕ) → x ≡ None → typed x next ≡ None
 unfolding typed
 typed_none x next e = rw e
 
-pub typed_known : (x : KindAnswer) (next : ℕ → KindAnswer) {r : ℕ} → x ≡ Kind r → typed x next ≡ next r
+pub typed_known : (x : Option ℕ) (next : ℕ → Option ℕ) {r : ℕ} → x ≡ Some r → typed x next ≡ next r
 unfolding typed
 typed_known x next e = rw e
 
-pub missing_type : (x : FieldAnswer) → x ≡ Missing → field_type x ≡ Untyped
+pub missing_type : (x : Option FieldAt) → x ≡ None → field_type x ≡ None
 unfolding field_type
 missing_type x e = rw e
 
-pub field_type_lem : (x : FieldAnswer) {at type : ℕ} → x ≡ Field at type → field_type x ≡ Kind type
+pub field_type_lem : (x : Option FieldAt) {at type : ℕ} → x ≡ Some (field_at at type) → field_type x ≡ Some type
 unfolding field_type
 field_type_lem x e = rw e
 
 module _ (t : List ℕ) (r index : ℕ) (row : Row) (this_row : row ≡ row_at t r) where
-  pub no_array : (row.kind ≡ 3 → ⊥) → element_type (row_at t r) index ≡ Untyped
+  pub no_array : (row.kind ≡ 3 → ⊥) → element_type (row_at t r) index ≡ None
   unfolding element_type
   no_array h = rw (← this_row) (choose_no _ _ _ (ne_eqb row.kind 3 h))
 
   module _ (kind : row.kind ≡ 3) where
-    pub no_index : (index ≡ 1 → ⊥) → element_type (row_at t r) index ≡ Untyped
+    pub no_index : (index ≡ 1 → ⊥) → element_type (row_at t r) index ≡ None
     unfolding element_type
     no_index h = rw (← this_row) (choose_yes _ _ _ (eq-eqb row.kind 3 kind) ∙ choose_no _ _ _ (ne_eqb index 1 h))
 
-    pub element_type_lem : index ≡ 1 → element_type (row_at t r) index ≡ Kind row.a
+    pub element_type_lem : index ≡ 1 → element_type (row_at t r) index ≡ Some row.a
     unfolding element_type
     element_type_lem h = rw (← this_row) (choose_yes _ _ _ (eq-eqb row.kind 3 kind) ∙ choose_yes _ _ _ (eq-eqb index 1 h))

@@ -1,4 +1,6 @@
 -- The types of fields and elements are rows of the types table.
+use Rattle.relations.specs.Fields.{field_at}
+use Rattle.std.specs.Prelude.{Some}
 use mathlib.Core.Path.{◌≡◌}
 use mathlib.Core.List.{List}
 use Prim.Native.Nat.{ℕ, ◌<◌}
@@ -7,13 +9,12 @@ use Rattle.prelude.proofs.Each.{each_nth}
 use Rattle.image.specs.Rows.{row_at, rows_of}
 use Rattle.shapes.proofs.Accepted.{TypesKept}
 use Rattle.shapes.proofs.ByKind.{array_row, fields_low}
-use Rattle.relations.specs.declared.FieldAnswer.TheVariants.{Field}
 use Rattle.relations.specs.Fields.{field_of}
 use Rattle.relations.proofs.Fielding.{field_nth}
 
 module _ (t f : List ℕ) (kept : TypesKept t f) where
   -- a field's type is a row
-  pub field_row : (r n at x : ℕ) → r < rows_of t → field_of t f r n ≡ Field at x → x < rows_of t
+  pub field_row : (r n at x : ℕ) → r < rows_of t → field_of t f r n ≡ Some (field_at at x) → x < rows_of t
   field_row r n at x low e =
       let less = each_nth (fields_low t f kept r low) (field_nth t f r n at x e).1 in
       omega arith

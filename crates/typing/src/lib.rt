@@ -9,56 +9,55 @@ ghost use Rattle.typing.specs.Typing.{type_in, variable_node, field_node, elemen
 ghost use Rattle.typing.specs.Typing.{narrow_node};
 ghost use Rattle.typing.specs.Typing.{dyadic_node, monadic_node, type_by, type_of, passed, Typed, question10};
 
-use image::{Row, Verdict};
-use kinds::KindAnswer;
-use relations::FieldAnswer;
+use image::Row;
+use relations::FieldAt;
 
 // The type of node k in a table of the lower rows' types.
-pub fn type_at(types: &[u16], k: usize) -> KindAnswer
+pub fn type_at(types: &[u16], k: usize) -> Option<u16>
     ensures { result ≡ type_in types.now k }
 {
     if k < types.len() {
-        return KindAnswer::Kind(types[k]);
+        return Some(types[k]);
     }
-    KindAnswer::Untyped
+    None
 }
 
-fn field_node(t: &[u8], f: &[u8], plan: &[u32], types: &[u16], row: Row) -> KindAnswer
+fn field_node(t: &[u8], f: &[u8], plan: &[u32], types: &[u16], row: Row) -> Option<u16>
     requires { TypesAccepted t.now f.now × Plan t.now f.now (rows_of t.now) plan.now }
     ensures { result ≡ field_node t.now f.now (type_in types.now) row }
 {
     let a = row.a;
     let b = row.b;
-    let KindAnswer::Kind(whole) = type_at(types, a as usize) else {
-        return KindAnswer::Untyped;
+    let Some(whole) = type_at(types, a as usize) else {
+        return None;
     };
     match relations::field(t, f, plan, whole, b) {
-        FieldAnswer::Missing => KindAnswer::Untyped,
-        FieldAnswer::Field(_, part) => KindAnswer::Kind(part),
+        None => None,
+        Some(FieldAt { offset: _, declared: part }) => Some(part),
     }
 }
 
-fn element_node(t: &[u8], types: &[u16], row: Row) -> KindAnswer
+fn element_node(t: &[u8], types: &[u16], row: Row) -> Option<u16>
     ensures { result ≡ element_node t.now (type_in types.now) row }
 {
     let a = row.a;
     let b = row.b;
-    let KindAnswer::Kind(whole) = type_at(types, a as usize) else {
-        return KindAnswer::Untyped;
+    let Some(whole) = type_at(types, a as usize) else {
+        return None;
     };
-    let KindAnswer::Kind(index) = type_at(types, b as usize) else {
-        return KindAnswer::Untyped;
+    let Some(index) = type_at(types, b as usize) else {
+        return None;
     };
     let array = image::row_at(t, whole as usize);
     let kind = array.kind;
     let element = array.a;
     if kind != 3 {
-        return KindAnswer::Untyped;
+        return None;
     }
     if index != 1 {
-        return KindAnswer::Untyped;
+        return None;
     }
-    KindAnswer::Kind(element)
+    Some(element)
 }
 
 // Whether a guard or test may narrow variable a to type b.
@@ -79,63 +78,63 @@ fn narrows(t: &[u8], v: &[u8], a: u16, b: u16) -> bool
     relations::extends(t, b, declared)
 }
 
-fn narrow_node(t: &[u8], v: &[u8], row: Row, given: u16) -> KindAnswer
+fn narrow_node(t: &[u8], v: &[u8], row: Row, given: u16) -> Option<u16>
     ensures { result ≡ narrow_node t.now v.now row given }
 {
     let a = row.a;
     let b = row.b;
     if narrows(t, v, a, b) {
-        return KindAnswer::Kind(given);
+        return Some(given);
     }
-    KindAnswer::Untyped
+    None
 }
 
-fn dyadic_node(t: &[u8], types: &[u16], row: Row) -> KindAnswer
+fn dyadic_node(t: &[u8], types: &[u16], row: Row) -> Option<u16>
     ensures { result ≡ dyadic_node t.now (type_in types.now) row }
 {
     let a = row.a;
     let b = row.b;
     let c = row.c;
-    let KindAnswer::Kind(left) = type_at(types, a as usize) else {
-        return KindAnswer::Untyped;
+    let Some(left) = type_at(types, a as usize) else {
+        return None;
     };
-    let KindAnswer::Kind(right) = type_at(types, b as usize) else {
-        return KindAnswer::Untyped;
+    let Some(right) = type_at(types, b as usize) else {
+        return None;
     };
     let first = shapes::kind_in(t, left);
     let second = shapes::kind_in(t, right);
     kinds::dyadic_kind(c, first, second)
 }
 
-fn monadic_node(t: &[u8], types: &[u16], row: Row) -> KindAnswer
+fn monadic_node(t: &[u8], types: &[u16], row: Row) -> Option<u16>
     ensures { result ≡ monadic_node t.now (type_in types.now) row }
 {
     let a = row.a;
     let c = row.c;
-    let KindAnswer::Kind(operand) = type_at(types, a as usize) else {
-        return KindAnswer::Untyped;
+    let Some(operand) = type_at(types, a as usize) else {
+        return None;
     };
     let kind = shapes::kind_in(t, operand);
     kinds::monadic_kind(c, kind)
 }
 
-fn variable_node(v: &[u8], row: Row) -> KindAnswer
+fn variable_node(v: &[u8], row: Row) -> Option<u16>
     ensures { result ≡ variable_node v.now row }
 {
     let variable = image::row_at(v, row.a as usize);
     let declared = variable.a;
-    KindAnswer::Kind(declared)
+    Some(declared)
 }
 
 // The type of a node from those of the lower rows.
-fn node_type(t: &[u8], f: &[u8], plan: &[u32], v: &[u8], types: &[u16], row: Row) -> KindAnswer
+fn node_type(t: &[u8], f: &[u8], plan: &[u32], v: &[u8], types: &[u16], row: Row) -> Option<u16>
     requires { TypesAccepted t.now f.now × Plan t.now f.now (rows_of t.now) plan.now }
     ensures { result ≡ type_by t.now f.now v.now (type_in types.now)
         row.kind row }
 {
     let kind = row.kind;
     match kind {
-        0 => KindAnswer::Kind(row.a),
+        0 => Some(row.a),
         1 => variable_node(v, row),
         2 => field_node(t, f, plan, types, row),
         3 => element_node(t, types, row),
@@ -144,7 +143,7 @@ fn node_type(t: &[u8], f: &[u8], plan: &[u32], v: &[u8], types: &[u16], row: Row
         6 => monadic_node(t, types, row),
         7 => narrow_node(t, v, row, 0),
         8 => type_at(types, row.a as usize),
-        _ => KindAnswer::Untyped,
+        _ => None,
     }
 }
 
@@ -156,7 +155,7 @@ pub fn check_typing(
     v: &[u8],
     n: &[u8],
     types: &mut [u16],
-) -> Verdict
+) -> Result<(), u16>
     requires { TypesAccepted t.now f.now × Plan t.now f.now (rows_of t.now) plan.now × (rows_of
         n.now ≤ 2048) × (rows_of n.now ≤ length types.old) }
     ensures value { result ≡ question10 t.now f.now v.now n.now }
@@ -167,12 +166,12 @@ pub fn check_typing(
     let mut r: usize = 0;
     while r < nodes {
         let row = image::row_at(n, r);
-        let KindAnswer::Kind(given) = node_type(t, f, plan, v, &types[..r], row) else {
+        let Some(given) = node_type(t, f, plan, v, &types[..r], row) else {
             let bad = r as u16;
-            return Verdict::Fault(bad);
+            return Err(bad);
         };
         types[r] = given;
         r = r + 1;
     }
-    Verdict::Kept
+    Ok(())
 }

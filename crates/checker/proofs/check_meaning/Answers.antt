@@ -14,7 +14,7 @@ pub returns : goal.returns
 unfolding table_question choose
 returns c = let nodes = c.rows_of-nodes in
     let k = c.check_typing-typed.ensures in
-    let kept = c.in-Kept.is in
+    let kept = c.in-Ok.is in
     let all = rules_all _ _ _ _ _ _ _ k.types c.requires.4 c.args.p.now c.args.s.now kept in record {
       by_index = λ version. c.answer_of-2.ensures
           ∙ sym (chain_next _ 10 1 k.value kept ∙ chain_last _ 11 0 (c.check_rules-ruled.ensures ∙ rw nodes.ensures all) refl);

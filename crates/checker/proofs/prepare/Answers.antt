@@ -1,12 +1,12 @@
+use Rattle.std.specs.Prelude.{Ok}
+use Rattle.checker.specs.Check.{CheckAnswer}
 use mathlib.Core.Path.{◌≡◌, sym, ◌∙◌}
 use mathlib.Core.List.{List}
 use Prim.Native.Nat.{ℕ}
 use native.Mathlib.Omega.{arith}
 use Rattle.header.specs.declared.Tables.{Tables}
-use Rattle.header.specs.declared.HeaderAnswer.TheVariants.{Yes}
 use Rattle.header.specs.Header.{version_of, header_of, part_of}
 use Rattle.header.proofs.Fitting.{header_fits}
-use Rattle.checker.specs.declared.CheckAnswer.{CheckAnswer}
 use Rattle.checker.specs.Check.{check_of, table_question, first_no}
 use Rattle.checker.specs.Prepared.{Leaves, Prepared.untouched}
 use Rattle.checker.proofs.Asking.{header_no, header_yes, counts_fit, prepared_no, prepared_yes}
@@ -14,7 +14,7 @@ use Rattle.checker.proofs.Bounds.{bounds_fit}
 use Rattle.checker.proofs.prepare.Goals as goal
 
 -- what the tables' check says and leaves
-module _ (image plan : List ℕ) (ts : Tables) (yes : header_of image ≡ Yes ts) (t f v p n s left : List ℕ) (answer : CheckAnswer)
+module _ (image plan : List ℕ) (ts : Tables) (yes : header_of image ≡ Ok ts) (t f v p n s left : List ℕ) (answer : CheckAnswer)
     (at-t : t ≡ part_of image ts.types)
     (at-f : f ≡ part_of image ts.fields)
     (at-v : v ≡ part_of image ts.variables)
@@ -31,7 +31,7 @@ module _ (image plan : List ℕ) (ts : Tables) (yes : header_of image ≡ Yes ts
 
 pub bounds-image-0 : goal.bounds-image-0
 bounds-image-0 c =
-    let types = (header_fits _ _ (sym c.header.ensures ∙ c.in-Yes.is)).types in
+    let types = (header_fits _ _ (sym c.header.ensures ∙ c.in-Ok.is)).types in
     omega (arith, types.start, types.end, types.within)
 
 pub check_tables-answer-requires : goal.check_tables-answer-requires
@@ -43,14 +43,14 @@ check_tables-answer-requires c = (
     c.part-p.ensures,
     c.part-n.ensures,
     c.part-s.ensures,
-  ) (counts_fit _ (sym c.header.ensures ∙ c.in-Yes.is)),
+  ) (counts_fit _ (sym c.header.ensures ∙ c.in-Ok.is)),
   omega (arith, c.requires),
 )
 
 pub returns-in_default : goal.returns-in_default
 unfolding version_of
 returns-in_default c =
-    let yes = sym c.header.ensures ∙ c.in-Yes.is in
+    let yes = sym c.header.ensures ∙ c.in-Ok.is in
     let k = c.check_tables-answer.ensures in
     let left = leaves _ _ _ yes _ _ _ _ _ _ _ _ c.part-t.ensures c.part-f.ensures c.part-v.ensures c.part-p.ensures
     c.part-n.ensures c.part-s.ensures k.plan in
@@ -62,21 +62,21 @@ returns-in_default c =
 
 pub fill_bounds-requires : goal.fill_bounds-requires
 fill_bounds-requires c = (
-  bounds_fit _ _ (header_fits _ _ (sym c.header.ensures ∙ c.in-Yes.is)),
+  bounds_fit _ _ (header_fits _ _ (sym c.header.ensures ∙ c.in-Ok.is)),
   omega (arith, c.requires, c.check_tables-answer.auto.plan),
 )
 
-pub returns-in-No : goal.returns-in-No
-returns-in-No c =
-    let no = sym c.header.ensures ∙ c.in-No.is in
+pub returns-in-Err : goal.returns-in-Err
+returns-in-Err c =
+    let no = sym c.header.ensures ∙ c.in-Err.is in
     record { value = sym (header_no _ no); plan = untouched no }
 
-pub returns-in-Accepted : goal.returns-in-Accepted
+pub returns-in-Ok : goal.returns-in-Ok
 unfolding version_of
-returns-in-Accepted c =
-    let yes = sym c.header.ensures ∙ c.in-Yes.is in
+returns-in-Ok c =
+    let yes = sym c.header.ensures ∙ c.in-Ok.is in
     let k = c.check_tables-answer.ensures in
-    let accepted = c.in-Accepted.is in
+    let accepted = c.in-Ok.is in
     let left = leaves _ _ _ yes _ _ _ _ _ _ _ _ c.part-t.ensures c.part-f.ensures c.part-v.ensures c.part-p.ensures
     c.part-n.ensures c.part-s.ensures k.plan in
     record {

@@ -9,16 +9,16 @@ returns-in_default c = rw c.in_default.is
 
 pub returns-then-offset-gt65535 : goal.returns-then-offset-gt65535
 unfolding field_cell choose
-returns-then-offset-gt65535 c = search (tests, c.in-Field.is)
+returns-then-offset-gt65535 c = search (tests, c.in-Some.is)
 
 pub returns-then-r-gt254 : goal.returns-then-r-gt254
 unfolding field_cell choose
-returns-then-r-gt254 c = search (tests, c.in-Field.is)
+returns-then-r-gt254 c = search (tests, c.in-Some.is)
 
 pub returns-then-d-gt254 : goal.returns-then-d-gt254
 unfolding field_cell choose
-returns-then-d-gt254 c = search (tests, c.in-Field.is)
+returns-then-d-gt254 c = search (tests, c.in-Some.is)
 
 pub returns : goal.returns
 unfolding field_cell choose
-returns c = search (tests, c.in-Field.is)
+returns c = search (tests, c.in-Some.is)

@@ -10,10 +10,10 @@ returns-in_default c = rw (← c.field.ensures, c.in_default.is)
 
 pub overflow_add-address : goal.overflow_add-address
 overflow_add-address c =
-    let answer = sym c.field.ensures ∙ c.in-Field.is in
+    let answer = sym c.field.ensures ∙ c.in-Some.is in
     record { fits = omega (arith, c.requires.1.low, (field_low c.requires.0 _ _ _ _ answer).0) }
 
 pub returns : goal.returns
 unfolding field_place
 returns c =
-    c.plain.ensures ∙ rw (← c.field.ensures, c.in-Field.is)
+    c.plain.ensures ∙ rw (← c.field.ensures, c.in-Some.is)

@@ -1,3 +1,4 @@
+use Rattle.std.specs.Prelude.{Err}
 use Rattle.image.specs.Rows.{word_at}
 use lib.ListN.{length}
 use lib.Dec.{ltb}
@@ -9,17 +10,16 @@ use native.Mathlib.Omega.{arith}
 use borrow.Author.Tests.{lt-ltb, le-leb, lt-leb, eq-eqb, ne_eqb}
 use Rattle.prelude.proofs.Choice.{choose_yes, choose_no, also_yes, also_left, also_right}
 use Rattle.header.specs.Header.{version_of, question1, question2, tables_of, third_answer, header_of}
-use Rattle.header.specs.declared.HeaderAnswer.TheVariants.{No}
 use borrow.Author.Rules.{rules}
 use Rattle.header.proofs.header.Goals as goal
 use Rattle.header.proofs.header.Goals.{Else-length-image, Else-version-ne1}
 
 module _ (image : List ℕ) where
-  first_no_lem : question1 image ≡ false → header_of image ≡ No 1
+  first_no_lem : question1 image ≡ false → header_of image ≡ Err 1
   unfolding header_of
   first_no_lem h = choose_no _ _ _ h
 
-  second_no : question1 image ≡ true → question2 image ≡ false → header_of image ≡ No 2
+  second_no : question1 image ≡ true → question2 image ≡ false → header_of image ≡ Err 2
   unfolding header_of
   second_no h k = choose_yes _ _ _ h ∙ choose_no _ _ _ k
 
@@ -59,10 +59,10 @@ pub tables_of-requires : goal.tables_of-requires
 unfolding version_of
 tables_of-requires c = search rules
 
-pub returns-in-Amiss : goal.returns-in-Amiss
+pub returns-in-None : goal.returns-in-None
 unfolding third_answer
-returns-in-Amiss c = sym (both_yes _ (first_yes (goal.at.returns-in-Amiss c).Else-version-ne1) (second-yes (goal.at.returns-in-Amiss c).Else-length-image) ∙ rw (← c.tables_of.ensures, c.in-Amiss.is))
+returns-in-None c = sym (both_yes _ (first_yes (goal.at.returns-in-None c).Else-version-ne1) (second-yes (goal.at.returns-in-None c).Else-length-image) ∙ rw (← c.tables_of.ensures, c.in-None.is))
 
-pub returns-in-Six : goal.returns-in-Six
+pub returns-in-Some : goal.returns-in-Some
 unfolding third_answer
-returns-in-Six c = sym (both_yes _ (first_yes (goal.at.returns-in-Six c).Else-version-ne1) (second-yes (goal.at.returns-in-Six c).Else-length-image) ∙ rw (← c.tables_of.ensures, c.in-Six.is))
+returns-in-Some c = sym (both_yes _ (first_yes (goal.at.returns-in-Some c).Else-version-ne1) (second-yes (goal.at.returns-in-Some c).Else-length-image) ∙ rw (← c.tables_of.ensures, c.in-Some.is))

@@ -1,3 +1,4 @@
+use Rattle.std.specs.Prelude.{Option, Some, None}
 use mathlib.Core.List.{List}
 use mathlib.Core.Path.{◌≡◌, ◌∙◌, sym}
 use Prim.Native.Nat.{ℕ}
@@ -9,38 +10,34 @@ use Rattle.prelude.proofs.Choice.{choose_yes, choose_no}
 use Rattle.image.specs.Versions.{scalar_rows}
 use Rattle.header.specs.Header.{version_of, table_from, then_table, tables_of}
 use Rattle.header.specs.declared.Table.{Table}
-use Rattle.header.specs.declared.TableAnswer.{TableAnswer}
-use Rattle.header.specs.declared.TableAnswer.TheVariants.{Unfit, Found}
-use Rattle.header.specs.declared.TablesAnswer.{TablesAnswer}
-use Rattle.header.specs.declared.TablesAnswer.TheVariants.{Amiss, Six}
 use Rattle.header.proofs.Fitting.{found_then, unfit_then, found_within}
 use Rattle.header.proofs.tables_of.Goals as goal
 
 -- what is left of question 3 once some of the tables are found
 module _ (image : List ℕ) where
-  abbrev last : Table → Table → Table → Table → Table → Table → TablesAnswer
+  abbrev last : Table → Table → Table → Table → Table → Table → Option Tables
   last t f v p n s =
       choose (eqb s.end (length image))
-      (Six (record { types = t; fields = f; variables = v; procedures = p; nodes = n; statements = s }))
-      Amiss
+      (Some (record { types = t; fields = f; variables = v; procedures = p; nodes = n; statements = s }))
+      None
 
-  abbrev from-statements : Table → Table → Table → Table → Table → TablesAnswer
+  abbrev from-statements : Table → Table → Table → Table → Table → Option Tables
   from-statements t f v p n = then_table (table_from image n.end 1 1024) (λ s. last t f v p n s)
 
-  abbrev from-nodes : Table → Table → Table → Table → TablesAnswer
+  abbrev from-nodes : Table → Table → Table → Table → Option Tables
   from-nodes t f v p = then_table (table_from image p.end 0 2048) (λ n. from-statements t f v p n)
 
-  abbrev from-procedures : Table → Table → Table → TablesAnswer
+  abbrev from-procedures : Table → Table → Table → Option Tables
   from-procedures t f v = then_table (table_from image v.end 1 64) (λ p. from-nodes t f v p)
 
-  abbrev from-variables : Table → Table → TablesAnswer
+  abbrev from-variables : Table → Table → Option Tables
   from-variables t f = then_table (table_from image f.end 0 256) (λ v. from-procedures t f v)
 
-  abbrev from_fields : Table → TablesAnswer
+  abbrev from_fields : Table → Option Tables
   from_fields t = then_table (table_from image t.end 0 256) (λ f. from-variables t f)
 
 -- the first table, as the definition has it
-first : (image : List ℕ) (version rows : ℕ) (x : TableAnswer)
+first : (image : List ℕ) (version rows : ℕ) (x : Option Table)
     → version ≡ version_of image
     → rows ≡ scalar_rows version
     → x ≡ table_from image 5 rows 64
@@ -49,27 +46,27 @@ first image version rows x v r e = rw (← v, ← r) (sym e)
 
 -- the tables found so far, at each place of the code
 begun : (image : List ℕ) (t : Table)
-    → table_from image 5 (scalar_rows (version_of image)) 64 ≡ Found t
+    → table_from image 5 (scalar_rows (version_of image)) 64 ≡ Some t
     → tables_of image ≡ from_fields image t
 unfolding tables_of
 begun image t e = found_then _ _ e
 
-not_begun : (image : List ℕ) → table_from image 5 (scalar_rows (version_of image)) 64 ≡ Unfit → Amiss ≡ tables_of image
+not_begun : (image : List ℕ) → table_from image 5 (scalar_rows (version_of image)) 64 ≡ None → None ≡ tables_of image
 unfolding tables_of
 not_begun image e = sym (unfit_then _ _ e)
 
-onward : (w : TablesAnswer) (a x : TableAnswer) (t : Table) (next : Table → TablesAnswer)
+onward : (w : Option Tables) (a x : Option Table) (t : Table) (next : Table → Option Tables)
     → w ≡ then_table a next
     → x ≡ a
-    → x ≡ Found t
+    → x ≡ Some t
     → w ≡ next t
 onward w a x t next e f g = e ∙ found_then _ _ (sym f ∙ g)
 
-no_further : (w : TablesAnswer) (a x : TableAnswer) (next : Table → TablesAnswer)
+no_further : (w : Option Tables) (a x : Option Table) (next : Table → Option Tables)
     → w ≡ then_table a next
     → x ≡ a
-    → x ≡ Unfit
-    → Amiss ≡ w
+    → x ≡ None
+    → None ≡ w
 no_further w a x next e f g = sym (e ∙ unfit_then _ _ (sym f ∙ g))
 
 pub returns-in_default : goal.returns-in_default

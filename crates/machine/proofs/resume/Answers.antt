@@ -16,23 +16,23 @@ returns-in_default c =
     record { value = all.0; store = all.1.0; output = all.1.1 }
 
 pub store_question-question-requires : goal.store_question-question-requires
-store_question-question-requires c = opened_ready _ _ _ _ (omega arith) c.in-Accepted.is (sym c.open_image-answer.ensures.value) c.open_image-answer.ensures.plan
+store_question-question-requires c = opened_ready _ _ _ _ (omega arith) c.in-Ok.is (sym c.open_image-answer.ensures.value) c.open_image-answer.ensures.plan
 
 pub returns-then-question-ne0 : goal.returns-then-question-ne0
 returns-then-question-ne0 c =
     let all = continue_gives _ _ _ _ _ _
-    (gives_store _ _ (continue_refused _ _ _ _ _ _) (sym c.open_image-answer.ensures.value ∙ c.in-Accepted.is) _
+    (gives_store _ _ (continue_refused _ _ _ _ _ _) (sym c.open_image-answer.ensures.value ∙ c.in-Ok.is) _
     c.store_question-question.ensures c.if-question-ne0.true c.refused.ensures) in
     record { value = all.0; store = all.1.0; output = all.1.1 }
 
 pub continuable-passes-requires : goal.continuable-passes-requires
 continuable-passes-requires c =
-    let none = store_refuses _ _ (sym c.open_image-answer.ensures.value ∙ c.in-Accepted.is) ∙ sym c.store_question-question.ensures ∙ c.if-question-ne0.false in
-    (opened_ready _ _ _ _ (omega arith) c.in-Accepted.is (sym c.open_image-answer.ensures.value) c.open_image-answer.ensures.plan, (refusal_none _ _ none).1)
+    let none = store_refuses _ _ (sym c.open_image-answer.ensures.value ∙ c.in-Ok.is) ∙ sym c.store_question-question.ensures ∙ c.if-question-ne0.false in
+    (opened_ready _ _ _ _ (omega arith) c.in-Ok.is (sym c.open_image-answer.ensures.value) c.open_image-answer.ensures.plan, (refusal_none _ _ none).1)
 
 pub returns-then-steps-eq0 : goal.returns-then-steps-eq0
 returns-then-steps-eq0 c =
-    let none = store_refuses _ _ (sym c.open_image-answer.ensures.value ∙ c.in-Accepted.is) ∙ sym c.store_question-question.ensures ∙ c.if-question-ne0.false in
+    let none = store_refuses _ _ (sym c.open_image-answer.ensures.value ∙ c.in-Ok.is) ∙ sym c.store_question-question.ensures ∙ c.if-question-ne0.false in
     let all = continue_gives _ _ _ _ _ _
     (continues_kept _ _ _ _ _ _ (record { each = λ i. omega (arith, c.shared_slice_known-1.given i) }) none c.if-steps-eq0.true _
     c.continuable-passes.ensures c.kept.ensures) in
@@ -40,12 +40,12 @@ returns-then-steps-eq0 c =
 
 pub continuable-requires : goal.continuable-requires
 continuable-requires c =
-    let none = store_refuses _ _ (sym c.open_image-answer.ensures.value ∙ c.in-Accepted.is) ∙ sym c.store_question-question.ensures ∙ c.if-question-ne0.false in
-    (opened_ready _ _ _ _ (omega arith) c.in-Accepted.is (sym c.open_image-answer.ensures.value) c.open_image-answer.ensures.plan, (refusal_none _ _ none).1)
+    let none = store_refuses _ _ (sym c.open_image-answer.ensures.value ∙ c.in-Ok.is) ∙ sym c.store_question-question.ensures ∙ c.if-question-ne0.false in
+    (opened_ready _ _ _ _ (omega arith) c.in-Ok.is (sym c.open_image-answer.ensures.value) c.open_image-answer.ensures.plan, (refusal_none _ _ none).1)
 
 pub returns-then-not-continuable : goal.returns-then-not-continuable
 returns-then-not-continuable c =
-    let none = store_refuses _ _ (sym c.open_image-answer.ensures.value ∙ c.in-Accepted.is) ∙ sym c.store_question-question.ensures ∙ c.if-question-ne0.false in
+    let none = store_refuses _ _ (sym c.open_image-answer.ensures.value ∙ c.in-Ok.is) ∙ sym c.store_question-question.ensures ∙ c.if-question-ne0.false in
     let all = continue_gives _ _ _ _ _ _
     (continues_14 _ _ _ _ _ _ none
     (sym c.continuable.ensures ∙ c.if-not-continuable.true) c.refused-then-not-continuable.ensures) in
@@ -53,12 +53,12 @@ returns-then-not-continuable c =
 
 pub advance-requires : goal.advance-requires
 advance-requires c =
-    let none = store_refuses _ _ (sym c.open_image-answer.ensures.value ∙ c.in-Accepted.is) ∙ sym c.store_question-question.ensures ∙ c.if-question-ne0.false in
+    let none = store_refuses _ _ (sym c.open_image-answer.ensures.value ∙ c.in-Ok.is) ∙ sym c.store_question-question.ensures ∙ c.if-question-ne0.false in
     let passes = sym c.continuable.ensures ∙ c.if-not-continuable.false in
     let ranged = continued_ranged _ _ _ _ _ _ (record { each = λ i. omega (arith, c.shared_slice_known-1.given i) }) none passes in
     let marked = continued_marked _ _ _ _ _ _ (record { each = λ i. omega (arith, c.shared_slice_known-1.given i) }) none passes in
-    let steps = ((question14_exact _ (sym c.open_image-answer.ensures.value ∙ c.in-Accepted.is) _ _ _ _ _).0 passes).steps in (
-      opened_ready _ _ _ _ (omega arith) c.in-Accepted.is (sym c.open_image-answer.ensures.value) c.open_image-answer.ensures.plan,
+    let steps = ((question14_exact _ (sym c.open_image-answer.ensures.value ∙ c.in-Ok.is) _ _ _ _ _).0 passes).steps in (
+      opened_ready _ _ _ _ (omega arith) c.in-Ok.is (sym c.open_image-answer.ensures.value) c.open_image-answer.ensures.plan,
       record {
         row = omega (arith, ranged.row);
         base = omega (arith, ranged.base);
@@ -71,7 +71,7 @@ advance-requires c =
 
 pub returns : goal.returns
 returns c =
-    let none = store_refuses _ _ (sym c.open_image-answer.ensures.value ∙ c.in-Accepted.is) ∙ sym c.store_question-question.ensures ∙ c.if-question-ne0.false in
+    let none = store_refuses _ _ (sym c.open_image-answer.ensures.value ∙ c.in-Ok.is) ∙ sym c.store_question-question.ensures ∙ c.if-question-ne0.false in
     let passes = sym c.continuable.ensures ∙ c.if-not-continuable.false in
     let stops = c.advance.ensures in
     let all = continue_gives _ _ _ _ _ _

@@ -17,33 +17,33 @@ returns-in_default c =
     record { value = all.0; store = all.1.0; output = all.1.1 }
 
 pub store_question-question-requires : goal.store_question-question-requires
-store_question-question-requires c = opened_ready _ _ _ _ (omega arith) c.in-Accepted.is (sym c.open_image-answer.ensures.value) c.open_image-answer.ensures.plan
+store_question-question-requires c = opened_ready _ _ _ _ (omega arith) c.in-Ok.is (sym c.open_image-answer.ensures.value) c.open_image-answer.ensures.plan
 
 pub returns-then-question-ne0 : goal.returns-then-question-ne0
 returns-then-question-ne0 c =
     let all = run_gives _ _ _ _ _
-    (gives_store _ _ (λ asked number some. number) (sym c.open_image-answer.ensures.value ∙ c.in-Accepted.is) _
+    (gives_store _ _ (λ asked number some. number) (sym c.open_image-answer.ensures.value ∙ c.in-Ok.is) _
     c.store_question-question.ensures c.if-question-ne0.true c.refused.ensures) in
     record { value = all.0; store = all.1.0; output = all.1.1 }
 
 pub global_room-base-requires : goal.global_room-base-requires
-global_room-base-requires c = (opened_ready _ _ _ _ (omega arith) c.in-Accepted.is (sym c.open_image-answer.ensures.value) c.open_image-answer.ensures.plan).planned
+global_room-base-requires c = (opened_ready _ _ _ _ (omega arith) c.in-Ok.is (sym c.open_image-answer.ensures.value) c.open_image-answer.ensures.plan).planned
 
 pub first_top-top-requires : goal.first_top-top-requires
-first_top-top-requires c = opened_ready _ _ _ _ (omega arith) c.in-Accepted.is (sym c.open_image-answer.ensures.value) c.open_image-answer.ensures.plan
+first_top-top-requires c = opened_ready _ _ _ _ (omega arith) c.in-Ok.is (sym c.open_image-answer.ensures.value) c.open_image-answer.ensures.plan
 
 pub zero-requires : goal.zero-requires
 zero-requires c =
-    let none = store_refuses _ _ (sym c.open_image-answer.ensures.value ∙ c.in-Accepted.is) ∙ sym c.store_question-question.ensures ∙ c.if-question-ne0.false in
+    let none = store_refuses _ _ (sym c.open_image-answer.ensures.value ∙ c.in-Ok.is) ∙ sym c.store_question-question.ensures ∙ c.if-question-ne0.false in
     let (here, few, fits) = refusal_none _ _ none in
     omega (arith, c.first_top-top.ensures, fits)
 
 pub advance-requires : goal.advance-requires
 advance-requires c =
-    let none = store_refuses _ _ (sym c.open_image-answer.ensures.value ∙ c.in-Accepted.is) ∙ sym c.store_question-question.ensures ∙ c.if-question-ne0.false in
+    let none = store_refuses _ _ (sym c.open_image-answer.ensures.value ∙ c.in-Ok.is) ∙ sym c.store_question-question.ensures ∙ c.if-question-ne0.false in
     let (here, few, fits) = refusal_none _ _ none in
     let room : c.first_top-top.result ≤ length c.args.store.now = omega (arith, c.first_top-top.ensures, fits) in (
-      opened_ready _ _ _ _ (omega arith) c.in-Accepted.is (sym c.open_image-answer.ensures.value) c.open_image-answer.ensures.plan,
+      opened_ready _ _ _ _ (omega arith) c.in-Ok.is (sym c.open_image-answer.ensures.value) c.open_image-answer.ensures.plan,
       fresh_stands _ c.args.store.now _ c.global_room-base.ensures c.first_top-top.ensures room few c.zero.auto.store,
       omega arith,
       omega (arith, c.ranges.steps.fits),
@@ -51,7 +51,7 @@ advance-requires c =
 
 pub returns : goal.returns
 returns c =
-    let none = store_refuses _ _ (sym c.open_image-answer.ensures.value ∙ c.in-Accepted.is) ∙ sym c.store_question-question.ensures ∙ c.if-question-ne0.false in
+    let none = store_refuses _ _ (sym c.open_image-answer.ensures.value ∙ c.in-Ok.is) ∙ sym c.store_question-question.ensures ∙ c.if-question-ne0.false in
     let all = run_gives _ _ _ _ _
     (gives_run _ _ _ _ _ (record { each = λ i. omega (arith, c.shared_slice_known-1.given i) }) none c.global_room-base.ensures c.first_top-top.ensures c.zero.ensures
     c.advance.ensures) in

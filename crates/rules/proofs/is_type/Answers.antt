@@ -6,4 +6,4 @@ pub returns-in_default : goal.returns-in_default
 returns-in_default c = sym (no_type _ _ (sym c.type_at.ensures ∙ c.in_default.is))
 
 pub returns : goal.returns
-returns c = sym (type_is _ _ (sym c.type_at.ensures ∙ c.in-Kind.is))
+returns c = sym (type_is _ _ (sym c.type_at.ensures ∙ c.in-Some.is))

@@ -43,7 +43,7 @@ loop-r-smaller c = omega arith
 pub loop-r-preserved : goal.loop-r-preserved
 loop-r-preserved c = let l = c.loop-r in
     let more = rw c.rows_of-nodes.ensures at c.loop-r-test.true in
-    filled_next _ _ _ _ _ _ _ l.invariant more _ c.row_at-row.ensures _ c.node_type.ensures _ c.in-Kind.is
+    filled_next _ _ _ _ _ _ _ l.invariant more _ c.row_at-row.ensures _ c.node_type.ensures _ c.in-Some.is
 
 pub shape_of-types : goal.shape_of-types
 shape_of-types c = c.loop-r.invariant.table.cells

@@ -8,14 +8,14 @@ pub returns-in_default : goal.returns-in_default
 unfolding field_node
 returns-in_default c = sym (typed_none _ _ (sym c.type_at.ensures ∙ c.in_default.is))
 
-pub returns-in-Missing : goal.returns-in-Missing
+pub returns-in-None : goal.returns-in-None
 unfolding field_node
-returns-in-Missing c = let pre = c.requires in
-    sym (typed_known _ _ (sym c.type_at.ensures ∙ c.in-Kind.is)
-    ∙ missing_type _ (sym (c.field.ensures ∙ field_known _ _ _ pre.0 pre.1 _ _) ∙ c.in-Missing.is))
+returns-in-None c = let pre = c.requires in
+    sym (typed_known _ _ (sym c.type_at.ensures ∙ c.in-Some.is)
+    ∙ missing_type _ (sym (c.field.ensures ∙ field_known _ _ _ pre.0 pre.1 _ _) ∙ c.in-None.is))
 
-pub returns-in-Field : goal.returns-in-Field
+pub returns-in-Some : goal.returns-in-Some
 unfolding field_node
-returns-in-Field c = let pre = c.requires in
-    sym (typed_known _ _ (sym c.type_at.ensures ∙ c.in-Kind.is)
-    ∙ field_type_lem _ (sym (c.field.ensures ∙ field_known _ _ _ pre.0 pre.1 _ _) ∙ c.in-Field.is))
+returns-in-Some c = let pre = c.requires in
+    sym (typed_known _ _ (sym c.type_at.ensures ∙ c.in-Some.is)
+    ∙ field_type_lem _ (sym (c.field.ensures ∙ field_known _ _ _ pre.0 pre.1 _ _) ∙ c.in-Some.is))

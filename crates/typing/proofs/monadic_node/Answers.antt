@@ -12,4 +12,4 @@ unfolding monadic_node
 returns c =
     c.monadic_kind.ensures
     ∙ rw c.kind_in-kind.ensures
-    (sym (typed_known _ _ (sym c.type_at.ensures ∙ c.in-Kind.is)))
+    (sym (typed_known _ _ (sym c.type_at.ensures ∙ c.in-Some.is)))

@@ -1,4 +1,4 @@
-use Rattle.kinds.specs.declared.KindAnswer.TheVariants.{Kind}
+use Rattle.std.specs.Prelude.{Some}
 use Rattle.image.specs.declared.Row.{Row}
 use Rattle.typing.specs.Typing.{variable_node}
 use mathlib.Core.Path.{ap}
@@ -6,4 +6,4 @@ use Rattle.typing.proofs.variable_node.Goals as goal
 
 pub returns : goal.returns
 unfolding variable_node
-returns c = ap (λ (r : Row). Kind r.a) c.row_at-variable.ensures
+returns c = ap (λ (r : Row). Some r.a) c.row_at-variable.ensures
