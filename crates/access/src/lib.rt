@@ -108,7 +108,10 @@ pub fn field(image: &&[u8], plan: &Plan, k: u32, r: u16) -> Option<FieldAt>
 {
     let cell = plan[NODES + k as usize];
     if designators::record_in(cell) == r {
-        return FieldAnswer::Field(designators::offset_in(cell), designators::type_in(cell));
+        return Some(FieldAt {
+            offset: designators::offset_in(cell),
+            declared: designators::type_in(cell),
+        });
     }
     let n = node_at(image, plan, k).b;
     relations::field(table(*image, plan, 0), table(*image, plan, 1), plan, r, n)

@@ -45,7 +45,7 @@ procedures_of fs = map (λ (f : Frame). f.procedure) fs
 
 module _ (deeper : ℕ → ℕ → Bool) (size : ℕ → ℕ) (v : List ℕ) where
   -- one of n variables from row k on, and how far into it
-  record Some (k n o : ℕ) : Type 0 where
+  record Begun (k n o : ℕ) : Type 0 where
     number : ℕ
     into : ℕ
     low : number < n
@@ -57,7 +57,7 @@ module _ (deeper : ℕ → ℕ → Bool) (size : ℕ → ℕ) (v : List ℕ) whe
   unfolding room_by
   room_none k = refl
 
-  some_later : (k n o : ℕ) → width_by size v k ≤ o → Some (k + 1) n (o - width_by size v k) → Some k (suc n) o
+  some_later : (k n o : ℕ) → width_by size v k ≤ o → Begun (k + 1) n (o - width_by size v k) → Begun k (suc n) o
   some_later k n o low s =
       let row : k + 1 + s.number ≡ k + suc s.number = omega arith in
       record {
@@ -69,7 +69,7 @@ module _ (deeper : ℕ → ℕ → Bool) (size : ℕ → ℕ) (v : List ℕ) whe
         holds = rw row at s.holds;
       }
 
-  variables_some : (n k o : ℕ) → among_variables deeper size v k n o ≡ true → Some k n o
+  variables_some : (n k o : ℕ) → among_variables deeper size v k n o ≡ true → Begun k n o
   unfolding among_variables
   variables_some zero k o e = clash (sym e)
   variables_some (suc n) k o e =

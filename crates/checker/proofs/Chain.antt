@@ -3,10 +3,11 @@ use Rattle.checker.specs.Check.{refused_at}
 use Rattle.checker.specs.Check.{CheckAnswer}
 use Rattle.std.specs.Prelude.{Ok, Err}
 use Rattle.image.specs.Faults.{Verdict}
-use mathlib.Core.Path.{◌≡◌, refl, sym, ◌∙◌}
+use mathlib.Core.Path.{◌≡◌, refl, sym, ◌∙◌, ap}
 use Prim.Native.Nat.{ℕ, zero, suc, ◌+◌, ◌≤◌, ◌<◌}
 use native.Mathlib.Omega.{arith}
 use native.Mathlib.Decide.{dec_le}
+use Rattle.checker.specs.declared.Refusal.{Refusal}
 use Rattle.checker.specs.Check.{asked, first_no}
 
 -- ---- one question more
@@ -46,7 +47,7 @@ pub record FirstFault (question : ℕ → Verdict) (q n j row : ℕ) : Type 0 wh
   pub fault : question j ≡ Err row
   pub before : (i : ℕ) → q ≤ i → i < j → question i ≡ Ok tt
 
-accepted_refused : {q row : ℕ} {C : Type 0} → Ok tt ≡ Err (refused_at q row) → C
+accepted_refused : {q row : ℕ} {C : Type 0} → ◌≡◌ {A = CheckAnswer} (Ok tt) (Err (refused_at q row)) → C
 accepted_refused e = let z : ◌≡◌ {A = ℕ} 0 1 = cc in absurd (omega arith)
 
 module _ (question : ℕ → Verdict) where
@@ -56,7 +57,7 @@ module _ (question : ℕ → Verdict) where
   accepted_all (suc n) q e = go (question q) refl (λ rest. accepted_all n (q + 1) rest)
     where
       go : (x : Verdict) → question q ≡ x → (first_no question (q + 1) n ≡ Ok tt → AllKept question (q + 1) n) → AllKept question q (suc n)
-      go (Ok tt) k later =
+      go (Ok _) k later =
           let rest = later (sym (chain_next question q n (sym k) refl) ∙ e) in
           record { each = λ j low high. here j (dec_le (q + 1) j) low high rest }
         where
@@ -79,7 +80,7 @@ module _ (question : ℕ → Verdict) where
     where
       go : (x : Verdict) → question q ≡ x → (first_no question (q + 1) n ≡ Err (refused_at j row) → FirstFault question (q + 1) n j row)
           → FirstFault question q (suc n) j row
-      go (Ok tt) k later =
+      go (Ok _) k later =
           let rest = later (sym (chain_next question q n (sym k) refl) ∙ e) in
           let low = rest.least in
           let high = rest.most in
@@ -95,8 +96,9 @@ module _ (question : ℕ → Verdict) where
           here i (no h) a b rest = let s : q ≡ i = omega arith in rw (← s) k
       go (Err found) k later =
           let same = sym (chain_stop question q n (sym k) refl) ∙ e in
-          let number : q ≡ j = cc in
-          let place : found ≡ row = cc in
+          let one : refused_at q found ≡ refused_at j row = cc in
+          let number : q ≡ j = ap (λ (x : Refusal). x.question) one in
+          let place : found ≡ row = ap (λ (x : Refusal). x.row) one in
           record {
             least = omega arith;
             most = omega arith;

@@ -1,6 +1,6 @@
 -- The check: eleven questions, and the first "no" decides.
-use Rattle.checker.specs.Check.{CheckAnswer}
-use Rattle.std.specs.Prelude.{Ok, Err}
+use Rattle.std.specs.Prelude.{Result, Ok, Err}
+use Rattle.checker.specs.declared.Refusal.{Refusal}
 use Rattle.image.specs.Faults.{Verdict}
 use Rattle.std.specs.Prelude.{ℕ, zero, suc, ◌+◌, ◌*◌, Bool, true, false, List, eqb}
 use Rattle.prelude.specs.Choice.{choose}
@@ -63,9 +63,17 @@ question_of image q =
 
 -- ---- the check
 
+-- why an image is refused: "number and first row"
+abbrev pub refused_at : ℕ → ℕ → Refusal
+refused_at q row = record { question = q; row = row }
+
+-- acceptance, or a refusal
+abbrev pub CheckAnswer : Type 0
+CheckAnswer = Result (Unit {0}) Refusal
+
 -- this question's "no", or what the later ones say
 unfoldable pub asked : ℕ → Verdict → CheckAnswer → CheckAnswer
-asked q (Ok tt) later = later
+asked q (Ok _) later = later
 asked q (Err row) later = Err (refused_at q row)
 
 -- "The first "no" decides": of n questions from q on
@@ -81,12 +89,12 @@ check_of image = first_no (question_of image) 1 11
 
 -- "Refusal 0, row 0 is acceptance"
 unfoldable pub refusal_of : CheckAnswer → ℕ
-refusal_of (Ok tt) = 0
-refusal_of (Err (refused_at q row)) = q
+refusal_of (Ok _) = 0
+refusal_of (Err x) = x.question
 
 unfoldable pub row_of : CheckAnswer → ℕ
-row_of (Ok tt) = 0
-row_of (Err (refused_at q row)) = row
+row_of (Ok _) = 0
+row_of (Err x) = x.row
 
 -- "Firmware, written in C, calls the check with bytes and gets refusal × 65,536 + row."
 unfoldable pub number_of : CheckAnswer → ℕ

@@ -13,14 +13,14 @@ ghost use Rattle.checker.specs.Check.{table_question, asked, first_no, check_of}
 ghost use Rattle.prelude.specs.Cells.{Filled};
 ghost use Rattle.checker.specs.Prepared.{CountsFit, BoundsFit, Leaves, bound_of, Prepared};
 
-use header::{HeaderAnswer, Table, Tables};
+use header::{Table, Tables};
 use sizes::{BOUNDS, CHECK_PLAN};
 
-// Accepted, or the number of the question that fails and its lowest row at fault.
+// Why an image is refused: the question that fails, by its number, and the lowest row at fault.
 #[derive(Clone, Copy)]
-pub enum CheckAnswer {
-    Accepted,
-    Refused(u8, u16),
+pub struct Refusal {
+    pub question: u8,
+    pub row: u16,
 }
 
 // What question q alone answers.
@@ -170,8 +170,8 @@ pub fn prepare(image: &[u8], plan: &mut [u32]) -> Result<(), Refusal>
     ensures plan { Prepared image.now plan.old result plan.new }
 {
     match header::header(image) {
-        HeaderAnswer::No(question) => Err(Refusal { question, row: 0 }),
-        HeaderAnswer::Yes(tables) => {
+        Err(question) => Err(Refusal { question, row: 0 }),
+        Ok(tables) => {
             let version = image[0];
             let types = tables.types;
             let fields = tables.fields;

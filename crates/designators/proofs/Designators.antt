@@ -58,14 +58,14 @@ packed_field : (e d : ℕ) (x : Option FieldAt) → d < 255 → record_in (field
     → (e ≡ d) × (x ≡ Some (field_at (offset_in (field_cell e x)) (type_in (field_cell e x))))
 unfolding field_cell
 packed_field e d None low is = absurd (omega arith)
-packed_field e d (Some (field_at offset r)) low is = go (field_cell e (Some (field_at offset r))) (packed e offset r) is
+packed_field e d (Some x) low is = go (field_cell e (Some x)) (packed e x.offset x.declared) is
   where
-    go : (cell : ℕ) → (cell ≡ UNKNOWN) ⊎ Packed e offset r cell → record_in cell ≡ d
-        → (e ≡ d) × (Some (field_at offset r) ≡ Some (field_at (offset_in cell) (type_in cell)))
+    go : (cell : ℕ) → (cell ≡ UNKNOWN) ⊎ Packed e x.offset x.declared cell → record_in cell ≡ d
+        → (e ≡ d) × (Some x ≡ Some (field_at (offset_in cell) (type_in cell)))
     go cell (inl none) same = absurd (omega arith)
     go cell (inr p) same =
-        let place : offset ≡ offset_in cell = omega (arith, p.cell_is, p.type_low, p.record_low) in
-        let type : r ≡ type_in cell = omega (arith, p.cell_is, p.type_low, p.record_low) in
+        let place : x.offset ≡ offset_in cell = omega (arith, p.cell_is, p.type_low, p.record_low) in
+        let type : x.declared ≡ type_in cell = omega (arith, p.cell_is, p.type_low, p.record_low) in
         (omega (arith, p.cell_is, p.record_low), rw (← place, ← type))
 
 -- ---- the cell of a node

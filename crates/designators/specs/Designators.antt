@@ -28,10 +28,10 @@ record_in cell = cell % 256
 -- a field of record d
 unfoldable pub field_cell : ℕ → Option FieldAt → ℕ
 field_cell d None = UNKNOWN
-field_cell d (Some (field_at offset r)) =
-    choose (ltb 65535 offset) UNKNOWN
-    (choose (ltb 254 r) UNKNOWN
-    (choose (ltb 254 d) UNKNOWN (offset * 65536 + r * 256 + d)))
+field_cell d (Some x) =
+    choose (ltb 65535 x.offset) UNKNOWN
+    (choose (ltb 254 x.declared) UNKNOWN
+    (choose (ltb 254 d) UNKNOWN (x.offset * 65536 + x.declared * 256 + d)))
 
 -- any other designator, of type r
 unfoldable pub typed_cell : ℕ → ℕ

@@ -48,19 +48,19 @@ pub fn record_in(cell: u32) -> u16
 fn field_cell(d: u16, found: Option<FieldAt>) -> u32
     ensures { result ≡ field_cell d found }
 {
-    let Some(FieldAt { offset: offset, declared: r }) = found else {
+    let Some(FieldAt { offset, declared }) = found else {
         return UNKNOWN;
     };
     if 65535 < offset {
         return UNKNOWN;
     }
-    if 254 < r {
+    if 254 < declared {
         return UNKNOWN;
     }
     if 254 < d {
         return UNKNOWN;
     }
-    offset * 65536 + r as u32 * 256 + d as u32
+    offset * 65536 + declared as u32 * 256 + d as u32
 }
 
 // Any other designator, of type r.

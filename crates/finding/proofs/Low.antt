@@ -154,7 +154,7 @@ module _ {image plan : List ℕ} (p : Planned image plan) where
       go : (answer : Option FieldAt) → field_of g.types g.fields r j ≡ answer
           → Low image (n + 4096) (field_place place answer)
       go None e = low_stuck
-      go (Some (field_at offset x)) e = let (h, t) = field_low p r j offset x e in object_low (omega arith) t
+      go (Some x) e = let (h, t) = field_low p r j x.offset x.declared e in object_low (omega arith) t
 
   -- and so does an element
   element_place_low : (n : ℕ) (place : Place) → place.address ≤ n

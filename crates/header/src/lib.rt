@@ -21,76 +21,46 @@ pub struct Tables {
     pub statements: Table,
 }
 
-#[derive(Clone, Copy)]
-pub enum TableAnswer {
-    Unfit,
-    Found(Table),
-}
-
-#[derive(Clone, Copy)]
-pub enum TablesAnswer {
-    Amiss,
-    Six(Tables),
-}
-
-// The question that fails, or the six tables.
-#[derive(Clone, Copy)]
-pub enum HeaderAnswer {
-    No(u8),
-    Yes(Tables),
-}
-
-// The table whose count stands at a byte.
+// The table whose count stands at a byte, unless the count is out of bounds or the image too short.
 fn table_from(image: &[u8], at: usize, low: usize, high: usize) -> Option<Table>
     requires { at ≤ length image.now }
     ensures { result ≡ table_from image.now at low high }
 {
     if image.len() < at + 2 {
-        return TableAnswer::Unfit;
+        return None;
     }
     let n = image::number_at(image, at) as usize;
     if n < low {
-        return TableAnswer::Unfit;
+        return None;
     }
     if high < n {
-        return TableAnswer::Unfit;
+        return None;
     }
     let start = at + 2;
     let end = start + n * 8;
     if image.len() < end {
-        return TableAnswer::Unfit;
+        return None;
     }
-    TableAnswer::Found(Table { start, end })
+    Some(Table { start, end })
 }
 
 // Question 3 of an image of a version.
+#[tactic(auto, unfolding(crate::specs::Header::tables_of, crate::specs::Header::then_table))]
 fn tables_of(version: u8, image: &[u8]) -> Option<Tables>
     requires { (version ≡ version_of image.now) × (5 ≤ length image.now) }
     ensures { result ≡ tables_of image.now }
 {
     let scalars = image::scalar_rows(version) as usize;
-    let TableAnswer::Found(types) = table_from(image, 5, scalars, 64) else {
-        return TablesAnswer::Amiss;
-    };
-    let TableAnswer::Found(fields) = table_from(image, types.end, 0, 256) else {
-        return TablesAnswer::Amiss;
-    };
-    let TableAnswer::Found(variables) = table_from(image, fields.end, 0, 256) else {
-        return TablesAnswer::Amiss;
-    };
-    let TableAnswer::Found(procedures) = table_from(image, variables.end, 1, 64) else {
-        return TablesAnswer::Amiss;
-    };
-    let TableAnswer::Found(nodes) = table_from(image, procedures.end, 0, 2048) else {
-        return TablesAnswer::Amiss;
-    };
-    let TableAnswer::Found(statements) = table_from(image, nodes.end, 1, 1024) else {
-        return TablesAnswer::Amiss;
-    };
+    let types = table_from(image, 5, scalars, 64)?;
+    let fields = table_from(image, types.end, 0, 256)?;
+    let variables = table_from(image, fields.end, 0, 256)?;
+    let procedures = table_from(image, variables.end, 1, 64)?;
+    let nodes = table_from(image, procedures.end, 0, 2048)?;
+    let statements = table_from(image, nodes.end, 1, 1024)?;
     if statements.end != image.len() {
-        return TablesAnswer::Amiss;
+        return None;
     }
-    TablesAnswer::Six(Tables {
+    Some(Tables {
         types,
         fields,
         variables,
@@ -100,28 +70,25 @@ fn tables_of(version: u8, image: &[u8]) -> Option<Tables>
     })
 }
 
-// Questions 1 to 3.
+// Questions 1 to 3: the six tables, or the question that fails.
 pub fn header(image: &[u8]) -> Result<Tables, u8>
     ensures { result ≡ header_of image.now }
 {
     if image.len() == 0 {
-        return HeaderAnswer::No(1);
+        return Err(1);
     }
     let version = image[0];
     if version != 1 {
-        return HeaderAnswer::No(1);
+        return Err(1);
     }
     if image.len() < 5 {
-        return HeaderAnswer::No(2);
+        return Err(2);
     }
     let length = image::word_at(image, 1) as usize;
     if length != image.len() {
-        return HeaderAnswer::No(2);
+        return Err(2);
     }
-    match tables_of(version, image) {
-        TablesAnswer::Amiss => HeaderAnswer::No(3),
-        TablesAnswer::Six(t) => HeaderAnswer::Yes(t),
-    }
+    tables_of(version, image).ok_or(3)
 }
 
 // A table's rows, as a part of the image.

@@ -9,9 +9,9 @@ use native.Mathlib.Decide.{dec_le}
 use borrow.Author.Tests.{lt-ltb, le-ltb}
 use Rattle.prelude.specs.Choice.{choose, ◌also◌}
 use Rattle.prelude.proofs.Choice.{choose_yes, choose_no, choose_cases, also_true, also_yes, also_left, also_right}
-use Rattle.image.specs.Faults.{first_from, lowest_fault, rule_up_to, all_from, KeptIn, Lowest}
+use Rattle.image.specs.Faults.{Verdict, first_from, lowest_fault, rule_up_to, all_from, KeptIn, Lowest}
 
-differ : {r : ℕ} {C : Type 0} → Err r ≡ Ok tt → C
+differ : {r : ℕ} {C : Type 0} → ◌≡◌ {A = Verdict} (Err r) (Ok tt) → C
 differ e = let z : ◌≡◌ {A = ℕ} 0 1 = cc in absurd (omega arith)
 
 module _ (keeps : ℕ → Bool) where

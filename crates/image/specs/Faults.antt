@@ -1,7 +1,10 @@
 -- The lowest row at fault.
-use Rattle.std.specs.Prelude.{Ok, Err}
-use Rattle.std.specs.Prelude.{◌≡◌, ℕ, zero, suc, ◌+◌, ◌≤◌, ◌<◌, Bool, true, false, ltb}
+use Rattle.std.specs.Prelude.{Result, Ok, Err, ◌≡◌, ℕ, zero, suc, ◌+◌, ◌≤◌, ◌<◌, Bool, true, false, ltb}
 use Rattle.prelude.specs.Choice.{choose, ◌also◌}
+
+-- what a question says of a table: every row keeps its rule, or the lowest row that does not
+abbrev pub Verdict : Type 0
+Verdict = Result (Unit {0}) ℕ
 
 -- the first of the n rows from k on that does not keep the rule
 unfoldable pub first_from : (ℕ → Bool) → ℕ → ℕ → Verdict

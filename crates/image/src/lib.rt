@@ -1,4 +1,4 @@
-// The rows of an image's tables, and what a question says of a table.
+// The rows of an image's tables, and the numbers in them.
 #![tactic(auto)]
 
 ghost use Rattle.std.specs.Prelude.{◌≡◌, ◌+◌, ◌*◌, ◌≤◌, ◌<◌, length};
@@ -13,13 +13,6 @@ pub struct Row {
     pub a: u16,
     pub b: u16,
     pub c: u16,
-}
-
-// What a question says of a table: every row keeps its rule, or the lowest row that does not.
-#[derive(Clone, Copy)]
-pub enum Verdict {
-    Kept,
-    Fault(u16),
 }
 
 fn number(high: u8, low: u8) -> u16

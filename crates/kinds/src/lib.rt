@@ -4,13 +4,7 @@
 ghost use Rattle.std.specs.Prelude.{◌≡◌};
 ghost use Rattle.kinds.specs.Kinds.{integers_kind, sets_kind, booleans_kind, dyadic_kind, monadic_kind};
 
-// The kind that an operator gives, or that it does not take such operands.
-#[derive(Clone, Copy)]
-pub enum KindAnswer {
-    Untyped,
-    Kind(u16),
-}
-
+// The kind that an operator gives, or None where it does not take such operands.
 fn integers_kind(op: u16) -> Option<u16>
     ensures { result ≡ integers_kind op }
 {

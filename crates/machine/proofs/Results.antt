@@ -1,6 +1,5 @@
 -- The fresh state in the lent store, and what the code of a run and of a continuation gives back.
 use Rattle.std.specs.Prelude.{Ok, Err}
-use Rattle.checker.specs.Check.{refused_at}
 use Rattle.checker.specs.Check.{CheckAnswer}
 use mathlib.Core.Path.{◌≡◌, sym, ◌∙◌, ap}
 use mathlib.Core.Bool.{Bool, true, false}

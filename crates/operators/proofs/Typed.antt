@@ -151,9 +151,9 @@ monadic_agree op (Vs.Bool p) = go (eqb op 1) refl
     go true e = rw (eqb-true op 1 e) untyped
     go false e = agree (eqb op 2) (typed (λ h. gives_boolean _)) untyped
 monadic_agree op (Vs.Int x) =
-    rw (choose_same (eqb op 2) None) (agree (eqb op 1) (typed (λ h. integer_gives (neg_ℤ x))) untyped)
+    rw (choose_same {X = Option ℕ} (eqb op 2) None) (agree (eqb op 1) (typed (λ h. integer_gives (neg_ℤ x))) untyped)
 monadic_agree op (Vs.Set s) =
-    rw (choose_same (eqb op 2) None)
+    rw (choose_same {X = Option ℕ} (eqb op 2) None)
     (agree (eqb op 1) (typed (λ h. complement_gives s)) untyped)
 
 -- ---- the laws

@@ -68,6 +68,12 @@ field_in_lem : (t f : List ℕ) (r n : ℕ) → field_of t f r n ≡ field_in (s
 unfolding field_of
 field_in_lem t f r n = rw (offset_is t f r n)
 
+-- two fields that are one begin at one place and are of one type
+pub same_field : {a b c d : ℕ} → Some (field_at a b) ≡ Some (field_at c d) → (a ≡ c) × (b ≡ d)
+same_field {a} {b} {c} {d} e =
+    let one : field_at a b ≡ field_at c d = cc in
+    (ap (λ (y : FieldAt). y.offset) one, ap (λ (y : FieldAt). y.declared) one)
+
 field_found : (t f : List ℕ) (r n at x : ℕ) → field_of t f r n ≡ Some (field_at at x)
     → (n < length (fields_of t f r)) × (Some (field_at (offset_of t f r n) (get_or (fields_of t f r) n 0)) ≡ Some (field_at at x))
 unfolding field_of
@@ -87,10 +93,8 @@ pub field_nth : (t f : List ℕ) (r n at x : ℕ) → field_of t f r n ≡ Some 
     → (at ≡ offset_of t f r n) × Nth (fields_of t f r) n x
 field_nth t f r n at x e =
     let found = field_found t f r n at x e in
-    let same = found.1 in
-    let place : at ≡ offset_of t f r n = cc in
-    let type : get_or (fields_of t f r) n 0 ≡ x = cc in
-    (place, rw type at (nth_cell (fields_of t f r) n 0 found.0))
+    let same = same_field found.1 in
+    (sym same.0, rw same.1 at (nth_cell (fields_of t f r) n 0 found.0))
 
 -- what begins with a type's fields has them too, at the same places
 pub field_more : (t f : List ℕ) (r u n : ℕ) {at x : ℕ} → Part (fields_of t f r) 0 (fields_of t f u)
@@ -118,7 +122,7 @@ module _ (t f plan : List ℕ) (kept : TypesKept t f) (p : Plan t f (rows_of t) 
     own_field j = go (dec_lt j c)
       where
         go : Dec (j < c)
-            → choose (ltb j c) (Some (field_at (get_or plan (OFFSETS + (b + j)) 0) (row_at f (b + j)))) None
+            → choose (ltb j c) (Some (field_at (get_or plan (OFFSETS + (b + j)) 0) (row_at f (b + j)).a)) None
             ≡ field_in (size_of t f) (inner ++ own_types f b c) (length inner + j)
         go (yes h) =
             choose_yes _ _ _ (lt-ltb j c h)

@@ -9,6 +9,10 @@ use Rattle.shapes.specs.Forms.{Form, Form.scalar, Form.array, Form.record_of, Fo
 use Rattle.shapes.specs.Sizes.{fields_of, offset_of}
 use Rattle.sizes.specs.Cells.{INHERITED, OFFSETS}
 
+-- a field that begins so many cells into its record, of a type
+abbrev pub field_at : ℕ → ℕ → FieldAt
+field_at offset declared = record { offset = offset; declared = declared }
+
 -- "2 field b (base's fields counted first) of a"; "A field exists": field n of type r, where it begins and its type
 unfoldable pub field_of : List ℕ → List ℕ → ℕ → ℕ → Option FieldAt
 field_of t f r n =
@@ -17,7 +21,7 @@ field_of t f r n =
 -- own field j of a record, as a plan has it, whatever it holds
 unfoldable pub planned_own : List ℕ → List ℕ → ℕ → ℕ → ℕ → Option FieldAt
 planned_own f plan first count j =
-    choose (ltb j count) (Some (field_at (get_or plan (OFFSETS + (first + j)) 0) (row_at f (first + j)))) None
+    choose (ltb j count) (Some (field_at (get_or plan (OFFSETS + (first + j)) 0) (row_at f (first + j)).a)) None
 
 -- field n of type r in a plan: up the bases, to the record that has it of its own
 unfoldable pub planned_by : List ℕ → List ℕ → ℕ → (ℕ → Option FieldAt) → ℕ → Form → Option FieldAt

@@ -7,11 +7,11 @@ ghost use Rattle.relations.specs.Fields.{planned_own, planned_field};
 
 use sizes::{INHERITED, OFFSETS};
 
-// A field: where it begins in its record, and its type; or that there is none.
+// A field: where it begins in its record, and the type that it is declared with.
 #[derive(Clone, Copy)]
-pub enum FieldAnswer {
-    Missing,
-    Field(u32, u16),
+pub struct FieldAt {
+    pub offset: u32,
+    pub declared: u16,
 }
 
 // Whether type row r extends row u.
@@ -44,8 +44,10 @@ fn own_field(f: &[u8], plan: &[u32], b: u16, c: u16, j: usize) -> Option<FieldAt
     }
     let k = (b as usize) + j;
     let row = image::row_at(f, k);
-    let place = sizes::cell(plan, OFFSETS + k);
-    FieldAnswer::Field(place, row.a)
+    Some(FieldAt {
+        offset: sizes::cell(plan, OFFSETS + k),
+        declared: row.a,
+    })
 }
 
 // Field n of type row r, the base's fields counted first, as the plan has it.

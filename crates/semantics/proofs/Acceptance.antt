@@ -1,4 +1,5 @@
 -- Document 01's starred cases as one table: the paper's words, and what the definitions give.
+use Rattle.checker.specs.Check.{refused_at}
 use Rattle.std.specs.Prelude.{Ok}
 use mathlib.Core.Path.{◌≡◌, refl}
 use mathlib.Core.Bool.{true, false}

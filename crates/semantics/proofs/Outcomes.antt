@@ -1,7 +1,6 @@
 -- What demand 3 says of a run: its outcome has a number of the paper's, and the bare machine does the same. And what
 -- every run keeps, whatever the image: the numbers of traps and HALT, and output places that were not written.
 use Rattle.std.specs.Prelude.{Ok, Err}
-use Rattle.checker.specs.Check.{refused_at}
 use Rattle.checker.specs.Check.{CheckAnswer}
 use mathlib.Core.Path.{◌≡◌, refl, sym, ◌∙◌}
 use mathlib.Core.Bool.{Bool, true, false}
@@ -164,8 +163,8 @@ unfolding refusal_of check_of
 checked image none = go (check_of image) refl none
   where
     go : (x : CheckAnswer) → check_of image ≡ x → refusal_of x ≡ 0 → check_of image ≡ Ok tt
-    go (Ok tt) e h = e
-    go (Err (refused_at q row)) e h = let low = (refused_first (question_of image) 11 1 q row e).least in absurd (omega arith)
+    go (Ok _) e h = e
+    go (Err x) e h = let low = (refused_first (question_of image) 11 1 x.question x.row e).least in absurd (omega arith)
 
 -- a run without refusal: the check accepts, and questions 12 and 13 are answered by yes
 pub refusal_none : (image : List ℕ) (store : List ℤ) → refusal image store ≡ 0

@@ -72,7 +72,7 @@ variable_place m g base top cells a row =
 -- "2 field b (base's fields counted first) of a."
 unfoldable pub field_place : Place → Option FieldAt → Found
 field_place whole None = Fs.Stuck
-field_place whole (Some (field_at offset r)) = object (whole.address + offset) r
+field_place whole (Some x) = object (whole.address + x.offset) x.declared
 
 -- "3 element of a at b."; trap "1 index"
 unfoldable pub element_place : Program → Place → Row → ℤ → Found

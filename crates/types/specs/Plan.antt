@@ -35,5 +35,5 @@ pub record Rest (t : List ℕ) (n : ℕ) (old plan : List ℕ) : Type 0 where
 
 -- how many type rows were passed
 unfoldable pub passed : List ℕ → Verdict → ℕ
-passed t (Ok tt) = rows_of t
+passed t (Ok _) = rows_of t
 passed t (Err r) = r

@@ -118,7 +118,7 @@ choose_kind false a e = no_kind e
 field_there : (a : Option FieldAt) {x : ℕ} → field_type a ≡ Some x → (at : ℕ) × (a ≡ Some (field_at at x))
 unfolding field_type
 field_there None e = no_kind e
-field_there (Some (field_at at type)) e = let q : type ≡ _ = same_kind e in (at, rw q)
+field_there (Some x) e = let q : x.declared ≡ _ = same_kind e in (x.offset, rw (← q))
 
 element_there : (array : Row) (index : ℕ) {x : ℕ} → element_type array index ≡ Some x
     → (array.kind ≡ 3) × (index ≡ INTEGER) × (x ≡ array.a)

@@ -23,9 +23,9 @@ pub missing_type : (x : Option FieldAt) → x ≡ None → field_type x ≡ None
 unfolding field_type
 missing_type x e = rw e
 
-pub field_type_lem : (x : Option FieldAt) {at type : ℕ} → x ≡ Some (field_at at type) → field_type x ≡ Some type
+pub field_type_lem : (a : Option FieldAt) {x : FieldAt} → a ≡ Some x → field_type a ≡ Some x.declared
 unfolding field_type
-field_type_lem x e = rw e
+field_type_lem a e = rw e
 
 module _ (t : List ℕ) (r index : ℕ) (row : Row) (this_row : row ≡ row_at t r) where
   pub no_array : (row.kind ≡ 3 → ⊥) → element_type (row_at t r) index ≡ None

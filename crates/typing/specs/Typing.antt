@@ -30,7 +30,7 @@ variable_node v row = Some (row_at v row.a).a
 -- "A field exists": its type
 unfoldable pub field_type : Option FieldAt → Option ℕ
 field_type None = None
-field_type (Some (field_at at type)) = Some type
+field_type (Some x) = Some x.declared
 
 -- "2 field b .. of a."
 unfoldable pub field_node : List ℕ → List ℕ → (ℕ → Option ℕ) → Row → Option ℕ
@@ -95,7 +95,7 @@ type_in types k = choose (ltb k (length types)) (Some (get_or types k 0)) None
 
 -- how many node rows were passed
 unfoldable pub passed : List ℕ → Verdict → ℕ
-passed n (Ok tt) = rows_of n
+passed n (Ok _) = rows_of n
 passed n (Err r) = r
 
 -- the table holds the types of the first m nodes; every other cell is as it was

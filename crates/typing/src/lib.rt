@@ -10,7 +10,6 @@ ghost use Rattle.typing.specs.Typing.{narrow_node};
 ghost use Rattle.typing.specs.Typing.{dyadic_node, monadic_node, type_by, type_of, passed, Typed, question10};
 
 use image::Row;
-use relations::FieldAt;
 
 // The type of node k in a table of the lower rows' types.
 pub fn type_at(types: &[u16], k: usize) -> Option<u16>
@@ -22,32 +21,22 @@ pub fn type_at(types: &[u16], k: usize) -> Option<u16>
     None
 }
 
+#[tactic(auto, unfolding(crate::specs::Typing::field_node, crate::specs::Typing::typed))]
 fn field_node(t: &[u8], f: &[u8], plan: &[u32], types: &[u16], row: Row) -> Option<u16>
     requires { TypesAccepted t.now f.now × Plan t.now f.now (rows_of t.now) plan.now }
     ensures { result ≡ field_node t.now f.now (type_in types.now) row }
 {
-    let a = row.a;
-    let b = row.b;
-    let Some(whole) = type_at(types, a as usize) else {
-        return None;
-    };
-    match relations::field(t, f, plan, whole, b) {
-        None => None,
-        Some(FieldAt { offset: _, declared: part }) => Some(part),
-    }
+    let whole = type_at(types, row.a as usize)?;
+    let part = relations::field(t, f, plan, whole, row.b)?;
+    Some(part.declared)
 }
 
+#[tactic(auto, unfolding(crate::specs::Typing::element_node, crate::specs::Typing::typed))]
 fn element_node(t: &[u8], types: &[u16], row: Row) -> Option<u16>
     ensures { result ≡ element_node t.now (type_in types.now) row }
 {
-    let a = row.a;
-    let b = row.b;
-    let Some(whole) = type_at(types, a as usize) else {
-        return None;
-    };
-    let Some(index) = type_at(types, b as usize) else {
-        return None;
-    };
+    let whole = type_at(types, row.a as usize)?;
+    let index = type_at(types, row.b as usize)?;
     let array = image::row_at(t, whole as usize);
     let kind = array.kind;
     let element = array.a;
@@ -89,33 +78,24 @@ fn narrow_node(t: &[u8], v: &[u8], row: Row, given: u16) -> Option<u16>
     None
 }
 
+#[tactic(auto, unfolding(crate::specs::Typing::dyadic_node, crate::specs::Typing::typed))]
 fn dyadic_node(t: &[u8], types: &[u16], row: Row) -> Option<u16>
     ensures { result ≡ dyadic_node t.now (type_in types.now) row }
 {
-    let a = row.a;
-    let b = row.b;
-    let c = row.c;
-    let Some(left) = type_at(types, a as usize) else {
-        return None;
-    };
-    let Some(right) = type_at(types, b as usize) else {
-        return None;
-    };
+    let left = type_at(types, row.a as usize)?;
+    let right = type_at(types, row.b as usize)?;
     let first = shapes::kind_in(t, left);
     let second = shapes::kind_in(t, right);
-    kinds::dyadic_kind(c, first, second)
+    kinds::dyadic_kind(row.c, first, second)
 }
 
+#[tactic(auto, unfolding(crate::specs::Typing::monadic_node, crate::specs::Typing::typed))]
 fn monadic_node(t: &[u8], types: &[u16], row: Row) -> Option<u16>
     ensures { result ≡ monadic_node t.now (type_in types.now) row }
 {
-    let a = row.a;
-    let c = row.c;
-    let Some(operand) = type_at(types, a as usize) else {
-        return None;
-    };
+    let operand = type_at(types, row.a as usize)?;
     let kind = shapes::kind_in(t, operand);
-    kinds::monadic_kind(c, kind)
+    kinds::monadic_kind(row.c, kind)
 }
 
 fn variable_node(v: &[u8], row: Row) -> Option<u16>

@@ -31,7 +31,7 @@ fill_places-requires c = let k = c.check_types-types.ensures in
     let kept = c.in-Ok.is in
     let pre = c.requires in
     let cells = k.rest.cells in
-    let accepted = sym c.check_rows-answer.ensures ∙ c.in-Ok.is in
+    let accepted = sym c.check_rows-answer.ensures ∙ c.in-Ok-answer.is in
     places_fit _ _ _ _ _ _ _ _ pre.0 (omega arith) (record { version = _; passes = sym k.value ∙ kept }) accepted
     (plan_all _ _ _ _ _ _ k.value k.plan k.rest kept)
 
@@ -39,4 +39,4 @@ pub returns : goal.returns
 unfolding table_question choose
 returns c = let k = c.check_types-types.ensures in
     let kept = c.in-Ok.is in
-    let accepted = sym c.check_rows-answer.ensures ∙ c.in-Ok.is in record { value = sym (chain_next _ 4 7 k.value kept ∙ accepted); plan = leaves_whole _ _ _ _ _ _ k.value k.plan k.rest _ _ _ kept c.fill_places.ensures }
+    let accepted = sym c.check_rows-answer.ensures ∙ c.in-Ok-answer.is in record { value = sym (chain_next _ 4 7 k.value kept ∙ accepted); plan = leaves_whole _ _ _ _ _ _ k.value k.plan k.rest _ _ _ kept c.fill_places.ensures }

@@ -71,12 +71,12 @@ returns-in-Err c =
     let no = sym c.header.ensures ∙ c.in-Err.is in
     record { value = sym (header_no _ no); plan = untouched no }
 
-pub returns-in-Ok : goal.returns-in-Ok
+pub returns-in-Ok-answer : goal.returns-in-Ok-answer
 unfolding version_of
-returns-in-Ok c =
+returns-in-Ok-answer c =
     let yes = sym c.header.ensures ∙ c.in-Ok.is in
     let k = c.check_tables-answer.ensures in
-    let accepted = c.in-Ok.is in
+    let accepted = c.in-Ok-answer.is in
     let left = leaves _ _ _ yes _ _ _ _ _ _ _ _ c.part-t.ensures c.part-f.ensures c.part-v.ensures c.part-p.ensures
     c.part-n.ensures c.part-s.ensures k.plan in
     record {

@@ -11,9 +11,9 @@ pub returns-then-offset-gt65535 : goal.returns-then-offset-gt65535
 unfolding field_cell choose
 returns-then-offset-gt65535 c = search (tests, c.in-Some.is)
 
-pub returns-then-r-gt254 : goal.returns-then-r-gt254
+pub returns-then-declared-gt254 : goal.returns-then-declared-gt254
 unfolding field_cell choose
-returns-then-r-gt254 c = search (tests, c.in-Some.is)
+returns-then-declared-gt254 c = search (tests, c.in-Some.is)
 
 pub returns-then-d-gt254 : goal.returns-then-d-gt254
 unfolding field_cell choose

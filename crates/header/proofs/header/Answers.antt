@@ -1,14 +1,16 @@
-use Rattle.std.specs.Prelude.{Err}
+use Rattle.std.specs.Prelude.{Option, Some, None, Err}
+use Rattle.std.specs.Prelude.{ok_or}
 use Rattle.image.specs.Rows.{word_at}
 use lib.ListN.{length}
 use lib.Dec.{ltb}
 use mathlib.Core.Bool.{true, false}
 use mathlib.Core.List.{List}
-use mathlib.Core.Path.{◌≡◌, ◌∙◌, sym, ap}
+use mathlib.Core.Path.{◌≡◌, ◌∙◌, refl, sym, ap}
 use Prim.Native.Nat.{ℕ}
 use native.Mathlib.Omega.{arith}
 use borrow.Author.Tests.{lt-ltb, le-leb, lt-leb, eq-eqb, ne_eqb}
 use Rattle.prelude.proofs.Choice.{choose_yes, choose_no, also_yes, also_left, also_right}
+use Rattle.header.specs.declared.Tables.{Tables}
 use Rattle.header.specs.Header.{version_of, question1, question2, tables_of, third_answer, header_of}
 use borrow.Author.Rules.{rules}
 use Rattle.header.proofs.header.Goals as goal
@@ -59,10 +61,12 @@ pub tables_of-requires : goal.tables_of-requires
 unfolding version_of
 tables_of-requires c = search rules
 
-pub returns-in-None : goal.returns-in-None
+third_is : (x : Option Tables) → third_answer x ≡ ok_or x 3
 unfolding third_answer
-returns-in-None c = sym (both_yes _ (first_yes (goal.at.returns-in-None c).Else-version-ne1) (second-yes (goal.at.returns-in-None c).Else-length-image) ∙ rw (← c.tables_of.ensures, c.in-None.is))
+third_is None = refl
+third_is (Some t) = refl
 
-pub returns-in-Some : goal.returns-in-Some
-unfolding third_answer
-returns-in-Some c = sym (both_yes _ (first_yes (goal.at.returns-in-Some c).Else-version-ne1) (second-yes (goal.at.returns-in-Some c).Else-length-image) ∙ rw (← c.tables_of.ensures, c.in-Some.is))
+pub returns : goal.returns
+returns c = let at = goal.at.returns c in
+    sym (both_yes _ (first_yes at.Else-version-ne1) (second-yes at.Else-length-image)
+    ∙ ap third_answer (sym c.tables_of.ensures) ∙ third_is _ ∙ sym c.ok_or.ensures.value)

@@ -1,21 +1,18 @@
 use Rattle.relations.proofs.Fielding.{field_known}
 use Rattle.typing.specs.Typing.{field_node}
-use Rattle.typing.proofs.Giving.{typed_none, typed_known, missing_type, field_type_lem}
+use Rattle.typing.proofs.Giving.{typed_known, missing_type, field_type_lem}
 use mathlib.Core.Path.{sym, ◌∙◌}
 use Rattle.typing.proofs.field_node.Goals as goal
 
-pub returns-in_default : goal.returns-in_default
+pub returns-in_err-part : goal.returns-in_err-part
 unfolding field_node
-returns-in_default c = sym (typed_none _ _ (sym c.type_at.ensures ∙ c.in_default.is))
+returns-in_err-part c = let pre = c.requires in
+    c.from_residual-in_err-part.ensures
+    ∙ sym (typed_known _ _ (sym c.in_ok-whole.ensures)
+    ∙ missing_type _ (sym (c.in_err-part.ensures ∙ field_known _ _ _ pre.0 pre.1 _ _)))
 
-pub returns-in-None : goal.returns-in-None
+pub returns : goal.returns
 unfolding field_node
-returns-in-None c = let pre = c.requires in
-    sym (typed_known _ _ (sym c.type_at.ensures ∙ c.in-Some.is)
-    ∙ missing_type _ (sym (c.field.ensures ∙ field_known _ _ _ pre.0 pre.1 _ _) ∙ c.in-None.is))
-
-pub returns-in-Some : goal.returns-in-Some
-unfolding field_node
-returns-in-Some c = let pre = c.requires in
-    sym (typed_known _ _ (sym c.type_at.ensures ∙ c.in-Some.is)
-    ∙ field_type_lem _ (sym (c.field.ensures ∙ field_known _ _ _ pre.0 pre.1 _ _) ∙ c.in-Some.is))
+returns c = let pre = c.requires in
+    sym (typed_known _ _ (sym c.in_ok-whole.ensures)
+    ∙ field_type_lem _ (sym (c.in_ok-part.ensures ∙ field_known _ _ _ pre.0 pre.1 _ _)))
