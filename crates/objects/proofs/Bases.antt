@@ -30,9 +30,9 @@ module _ (s : List ℕ) (w a : ℕ) where
   unfolding said_of_base
   said_none e = sym (of_no_base false (λ u. choose (eqb u w) false (bit_of (get_or s u 0) w)) a e)
 
-  pub said_some : 0 < a → said_of_base s w a ≡ choose (eqb (a - 1) w) false (bit_of (get_or s (a - 1) 0) w)
+  pub said_some : {b : ℕ} → a ≡ suc b → said_of_base s w a ≡ choose (eqb b w) false (bit_of (get_or s b 0) w)
   unfolding said_of_base
-  said_some some = of_base_lem false (λ u. choose (eqb u w) false (bit_of (get_or s u 0) w)) a some
+  said_some some = of_row false (λ u. choose (eqb u w) false (bit_of (get_or s u 0) w)) some
 
 -- ---- it is what begins there
 

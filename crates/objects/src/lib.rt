@@ -52,10 +52,7 @@ pub fn marked(s: &Words, w: u16, i: u16) -> bool
 fn told(b: bool) -> Look
     ensures { result ≡ told_by b }
 {
-    if b {
-        return Look::Yes;
-    }
-    Look::No
+    if b { Look::Yes } else { Look::No }
 }
 
 // Whether one begins where the fields from row k on start, which have cells.
@@ -67,16 +64,16 @@ fn among_first(f: &[u8], plan: &[u32], starts: &Words, w: u16, k: usize) -> bool
         → result ≡ among_of deeper (held plan.now) (own_types f.now k (e - k)) 0 }
 {
     let mut j = k;
+    // By the promise `Ahead` a field before the end has cells: a `for` would end, and need an answer behind it.
     loop {
         let u = image::a_at(f, j);
         if marked(starts, w, u) {
             return true;
         }
-        let size = plan[u as usize];
-        if 0 < size {
+        if 0 < plan[u as usize] {
             return false;
         }
-        j = j + 1;
+        j += 1;
     }
 }
 
@@ -92,20 +89,18 @@ fn among(f: &[u8], plan: &[u32], starts: &Words, ends: &Words, w: u16, k: usize,
 {
     let mut j = k;
     let mut rest = o;
+    // By the promise `Ahead` a field has the place: a `for` would end, and need an answer behind it.
     loop {
         let u = image::a_at(f, j);
         let size = plan[u as usize];
-        if rest <= size {
-            if rest < size {
-                return Look::Inside(u as usize, rest);
-            }
-            if marked(ends, w, u) {
-                return Look::Yes;
-            }
-            return told(among_first(f, plan, starts, w, j + 1));
+        if rest < size {
+            return Look::Inside(u as usize, rest);
         }
-        j = j + 1;
-        rest = rest - size;
+        if rest == size {
+            return told(marked(ends, w, u) || among_first(f, plan, starts, w, j + 1));
+        }
+        j += 1;
+        rest -= size;
     }
 }
 
@@ -114,10 +109,9 @@ fn base_cells(plan: &[u32], a: u16) -> u32
     requires { a ≤ length plan.now }
     ensures { result ≡ of_base 0 (held plan.now) a }
 {
-    if a == 0 {
+    let Some(base) = (a as usize).checked_sub(1) else {
         return 0;
-    }
-    let base = (a as usize) - 1;
+    };
     plan[base]
 }
 
@@ -143,20 +137,16 @@ fn fields(
     ensures lower { Below (held plan.now) r result }
 {
     let row = image::row_at(t, r);
-    let a = row.a;
     let first = row.b as usize;
-    let before = base_cells(plan, a);
+    let before = base_cells(plan, row.a);
     if before < o {
         return among(f, plan, starts, ends, w, first, o - before);
     }
-    let base = a - 1;
+    let base = row.a - 1;
     if o < before {
         return Look::Inside(base as usize, o);
     }
-    if marked(ends, w, base) {
-        return Look::Yes;
-    }
-    told(among_first(f, plan, starts, w, first))
+    told(marked(ends, w, base) || among_first(f, plan, starts, w, first))
 }
 
 // A look o cells into elements of type row e, which have more: where one ends the next starts.
@@ -173,10 +163,7 @@ fn elements(plan: &[u32], starts: &Words, ends: &Words, w: u16, e: u16, o: u32) 
     if 0 < inside {
         return Look::Inside(e as usize, inside);
     }
-    if marked(starts, w, e) {
-        return Look::Yes;
-    }
-    told(marked(ends, w, e))
+    told(marked(starts, w, e) || marked(ends, w, e))
 }
 
 // A look o cells into the parts of type row r, between its edges: it is an array or a record.
@@ -200,22 +187,10 @@ fn parts(
     ensures lower { Below (held plan.now) r result }
 {
     let row = image::row_at(t, r);
-    let kind = row.kind;
-    let a = row.a;
-    if kind == 3 {
-        return elements(plan, starts, ends, w, a, o);
+    if row.kind == 3 {
+        return elements(plan, starts, ends, w, row.a, o);
     }
     fields(t, f, plan, starts, ends, w, r, o)
-}
-
-// Whether a look says yes by itself.
-fn is_yes(x: Look) -> bool
-    ensures { result ≡ settled (λ u o. false) x }
-{
-    match x {
-        Look::Yes => true,
-        _ => false,
-    }
 }
 
 // Whether one begins o cells into the parts of type row r, between its edges, at any depth.
@@ -239,12 +214,14 @@ fn reached(
     let mut at = r as usize;
     let mut into = o;
     loop {
-        let look = parts(t, f, plan, starts, ends, w, at, into);
-        let Look::Inside(u, x) = look else {
-            return is_yes(look);
-        };
-        at = u;
-        into = x;
+        match parts(t, f, plan, starts, ends, w, at, into) {
+            Look::Yes => return true,
+            Look::No => return false,
+            Look::Inside(u, x) => {
+                at = u;
+                into = x;
+            }
+        }
     }
 }
 
@@ -263,15 +240,12 @@ fn base_edges(starts: &Words, ends: &Words, a: u16) -> EdgeWords
     ensures { (w : ℕ) → (bit_of result.starts w ≡ said_of_base starts.now w a)
         × (bit_of result.ends w ≡ said_of_base ends.now w a) }
 {
-    if a == 0 {
+    let Some(base) = a.checked_sub(1) else {
         return EdgeWords { starts: 0, ends: 0 };
-    }
-    let base = a - 1;
-    let first = without(starts[base as usize], base);
-    let last = without(ends[base as usize], base);
+    };
     EdgeWords {
-        starts: first,
-        ends: last,
+        starts: without(starts[base as usize], base),
+        ends: without(ends[base as usize], base),
     }
 }
 
@@ -279,10 +253,7 @@ fn base_edges(starts: &Words, ends: &Words, a: u16) -> EdgeWords
 fn across(word: u64, n: usize, other: u64) -> u64
     ensures { result ≡ choose (eqb n 0) (bit_or word other) word }
 {
-    if n == 0 {
-        return word | other;
-    }
-    word
+    if n == 0 { word | other } else { word }
 }
 
 // What begins at the edges of parts of so many cells, and n fields from row k on behind them.
@@ -304,18 +275,15 @@ fn field_edges(
         → AtEdges (among_of deeper (held plan.now) (l ++ own_types f.now k n))
         (sum (map (held plan.now) (l ++ own_types f.now k n))) w result.starts result.ends }
 {
-    let mut j = k as usize;
-    let end = j + (n as usize);
     let mut first = base.starts;
     let mut last = base.ends;
     let mut size = before as usize;
-    while j < end {
+    for j in k as usize..k as usize + n as usize {
         let u = image::a_at(f, j) as usize;
         let own = sizes::cell(plan, u) as usize;
         first = across(first, size, starts[u]);
         last = across(ends[u], own, last);
-        size = size + own;
-        j = j + 1;
+        size += own;
     }
     EdgeWords {
         starts: first,
@@ -332,24 +300,18 @@ fn part_edges(t: &[u8], f: &[u8], plan: &[u32], starts: &Words, ends: &Words, r:
         (parts_of t.now f.now r)) (held plan.now r) w result.starts result.ends }
 {
     let row = image::row_at(t, r);
-    let kind = row.kind;
-    let a = row.a;
-    let b = row.b;
-    let c = row.c;
-    if kind == 3 {
-        let first = starts[a as usize];
-        let last = ends[a as usize];
-        return EdgeWords {
-            starts: first,
-            ends: last,
-        };
+    match row.kind {
+        3 => EdgeWords {
+            starts: starts[row.a as usize],
+            ends: ends[row.a as usize],
+        },
+        4 => {
+            let base = base_edges(starts, ends, row.a);
+            let before = base_cells(plan, row.a);
+            field_edges(f, plan, starts, ends, base, before, row.b, row.c)
+        }
+        _ => EdgeWords { starts: 0, ends: 0 },
     }
-    if kind == 4 {
-        let base = base_edges(starts, ends, a);
-        let before = base_cells(plan, a);
-        return field_edges(f, plan, starts, ends, base, before, b, c);
-    }
-    EdgeWords { starts: 0, ends: 0 }
 }
 
 // What begins at the edges of type row r: an object begins at its own start, which is its end where it has no cells.
@@ -363,11 +325,9 @@ fn edges(t: &[u8], f: &[u8], plan: &[u32], starts: &Words, ends: &Words, r: usiz
     let inner = part_edges(t, f, plan, starts, ends, r);
     let own = 1u64 << (r as u64);
     let size = sizes::cell(plan, r) as usize;
-    let first = inner.starts | own;
-    let last = across(inner.ends, size, own);
     EdgeWords {
-        starts: first,
-        ends: last,
+        starts: inner.starts | own,
+        ends: across(inner.ends, size, own),
     }
 }
 
@@ -379,13 +339,10 @@ pub fn fill(t: &[u8], f: &[u8], plan: &[u32], starts: &mut Words, ends: &mut Wor
     ensures starts { Beyond (rows_of t.now) starts.old starts.new }
     ensures ends { Beyond (rows_of t.now) ends.old ends.new }
 {
-    let rows = image::rows_of(t);
-    let mut r: usize = 0;
-    while r < rows {
+    for r in 0..image::rows_of(t) {
         let x = edges(t, f, plan, starts, ends, r);
         starts[r] = x.starts;
         ends[r] = x.ends;
-        r = r + 1;
     }
 }
 
@@ -411,8 +368,5 @@ pub fn holds(
     if o == size {
         return marked(ends, w, r);
     }
-    if o < size {
-        return reached(t, f, plan, starts, ends, w, r, o);
-    }
-    false
+    o < size && reached(t, f, plan, starts, ends, w, r, o)
 }

@@ -22,11 +22,9 @@ pub fn extends(t: &[u8], r: u16, u: u16) -> bool
     let mut at = r as usize;
     while at != sought {
         let row = image::row_at(t, at);
-        let base = shapes::base_of(row);
-        if base == 0 {
+        let Some(next) = (shapes::base_of(row) as usize).checked_sub(1) else {
             return false;
-        }
-        let next = (base as usize) - 1;
+        };
         if at <= next {
             return false;
         }
@@ -42,11 +40,10 @@ fn own_field(f: &[u8], plan: &[u32], b: u16, c: u16, j: usize) -> Option<FieldAt
     if c as usize <= j {
         return None;
     }
-    let k = (b as usize) + j;
-    let row = image::row_at(f, k);
+    let k = b as usize + j;
     Some(FieldAt {
         offset: sizes::cell(plan, OFFSETS + k),
-        declared: row.a,
+        declared: image::row_at(f, k).a,
     })
 }
 
@@ -58,21 +55,16 @@ pub fn field(t: &[u8], f: &[u8], plan: &[u32], r: u16, n: u16) -> Option<FieldAt
     let mut at = r as usize;
     loop {
         let row = image::row_at(t, at);
-        let kind = row.kind;
-        let a = row.a;
-        let b = row.b;
-        let c = row.c;
-        if kind != 4 {
+        if row.kind != 4 {
             return None;
         }
         let inherited = sizes::cell(plan, INHERITED + at) as usize;
         if inherited <= sought {
-            return own_field(f, plan, b, c, sought - inherited);
+            return own_field(f, plan, row.b, row.c, sought - inherited);
         }
-        if a == 0 {
+        let Some(base) = (row.a as usize).checked_sub(1) else {
             return None;
-        }
-        let base = (a as usize) - 1;
+        };
         if at <= base {
             return None;
         }

@@ -5,18 +5,16 @@ use Prim.Native.Nat.{ℕ, zero, suc, ◌+◌, ◌-◌, ◌*◌, ◌^◌, ◌≤�
 use native.Mathlib.Omega.{arith}
 use native.Mathlib.Decide.{dec_lt}
 use borrow.Author.Tests.{le-leb, lt-leb, eq-eqb, ne_eqb}
-use lib.Dec.{ltb, eqb}
 use lib.ListN.{length, get_or, take}
 use lib.Pow.{pow_pos, pow-add}
 use native.Mathlib.Nat.{le_of_lt, lt_of_le_of_lt, mul-le-mul_left, mul-lt-mul_of_pos_right}
-use Rattle.prelude.specs.Choice.{choose, ◌also◌}
+use Rattle.prelude.specs.Choice.{choose}
 use Rattle.prelude.specs.Parts.{sum}
 use Rattle.prelude.proofs.Each.{Each, Each.none, Each.more}
 use Rattle.image.specs.declared.Row.{Row}
 use Rattle.image.specs.Rows.{row_at}
 use Rattle.shapes.specs.Forms.{Form, Form.scalar, Form.array, Form.record_of, Form.no_form, form_of, form}
 use Rattle.shapes.specs.Forms.{base_of, count_of, of_base, own_types}
-use Rattle.shapes.specs.Shapes.{base_kept}
 
 -- the product of a number of j bits and one of k bits has at most j + k
 pub product_below : (j k : ℕ) {a b : ℕ} → a < 2 ^ j → b < 2 ^ k → a * b < 2 ^ (j + k)
@@ -119,11 +117,6 @@ pub by_bases : {X Y : Type 0} {d : X} {e : Y} {g : ℕ → X} {h : ℕ → Y} (R
 unfolding of_base
 by_bases R zero n s = n
 by_bases R (suc b) n s = s b refl
-
-pub kept_base : (t : List ℕ) (r a : ℕ) → 0 < a → base_kept t r a ≡ (ltb (a - 1) r also eqb (row_at t (a - 1)).kind 4)
-unfolding base_kept
-kept_base t r zero h = absurd (omega arith)
-kept_base t r (suc b) h = rw (less_one b)
 
 -- ---- own fields
 

@@ -66,10 +66,9 @@ pub fn cell(plan: &[u32], i: usize) -> u32
 pub fn base_size(plan: &[u32], a: u16) -> u32
     ensures { result ≡ of_base 0 (λ r. get_or plan.now r 0) a }
 {
-    if a == 0 {
+    let Some(base) = (a as usize).checked_sub(1) else {
         return 0;
-    }
-    let base = (a as usize) - 1;
+    };
     cell(plan, base)
 }
 
@@ -79,15 +78,9 @@ fn own_size(f: &[u8], plan: &[u32], k: usize, n: u16) -> usize
     ensures value { result ≡ sum (map (λ r. get_or plan.now r 0) (own_types f.now k n)) }
     ensures small { result ≤ n * 4294967295 }
 {
-    let end = k + (n as usize);
-    let mut i = k;
     let mut total: usize = 0;
-    while i < end {
-        let row = image::row_at(f, i);
-        let a = row.a as usize;
-        let size = cell(plan, a);
-        total = total + (size as usize);
-        i = i + 1;
+    for i in k..k + n as usize {
+        total += cell(plan, image::row_at(f, i).a as usize) as usize;
     }
     total
 }
@@ -96,28 +89,17 @@ fn own_size(f: &[u8], plan: &[u32], k: usize, n: u16) -> usize
 fn array_size(n: u16, element: u32) -> usize
     ensures { result ≡ n * element }
 {
-    (n as usize) * (element as usize)
+    n as usize * element as usize
 }
 
 // The size of a row's type.
 pub fn type_size(f: &[u8], plan: &[u32], row: Row) -> usize
     ensures { result ≡ size_by f.now (λ r. get_or plan.now r 0) (form_of row) }
 {
-    let kind = row.kind;
-    let a = row.a;
-    let b = row.b;
-    let c = row.c;
-    match kind {
+    match row.kind {
         0..=2 => 1,
-        3 => {
-            let element = cell(plan, a as usize);
-            array_size(b, element)
-        }
-        4 => {
-            let base = base_size(plan, a);
-            let own = own_size(f, plan, b as usize, c);
-            (base as usize) + own
-        }
+        3 => array_size(row.b, cell(plan, row.a as usize)),
+        4 => base_size(plan, row.a) as usize + own_size(f, plan, row.b as usize, row.c),
         _ => 0,
     }
 }

@@ -17,14 +17,10 @@ fn inherited(t: &[u8], plan: &[u32], a: u16) -> u32
     requires { of_base 0 (λ b. get_or plan.now (INHERITED + b) 0) a ≤ 65535 }
     ensures { result ≡ of_base 0 (λ b. get_or plan.now (INHERITED + b) 0 + (row_at t.now b).c) a }
 {
-    if a == 0 {
+    let Some(base) = (a as usize).checked_sub(1) else {
         return 0;
-    }
-    let base = (a as usize) - 1;
-    let row = image::row_at(t, base);
-    let own = row.c;
-    let above = sizes::cell(plan, INHERITED + base);
-    above + (own as u32)
+    };
+    sizes::cell(plan, INHERITED + base) + image::row_at(t, base).c as u32
 }
 
 // Where n field rows from row k on begin in their record, the first at `at`.
@@ -32,16 +28,11 @@ fn plan_offsets(f: &[u8], plan: &mut [u32], k: usize, n: u16, at: u32)
     requires { OffsetsFit f.now plan.old k n at }
     ensures { Offsets f.now k n at plan.old plan.new }
 {
-    let end = k + (n as usize);
-    let mut i = k;
     let mut place = at;
-    while i < end {
-        let row = image::row_at(f, i);
-        let a = row.a as usize;
-        let size = sizes::cell(plan, a);
+    for i in k..k + n as usize {
+        let size = sizes::cell(plan, image::row_at(f, i).a as usize);
         plan[OFFSETS + i] = place;
-        place = place + size;
-        i = i + 1;
+        place += size;
     }
 }
 
@@ -67,29 +58,22 @@ pub fn check_types(version: u8, t: &[u8], f: &[u8], plan: &mut [u32]) -> Result<
     ensures plan { Plan t.now f.now (passed t.now result) plan.new }
     ensures rest { Rest t.now (passed t.now result) plan.old plan.new }
 {
-    let n = image::rows_of(t);
-    let fields = image::rows_of(f);
-    let mut r: usize = 0;
+    let types = image::rows_of(t);
     let mut used: usize = 0;
-    while r < n {
+    for r in 0..types {
         let row = image::row_at(t, r);
         if !shapes::shape_kept(version, t, f, used, r, row) {
-            let bad = r as u16;
-            return Err(bad);
+            return Err(r as u16);
         }
         let size = sizes::type_size(f, plan, row);
         if 4096 < size {
-            let large = r as u16;
-            return Err(large);
+            return Err(r as u16);
         }
-        let small = size as u32;
-        plan_row(t, f, plan, used, r, row, small);
-        used = used + (shapes::claimed(row) as usize);
-        r = r + 1;
+        plan_row(t, f, plan, used, r, row, size as u32);
+        used += shapes::claimed(row) as usize;
     }
-    if used == fields {
+    if used == image::rows_of(f) {
         return Ok(());
     }
-    let count = r as u16;
-    Err(count)
+    Err(types as u16)
 }

@@ -23,11 +23,11 @@ pub bounds-plan-u : goal.bounds-plan-u
 bounds-plan-u c =
     ahead_planned c.loop-w.invariant.0 c.a_at-u.ensures
 
-pub returns-then-size-gt0 : goal.returns-then-size-gt0
-returns-then-size-gt0 c = λ deeper e m ends edges fields.
+pub returns-then-plan-u-gt0 : goal.returns-then-plan-u-gt0
+returns-then-plan-u-gt0 c = λ deeper e m ends edges fields.
     let (here, same) = c.loop-w.invariant.1 deeper e m ends edges fields in
     sym (same ∙ first_no_lem edges here c.a_at-u.ensures c.marked.ensures refl c.if-marked.false
-    c.if-size-gt0.true)
+    c.if-plan-u-gt0.true)
 
 pub overflow_add-j : goal.overflow_add-j
 overflow_add-j c = omega (arith, ahead_small c.loop-w.invariant.0)
@@ -42,6 +42,6 @@ loop-w-preserved c = let l = c.loop-w in
       λ deeper e m ends edges fields.
           let (here, same) = l.invariant.1 deeper e m ends edges fields in (
             fields_next here this refl (omega arith),
-            same ∙ first_next edges here this c.marked.ensures refl c.if-marked.false c.if-size-gt0.false,
+            same ∙ first_next edges here this c.marked.ensures refl c.if-marked.false c.if-plan-u-gt0.false,
           ),
     )

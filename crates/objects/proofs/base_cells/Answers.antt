@@ -1,10 +1,12 @@
-use mathlib.Core.Path.{sym}
+use mathlib.Core.Path.{◌≡◌, sym}
+use Prim.Native.Nat.{suc}
 use native.Mathlib.Omega.{arith}
-use Rattle.shapes.proofs.Rows.{of_no_base, of_base_lem}
+use Rattle.shapes.proofs.Rows.{of_no_base, of_row}
+use Rattle.objects.specs.Looking.{held}
 use Rattle.objects.proofs.base_cells.Goals as goal
 
-pub returns-then-a-eq0 : goal.returns-then-a-eq0
-returns-then-a-eq0 c = sym (of_no_base _ _ _ c.if-a-eq0.true)
+pub returns-in_default : goal.returns-in_default
+returns-in_default c = sym (of_no_base _ _ _ (omega arith))
 
 pub returns : goal.returns
-returns c = sym (of_base_lem _ _ _ (omega arith))
+returns c = let some : c.args.a ≡ suc c.in-Some.base = omega arith in sym (of_row 0 (held c.args.plan.now) some)

@@ -1,10 +1,12 @@
+use mathlib.Core.Path.{sym, ◌∙◌}
 use Prim.Native.Nat.{◌/◌, ◌%◌, ◌<◌}
 use native.Mathlib.Omega.{arith}
 use native.Mathlib.Nat.{div-add-mod', mod-lt}
-use Rattle.objects.specs.Looking.{Below.yes_below, Below.inside_below}
-use Rattle.objects.proofs.Looks.{looks_yes, looks_told, looks_inside, below_told}
+use Rattle.objects.specs.Looking.{Below.inside_below}
+use Rattle.objects.proofs.Looks.{looks_told, looks_inside, below_told}
 use Rattle.objects.proofs.Looks.{parted_inside, parted_yes, parted_both}
 use Rattle.objects.proofs.elements.Goals as goal
+use Rattle.objects.proofs.elements.Goals.{then-marked, else-marked}
 
 pub returns-then-inside-gt0 : goal.returns-then-inside-gt0
 returns-then-inside-gt0 c = let o = c.args.o in
@@ -17,23 +19,16 @@ returns-then-inside-gt0 c = let o = c.args.o in
       lower = λ m low. inside_below {o = o % size} low c.if-inside-gt0.true (omega (arith, is, less));
     }
 
-pub returns-then-marked : goal.returns-then-marked
-returns-then-marked c = let o = c.args.o in
-    let size = c.cell-size.result in
-    let is = c.cell-size.ensures in record {
-      by_index = λ deeper m n edges low within.
-          looks_yes deeper (parted_yes edges low n is (o / size) (o % size) (div-add-mod' o size) within
-          (omega arith) c.marked.ensures c.if-marked.true);
-      lower = λ m low. yes_below;
-    }
-
 pub returns : goal.returns
 returns c = let o = c.args.o in
     let size = c.cell-size.result in
     let is = c.cell-size.ensures in record {
       by_index = λ deeper m many edges low within.
-          looks_told deeper c.told.ensures (parted_both edges low many is (o / size) (o % size)
-          (div-add-mod' o size) within (omega arith) c.marked.ensures c.if-marked.false
-          (omega (arith, is, c.requires.2)) c.requires.3 c.marked-2.ensures);
+          looks_told deeper c.told.ensures (elim c.if-marked.branch [
+            | then-marked w ↦ w.told-is ∙ w.if-marked.true ∙ sym (parted_yes edges low many is (o / size) (o % size) (div-add-mod' o size) within
+                (omega arith) c.marked.ensures w.if-marked.true)
+            | else-marked w ↦ w.told-is ∙ parted_both edges low many is (o / size) (o % size) (div-add-mod' o size) within
+                (omega arith) c.marked.ensures w.if-marked.false (omega (arith, is, c.requires.2)) c.requires.3 w.marked-else-marked.ensures
+          ]);
       lower = λ m low. below_told _ c.told.ensures;
     }

@@ -10,12 +10,8 @@ use Rattle.objects.proofs.Joining.{Joined}
 use Rattle.objects.proofs.field_edges.Given as goal
 
 abbrev pub invariant-loop-j : goal.invariant-loop-j
-invariant-loop-j l = (l.k ≤ l.j)
-    × (l.size ≤ (l.j - l.k + 1) * 4294967295)
+invariant-loop-j l = (l.size ≤ (l.j - l.k + 1) * 4294967295)
     × ((deeper : ℕ → ℕ → Bool) (w m : ℕ) (parts : List ℕ) → Edges deeper (held l.plan) w m l.starts l.ends
     → LowTypes l.f l.k (l.k + l.n) m → sum (map (held l.plan) parts) ≡ l.before
     → AtEdges (among deeper (held l.plan) parts) l.before w l.initial.first l.initial.last
-    → Joined deeper (held l.plan) w (parts ++ own_types l.f l.k l.n) (own_types l.f l.j (l.end - l.j)) l.size l.first l.last)
-
-abbrev pub decreases-loop-j : goal.decreases-loop-j
-decreases-loop-j l = l.end - l.j
+    → Joined deeper (held l.plan) w (parts ++ own_types l.f l.k l.n) (own_types l.f l.j (l.k + l.n - l.j)) l.size l.first l.last)

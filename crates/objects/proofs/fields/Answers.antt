@@ -2,12 +2,13 @@ use mathlib.Core.Path.{◌≡◌, sym, ◌∙◌}
 use Prim.Native.Nat.{◌+◌, ◌-◌, ◌<◌}
 use native.Mathlib.Omega.{arith}
 use Rattle.shapes.proofs.Rows.{of_base_lem}
-use Rattle.objects.specs.Looking.{held, Below.yes_below, Below.inside_below}
-use Rattle.objects.proofs.Looks.{looks_yes, looks_inside, looks_told, below_told}
+use Rattle.objects.specs.Looking.{held, Below.inside_below}
+use Rattle.objects.proofs.Looks.{looks_inside, looks_told, below_told}
 use Rattle.objects.proofs.Records.{base_some, base_room, base_few, base_lower, own_fields, own_ahead}
 use Rattle.objects.proofs.Records.{record_own, record_yes, record_no}
 use Rattle.objects.proofs.Bases.{base_inside, base_end}
 use Rattle.objects.proofs.fields.Goals as goal
+use Rattle.objects.proofs.fields.Goals.{then-marked, else-marked}
 
 pub base_cells-before-requires : goal.base_cells-before-requires
 base_cells-before-requires c = base_room c.requires.0 c.args.r c.requires.2 c.requires.3 c.row_at-row.ensures
@@ -59,18 +60,6 @@ marked-requires c = (
   ),
 )
 
-pub returns-then-marked : goal.returns-then-marked
-returns-then-marked c = let row = c.row_at-row.ensures in
-    let size = c.base_cells-before.ensures in
-    let last : c.args.o ≡ c.base_cells-before.result = omega arith in record {
-      result_value = λ edges.
-          looks_yes _ (record_yes c.requires.0 c.args.r c.requires.2 c.requires.3 row _ size c.args.o
-          (sym (base_end c.requires.0 c.args.w c.args.r c.requires.2 c.requires.3 row c.args.o edges
-          (base_some _ _ size (omega arith)) c.requires.4 (last ∙ size))
-          ∙ sym c.marked.ensures ∙ c.if-marked.true));
-      lower = yes_below;
-    }
-
 pub among_first-requires : goal.among_first-requires
 among_first-requires c = (
   own_ahead c.requires.0 c.args.r c.requires.2 c.requires.3 c.row_at-row.ensures
@@ -85,10 +74,15 @@ returns c = let row = c.row_at-row.ensures in
     let place : c.base_cells-before.result + 0 ≡ c.args.o = omega arith in record {
       result_value = λ edges.
           let own = own_fields c.requires.0 c.args.r c.requires.2 c.requires.3 row size place c.requires.5 in
-          looks_told _ c.told.ensures (c.among_first.ensures _ _ c.args.r _ edges own
-          ∙ record_no c.requires.0 c.args.r c.requires.2 c.requires.3 row _ size c.args.o
-          (sym (base_end c.requires.0 c.args.w c.args.r c.requires.2 c.requires.3 row c.args.o edges
-          (base_some _ _ size (omega arith)) c.requires.4 (last ∙ size))
-          ∙ sym c.marked.ensures ∙ c.if-marked.false) last);
+          let end = sym (base_end c.requires.0 c.args.w c.args.r c.requires.2 c.requires.3 row c.args.o edges
+          (base_some _ _ size (omega arith)) c.requires.4 (last ∙ size)) ∙ sym c.marked.ensures in
+          looks_told _ c.told.ensures (elim c.if-marked.branch [
+            | then-marked w ↦
+                w.told-is ∙ w.if-marked.true
+                ∙ sym (record_yes c.requires.0 c.args.r c.requires.2 c.requires.3 row _ size c.args.o (end ∙ w.if-marked.true))
+            | else-marked w ↦
+                w.told-is ∙ w.among_first.ensures _ _ c.args.r _ edges own
+                ∙ record_no c.requires.0 c.args.r c.requires.2 c.requires.3 row _ size c.args.o (end ∙ w.if-marked.false) last
+          ]);
       lower = below_told _ c.told.ensures;
     }

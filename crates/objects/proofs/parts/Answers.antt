@@ -6,14 +6,14 @@ use Rattle.objects.proofs.parts.Goals as goal
 pub elements-requires : goal.elements-requires
 elements-requires c = let row = c.row_at-row.ensures in (
   c.requires.1,
-  element_few c.requires.0 c.args.r c.requires.2 row c.if-kind-eq3.true,
-  element_some c.requires.0 c.args.r c.requires.2 row c.requires.3 c.requires.4 c.if-kind-eq3.true,
+  element_few c.requires.0 c.args.r c.requires.2 row c.if-row-eq3.true,
+  element_some c.requires.0 c.args.r c.requires.2 row c.requires.3 c.requires.4 c.if-row-eq3.true,
   c.requires.3,
 )
 
-pub returns-then-kind-eq3 : goal.returns-then-kind-eq3
-returns-then-kind-eq3 c = let row = c.row_at-row.ensures in
-    let kind = c.if-kind-eq3.true in
+pub returns-then-row-eq3 : goal.returns-then-row-eq3
+returns-then-row-eq3 c = let row = c.row_at-row.ensures in
+    let kind = c.if-row-eq3.true in
     let low = element_low c.requires.0 c.args.r c.requires.2 row kind in record {
       result_value = λ edges.
           c.elements.ensures.by_index _ c.args.r c.row_at-row.result.b edges low
@@ -24,12 +24,12 @@ returns-then-kind-eq3 c = let row = c.row_at-row.ensures in
 
 pub fields-requires : goal.fields-requires
 fields-requires c = let kind = is_record c.requires.0 c.args.r c.requires.2 c.row_at-row.ensures c.requires.3 c.requires.4
-    c.if-kind-eq3.false in
+    c.if-row-eq3.false in
     (c.requires.0, c.requires.1, c.requires.2, kind, c.requires.3, c.requires.4)
 
 pub returns : goal.returns
 returns c = let row = c.row_at-row.ensures in
-    let kind = is_record c.requires.0 c.args.r c.requires.2 row c.requires.3 c.requires.4 c.if-kind-eq3.false in record {
+    let kind = is_record c.requires.0 c.args.r c.requires.2 row c.requires.3 c.requires.4 c.if-row-eq3.false in record {
       result_value = λ edges.
           c.fields.ensures.result_value edges
           ∙ part_record c.requires.0 c.args.r c.requires.2 row _ c.args.o (rw row kind);

@@ -5,6 +5,6 @@ pub returns-then-b : goal.returns-then-b
 unfolding told_by
 returns-then-b c = rw c.if-b.true
 
-pub returns : goal.returns
+pub returns-else-b : goal.returns-else-b
 unfolding told_by
-returns c = rw c.if-b.false
+returns-else-b c = rw c.if-b.false

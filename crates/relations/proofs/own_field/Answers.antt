@@ -9,4 +9,4 @@ returns-then-c-j c = rw (le-ltb _ _ c.if-c-j.true)
 
 pub returns : goal.returns
 unfolding planned_own choose
-returns c = rw (lt-ltb _ _ c.if-c-j.false, ← c.cell.ensures, ← c.row_at-row.ensures)
+returns c = rw (lt-ltb _ _ c.if-c-j.false, ← c.cell.ensures, ← c.row_at.ensures)

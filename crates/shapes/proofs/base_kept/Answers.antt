@@ -1,19 +1,20 @@
+use Rattle.std.proofs.Common.{◌≡◌, arith}
+use Prim.Native.Nat.{suc}
 use Rattle.prelude.specs.Choice.{◌also◌}
-use Rattle.shapes.proofs.Rows.{kept_base}
-use mathlib.Core.Path.{sym, ◌∙◌}
-use borrow.Author.Tests.{le-ltb, lt-ltb}
-use native.Mathlib.Omega.{arith}
 use Rattle.shapes.specs.Shapes.{base_kept}
+use borrow.Author.Tests.{le-ltb, lt-ltb}
 use Rattle.shapes.proofs.base_kept.Goals as goal
 
-pub returns-then-a-eq0 : goal.returns-then-a-eq0
+pub returns-in_default : goal.returns-in_default
 unfolding base_kept
-returns-then-a-eq0 c = rw c.if-a-eq0.true
+returns-in_default c = let none : c.args.a ≡ 0 = omega arith in rw none
 
-pub returns-then-r-base : goal.returns-then-r-base
-unfolding ◌also◌
-returns-then-r-base c = sym (kept_base _ _ _ (omega arith) ∙ rw (le-ltb _ _ c.if-r-base.true))
+pub returns-then-base-r : goal.returns-then-base-r
+unfolding base_kept ◌also◌
+returns-then-base-r c = let some : c.args.a ≡ suc c.in-Some.base = omega arith in
+    rw (some, lt-ltb _ _ c.if-base-r.true, ← c.row_at.ensures)
 
-pub returns : goal.returns
-unfolding ◌also◌
-returns c = sym (kept_base _ _ _ (omega arith) ∙ rw (lt-ltb _ _ c.if-r-base.false, ← c.row_at-row.ensures))
+pub returns-else-base-r : goal.returns-else-base-r
+unfolding base_kept ◌also◌
+returns-else-base-r c = let some : c.args.a ≡ suc c.in-Some.base = omega arith in
+    rw (some, le-ltb _ _ c.if-base-r.false)

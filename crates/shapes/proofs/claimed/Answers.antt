@@ -3,9 +3,9 @@ use Rattle.shapes.specs.Forms.{count_of}
 use Rattle.shapes.proofs.Rows.{form_record, no_record}
 use Rattle.shapes.proofs.claimed.Goals as goal
 
-pub returns-then-kind-eq4 : goal.returns-then-kind-eq4
+pub returns-then-row-eq4 : goal.returns-then-row-eq4
 unfolding count_of
-returns-then-kind-eq4 c = rw (form_record c.args.row c.if-kind-eq4.true)
+returns-then-row-eq4 c = rw (form_record c.args.row c.if-row-eq4.true)
 
-pub returns-else-kind-eq4 : goal.returns-else-kind-eq4
-returns-else-kind-eq4 c = sym (no_record c.args.row c.if-kind-eq4.false).1
+pub returns-else-row-eq4 : goal.returns-else-row-eq4
+returns-else-row-eq4 c = sym (no_record c.args.row c.if-row-eq4.false).1

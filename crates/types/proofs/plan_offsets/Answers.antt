@@ -15,17 +15,14 @@ turn c =
     let c = c in
     let l = c.loop-i in
     at_turn c.args.f.now c.args.k c.args.n c.args.at c.args.plan.now l.i l.place c.cell-size.result l.plan
-    c.requires l.invariant.0 c.loop-i-test.true l.invariant.3 l.invariant.2
-    (c.cell-size.ensures ∙ ap (λ (x : Row). get_or l.plan x.a 0) c.row_at-row.ensures)
-
-pub overflow_add-end : goal.overflow_add-end
-overflow_add-end c = omega arith
+    c.requires (omega arith) c.loop-i-test.true l.invariant.1 l.invariant.0
+    (c.cell-size.ensures ∙ ap (λ (x : Row). get_or l.plan x.a 0) c.row_at.ensures)
 
 pub loop-i-init : goal.loop-i-init
 loop-i-init c = let a = c.args in
     let none : a.k - a.k ≡ 0 = omega arith in
     let first = sum_end a.f.now a.k a.k (λ r. get_or a.plan.now r 0) (omega arith) in
-    (omega arith, omega arith, omega (arith, first), rw none (offsets_none _ _ _ _))
+    (omega (arith, first), rw none (offsets_none _ _ _ _))
 
 pub bounds-plan-i : goal.bounds-plan-i
 bounds-plan-i c = (turn (goal.at.bounds-plan-i c).After-cell-size).room
@@ -33,21 +30,12 @@ bounds-plan-i c = (turn (goal.at.bounds-plan-i c).After-cell-size).room
 pub overflow_add-place : goal.overflow_add-place
 overflow_add-place c = record { fits = omega (arith, (turn (goal.at.overflow_add-place c).After-cell-size).small) }
 
-pub overflow_add-i : goal.overflow_add-i
-overflow_add-i c = omega arith
-
-pub loop-i-smaller : goal.loop-i-smaller
-loop-i-smaller c = omega arith
-
 pub loop-i-preserved : goal.loop-i-preserved
 loop-i-preserved c = let l = c.loop-i in
-    (omega arith, omega arith, (turn (goal.at.loop-i-preserved c).After-cell-size).next, offsets_next _ _ _ _ l.i l.place l.plan l.invariant.0 l.invariant.3 (turn (goal.at.loop-i-preserved c).After-cell-size).room l.invariant.2)
-
-pub shape_of-plan : goal.shape_of-plan
-shape_of-plan c = c.loop-i.invariant.3.cells
+    ((turn (goal.at.loop-i-preserved c).After-cell-size).next, offsets_next _ _ _ _ l.i l.place l.plan (omega arith) l.invariant.1 (turn (goal.at.loop-i-preserved c).After-cell-size).room l.invariant.0)
 
 pub returns : goal.returns
 returns c = let s = c.args in
     let l = c.loop-i in
     let all : l.i - s.k ≡ s.n = omega arith in
-    rw all at l.invariant.3
+    rw all at l.invariant.1
