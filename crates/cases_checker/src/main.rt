@@ -5,27 +5,27 @@ use checker::Refusal;
 use std::fs::File;
 use std::io;
 
+// The longest image.
+const IMAGE_BYTES: usize = 29714;
+
+// The most records that are read of a pack.
+const RECORDS: u32 = 10_000;
+
 fn main(rt: HostRuntime) -> io::Result<()> {
     let name = "images.pack";
     let mut file = match File::open(&rt, name) {
         Ok(file) => file,
         Err(error) => return eprintln!(rt; "{name}: {error}"),
     };
-    let mut buffer = [0u8; 29714];
-    let mut left: usize = 10000;
-    while 0 < left {
-        let n = packs::next_record(&mut file, &mut buffer);
-        if buffer.len() < n {
+    let mut buffer = [0; IMAGE_BYTES];
+    for _ in 0..RECORDS {
+        let Ok(n) = packs::next_record(&mut file, &mut buffer) else {
             return Ok(());
-        }
+        };
         match checker::check(&buffer[..n]) {
-            Ok(()) => packs::print_answer(&rt, 0)?,
-            Err(Refusal { question: refusal, row }) => packs::print_answer(
-                &rt,
-                (refusal as u32) * 65536 + (row as u32),
-            )?,
+            Ok(()) => packs::print_answer(&rt, 0, 0)?,
+            Err(Refusal { question, row }) => packs::print_answer(&rt, question, row)?,
         }
-        left = left - 1;
     }
     Ok(())
 }

@@ -9,17 +9,38 @@ ghost use Rattle.cases_machine.specs.Records.{Inputs};
 use std::fs::File;
 use std::io;
 
+// What a record begins with: five numbers.
+const HEAD_BYTES: usize = 20;
+
+// An input, which is a number.
+const INPUT_BYTES: usize = 4;
+
+// The longest image.
+const IMAGE_BYTES: usize = 29714;
+
+// The longest record.
+const RECORD_BYTES: usize = HEAD_BYTES + INPUTS * INPUT_BYTES + IMAGE_BYTES;
+
+// The most records that are read of a pack.
+const RECORDS: u32 = 10_000;
+
+// The most cells of a case.
+const CELLS: usize = 4096;
+
+// The most output places of a case.
+const PLACES: usize = 64;
+
+// The most inputs of a case.
+const INPUTS: usize = 64;
+
 // Takes the inputs of a record, as many as there are places for.
 fn take_inputs(bytes: &[u8], input: &mut [i32])
-    requires { 20 + length input.old * 4 ≤ length bytes.now }
+    requires { HEAD_BYTES + length input.old * INPUT_BYTES ≤ length bytes.now }
     ensures { Inputs bytes.now (length input.old) input.new
         × (length input.new ≡ length input.old) }
 {
-    let mut i: usize = 0;
-    while i < input.len() {
-        let z = packs::signed_at(bytes, 20 + i * 4);
-        input[i] = z;
-        i = i + 1;
+    for (i, place) in input.iter_mut().enumerate() {
+        *place = packs::signed_at(bytes, HEAD_BYTES + i * INPUT_BYTES);
     }
 }
 
@@ -41,9 +62,9 @@ fn run_case(
     let x = machine::run(image, input, store, output, steps);
     printing::print_result(rt, x)?;
     rt.print(" |")?;
-    printing::print_output(rt, b" ", output)?;
+    printing::print_each(rt, " ", output)?;
     rt.print(" |")?;
-    printing::print_store(rt, b" ", store)?;
+    printing::print_each(rt, " ", store)?;
     rt.print("\n")
 }
 
@@ -51,34 +72,27 @@ fn run_case(
 fn run_record(rt: &impl Print, bytes: &[u8]) -> io::Result<()>
     ensures { IfOk result (λ x. x ≡ tt) }
 {
-    if bytes.len() < 20 {
+    if bytes.len() < HEAD_BYTES {
         return Ok(());
     }
     let cells = image::word_at(bytes, 0) as usize;
-    let fill = packs::signed_at(bytes, 4) as i64;
+    let fill = i64::from(packs::signed_at(bytes, 4));
     let places = image::word_at(bytes, 8) as usize;
     let steps = image::word_at(bytes, 12);
     let inputs = image::word_at(bytes, 16) as usize;
-    if 4096 < cells {
+    if CELLS < cells || PLACES < places || INPUTS < inputs {
         return Ok(());
     }
-    if 64 < places {
+    let Some(image) = bytes.get(HEAD_BYTES + inputs * INPUT_BYTES..) else {
         return Ok(());
-    }
-    if 64 < inputs {
-        return Ok(());
-    }
-    let from = 20 + inputs * 4;
-    if bytes.len() < from {
-        return Ok(());
-    }
-    let mut input = [0i32; 64];
+    };
+    let mut input = [0; INPUTS];
     take_inputs(bytes, &mut input[..inputs]);
-    let mut store = [fill; 4096];
-    let mut output = [7i32; 64];
+    let mut store = [fill; CELLS];
+    let mut output = [7; PLACES];
     run_case(
         rt,
-        &bytes[from..],
+        image,
         &input[..inputs],
         &mut store[..cells],
         &mut output[..places],
@@ -92,15 +106,12 @@ fn main(rt: HostRuntime) -> io::Result<()> {
         Ok(file) => file,
         Err(error) => return eprintln!(rt; "{name}: {error}"),
     };
-    let mut buffer = [0u8; 29990];
-    let mut left: usize = 10000;
-    while 0 < left {
-        let n = packs::next_record(&mut file, &mut buffer);
-        if buffer.len() < n {
+    let mut buffer = [0; RECORD_BYTES];
+    for _ in 0..RECORDS {
+        let Ok(n) = packs::next_record(&mut file, &mut buffer) else {
             return Ok(());
-        }
+        };
         run_record(&rt, &buffer[..n])?;
-        left = left - 1;
     }
     Ok(())
 }

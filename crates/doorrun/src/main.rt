@@ -9,15 +9,26 @@ use semantics::RunResult;
 use std::io;
 use std::io::Read;
 
-// Runs an image with no inputs, 8,192 cells and 100,000 steps.
+// How much of the input is read: as many bytes as the longest image has.
+const IMAGE_BYTES: usize = 29714;
+
+// The cells of a run.
+const CELLS: usize = 8192;
+
+// The output places of a run.
+const OUTPUTS: usize = 4096;
+
+// The steps of a run.
+const STEPS: u32 = 100_000;
+
+// Runs an image with no inputs.
 fn run_image(image: &[u8], output: &mut [i32]) -> RunResult
-    ensures value { result ≡ result_of image.now [] (replicate 8192 (pos 0)) output.old 100000 }
-    ensures output { output.new ≡ output_after image.now [] (replicate 8192 (pos 0))
-        output.old 100000 }
+    ensures value { result ≡ result_of image.now [] (replicate CELLS (pos 0)) output.old STEPS }
+    ensures output { output.new ≡ output_after image.now [] (replicate CELLS (pos 0))
+        output.old STEPS }
 {
-    let input = [0i32; 0];
-    let mut store = [0i64; 8192];
-    machine::run(image, &input, &mut store, output, 100000)
+    let mut store = [0; CELLS];
+    machine::run(image, &[], &mut store, output, STEPS)
 }
 
 // Reads until the image is full, the input ends or a read fails, and answers how many bytes were read.
@@ -26,27 +37,25 @@ fn read_image<R: Read>(input: &mut R, image: &mut [u8]) -> usize
     ensures bytes { Consumes (R.remaining input.old) (R.remaining input.new)
         (take result image.new) }
 {
-    let mut done: usize = 0;
+    let mut done = 0;
     while done < image.len() {
         match input.read(&mut image[done..]) {
-            Ok(0) => return done,
+            Ok(0) | Err(_) => break,
             Ok(n) => done += n,
-            Err(_) => return done,
         }
     }
     done
 }
 
 fn main(rt: HostRuntime) -> io::Result<()> {
-    let mut image = [0u8; 29714];
+    let mut image = [0; IMAGE_BYTES];
     let n = read_image(&mut rt.stdin(), &mut image);
-    let mut output = [0i32; 4096];
+    let mut output = [0; OUTPUTS];
     let x = run_image(&image[..n], &mut output);
     printing::print_result(&rt, x)?;
     // No more are written than there are places.
-    let written = x.at.written as usize;
-    if written <= output.len() {
-        printing::print_output(&rt, b"\n", &output[..written])?;
+    if let Some(written) = output.get(..x.at.written as usize) {
+        printing::print_each(&rt, "\n", written)?;
     }
     rt.print("\n")
 }
