@@ -17,21 +17,20 @@ pub fn type_at(types: &[u16], k: usize) -> Option<u16>
     ensures { result ≡ type_in types.now k }
 {
     if k < types.len() {
-        return Some(types[k]);
+        Some(types[k])
+    } else {
+        None
     }
-    None
 }
 
 fn field_node(t: &[u8], f: &[u8], plan: &[u32], types: &[u16], row: Row) -> Option<u16>
     requires { TypesAccepted t.now f.now × Plan t.now f.now (rows_of t.now) plan.now }
     ensures { result ≡ field_node t.now f.now (type_in types.now) row }
 {
-    let a = row.a;
-    let b = row.b;
-    let Some(whole) = type_at(types, a as usize) else {
+    let Some(whole) = type_at(types, row.a as usize) else {
         return None;
     };
-    match relations::field(t, f, plan, whole, b) {
+    match relations::field(t, f, plan, whole, row.b) {
         None => None,
         Some(FieldAt { offset: _, declared: part }) => Some(part),
     }
@@ -40,24 +39,18 @@ fn field_node(t: &[u8], f: &[u8], plan: &[u32], types: &[u16], row: Row) -> Opti
 fn element_node(t: &[u8], types: &[u16], row: Row) -> Option<u16>
     ensures { result ≡ element_node t.now (type_in types.now) row }
 {
-    let a = row.a;
-    let b = row.b;
-    let Some(whole) = type_at(types, a as usize) else {
+    let Some(whole) = type_at(types, row.a as usize) else {
         return None;
     };
-    let Some(index) = type_at(types, b as usize) else {
+    let Some(index) = type_at(types, row.b as usize) else {
         return None;
     };
     let array = image::row_at(t, whole as usize);
-    let kind = array.kind;
-    let element = array.a;
-    if kind != 3 {
-        return None;
+    if array.kind == 3 && index == 1 {
+        Some(array.a)
+    } else {
+        None
     }
-    if index != 1 {
-        return None;
-    }
-    Some(element)
 }
 
 // Whether a guard or test may narrow variable a to type b.
@@ -65,65 +58,48 @@ fn narrows(t: &[u8], v: &[u8], a: u16, b: u16) -> bool
     ensures { result ≡ narrows_to t.now v.now a b }
 {
     let variable = image::row_at(v, a as usize);
-    let kind = variable.kind;
-    let declared = variable.a;
-    if kind != 3 {
-        return false;
-    }
-    let type_row = image::row_at(t, declared as usize);
-    let form = type_row.kind;
-    if form != 4 {
-        return false;
-    }
-    relations::extends(t, b, declared)
+    variable.kind == 3
+        && image::row_at(t, variable.a as usize).kind == 4
+        && relations::extends(t, b, variable.a)
 }
 
 fn narrow_node(t: &[u8], v: &[u8], row: Row, given: u16) -> Option<u16>
     ensures { result ≡ narrow_node t.now v.now row given }
 {
-    let a = row.a;
-    let b = row.b;
-    if narrows(t, v, a, b) {
-        return Some(given);
+    if narrows(t, v, row.a, row.b) {
+        Some(given)
+    } else {
+        None
     }
-    None
 }
 
 fn dyadic_node(t: &[u8], types: &[u16], row: Row) -> Option<u16>
     ensures { result ≡ dyadic_node t.now (type_in types.now) row }
 {
-    let a = row.a;
-    let b = row.b;
-    let c = row.c;
-    let Some(left) = type_at(types, a as usize) else {
+    let Some(left) = type_at(types, row.a as usize) else {
         return None;
     };
-    let Some(right) = type_at(types, b as usize) else {
+    let Some(right) = type_at(types, row.b as usize) else {
         return None;
     };
     let first = shapes::kind_in(t, left);
     let second = shapes::kind_in(t, right);
-    kinds::dyadic_kind(c, first, second)
+    kinds::dyadic_kind(row.c, first, second)
 }
 
 fn monadic_node(t: &[u8], types: &[u16], row: Row) -> Option<u16>
     ensures { result ≡ monadic_node t.now (type_in types.now) row }
 {
-    let a = row.a;
-    let c = row.c;
-    let Some(operand) = type_at(types, a as usize) else {
+    let Some(operand) = type_at(types, row.a as usize) else {
         return None;
     };
-    let kind = shapes::kind_in(t, operand);
-    kinds::monadic_kind(c, kind)
+    kinds::monadic_kind(row.c, shapes::kind_in(t, operand))
 }
 
 fn variable_node(v: &[u8], row: Row) -> Option<u16>
     ensures { result ≡ variable_node v.now row }
 {
-    let variable = image::row_at(v, row.a as usize);
-    let declared = variable.a;
-    Some(declared)
+    Some(image::row_at(v, row.a as usize).a)
 }
 
 // The type of a node from those of the lower rows.
@@ -132,8 +108,7 @@ fn node_type(t: &[u8], f: &[u8], plan: &[u32], v: &[u8], types: &[u16], row: Row
     ensures { result ≡ type_by t.now f.now v.now (type_in types.now)
         row.kind row }
 {
-    let kind = row.kind;
-    match kind {
+    match row.kind {
         0 => Some(row.a),
         1 => variable_node(v, row),
         2 => field_node(t, f, plan, types, row),
@@ -162,16 +137,12 @@ pub fn check_typing(
     ensures types { Typed (type_of t.now f.now v.now n.now)
         (passed n.now result) types.old types.new }
 {
-    let nodes = image::rows_of(n);
-    let mut r: usize = 0;
-    while r < nodes {
+    for r in 0..image::rows_of(n) {
         let row = image::row_at(n, r);
         let Some(given) = node_type(t, f, plan, v, &types[..r], row) else {
-            let bad = r as u16;
-            return Err(bad);
+            return Err(r as u16);
         };
         types[r] = given;
-        r = r + 1;
     }
     Ok(())
 }

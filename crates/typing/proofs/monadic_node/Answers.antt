@@ -11,5 +11,5 @@ pub returns : goal.returns
 unfolding monadic_node
 returns c =
     c.monadic_kind.ensures
-    ∙ rw c.kind_in-kind.ensures
+    ∙ rw c.kind_in.ensures
     (sym (typed_known _ _ (sym c.type_at.ensures ∙ c.in-Some.is)))
