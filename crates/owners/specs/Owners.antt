@@ -1,8 +1,7 @@
 -- Whose variables a node and the nodes below it use.
-use Rattle.std.specs.Prelude.{ℕ, ◌+◌, Bool, true, List, ltb, leb, eqb, length, get_or}
+use Rattle.std.specs.Prelude.{ℕ, ◌+◌, ◌≤◌, ◌<◌, ◌≡◌, Bool, true, List, ltb, leb, eqb, length, get_or}
 use Rattle.prelude.specs.Choice.{choose, ◌also◌}
 use Rattle.prelude.specs.Rec.{rec}
-use Rattle.prelude.specs.Cells.{Filled}
 use Rattle.image.specs.declared.Row.{Row}
 use Rattle.image.specs.Rows.{row_at, rows_of}
 use Rattle.frames.specs.Variables.{is_global}
@@ -60,15 +59,13 @@ span_of v n = gathered no_span (variable_span v) join_span n
 unfoldable pub within : ℕ → ℕ → Span → Bool
 within first next span = leb first span.least also leb span.past next
 
--- ---- two tables, one number a node
+-- ---- the table of spans: one a node
 
-unfoldable pub span_in : List ℕ → List ℕ → ℕ → Span
-span_in least past k =
-    choose (ltb k (length least) also ltb k (length past))
-    (record { least = get_or least k 0; past = get_or past k 0 })
-    no_span
+unfoldable pub span_in : List Span → ℕ → Span
+span_in spans k = get_or spans k no_span
 
--- the tables hold the spans of the first m nodes; every other cell is as it was
-pub record Spans (span : ℕ → Span) (m : ℕ) (old_least old_past least past : List ℕ) : Type 0 where
-  pub low : Filled 0 m (λ k. (span k).least) old_least least
-  pub high : Filled 0 m (λ k. (span k).past) old_past past
+-- the table holds the spans of the first m nodes; every other cell is as it was
+pub record Spans (span : ℕ → Span) (m : ℕ) (old spans : List Span) : Type 0 where
+  pub cells : length spans ≡ length old
+  pub holds : (k : ℕ) → k < m → span_in spans k ≡ span k
+  pub rest : (k : ℕ) → m ≤ k → span_in spans k ≡ span_in old k

@@ -1,8 +1,7 @@
 // Whose variables a node uses: one span of variable rows a node, from the low rows up.
 #![tactic(auto)]
 
-ghost use Rattle.std.specs.Prelude.{◌≡◌, ◌≤◌, length, leb};
-ghost use Rattle.prelude.specs.Choice.{choose};
+ghost use Rattle.std.specs.Prelude.{◌≡◌, ◌≤◌, length};
 ghost use Rattle.image.specs.Rows.{rows_of};
 ghost use Rattle.owners.specs.Owners.{gather, no_span, variable_span, join_span, span_of, within as lies_within};
 ghost use Rattle.owners.specs.Owners.{span_in, Spans};
@@ -12,8 +11,26 @@ use image::Row;
 // The variables from `least` on and below `past`; none where there are none.
 #[derive(Clone, Copy)]
 pub struct Span {
-    least: u16,
-    past: u16,
+    pub least: u16,
+    pub past: u16,
+}
+
+impl Span {
+    // No variables.
+    pub const NONE: Span = Span {
+        least: 65535,
+        past: 0,
+    };
+
+    // What lies in the one, in the other, or between them.
+    fn join(self, other: Span) -> Span
+        ensures { result ≡ join_span self other }
+    {
+        Span {
+            least: self.least.min(other.least),
+            past: self.past.max(other.past),
+        }
+    }
 }
 
 fn variable_span(v: &[u8], a: u16) -> Span
@@ -21,12 +38,8 @@ fn variable_span(v: &[u8], a: u16) -> Span
     ensures { result ≡ variable_span v.now a }
 {
     let row = image::row_at(v, a as usize);
-    let kind = row.kind;
-    if kind == 0 {
-        return Span {
-            least: 65535,
-            past: 0,
-        };
+    if row.kind == 0 {
+        return Span::NONE;
     }
     if a as usize >= image::rows_of(v) {
         return Span {
@@ -34,120 +47,57 @@ fn variable_span(v: &[u8], a: u16) -> Span
             past: 65535,
         };
     }
-    let past = a + 1;
     Span {
         least: a,
-        past: past,
+        past: a + 1,
     }
 }
 
-fn lesser(x: u16, y: u16) -> u16
-    ensures { result ≡ choose (leb x y) x y }
+// The span of node k in a table of the lower rows' spans.
+fn span_at(spans: &[Span], k: usize) -> Span
+    ensures { result ≡ span_in spans.now k }
 {
-    if x <= y { x } else { y }
-}
-
-fn greater(x: u16, y: u16) -> u16
-    ensures { result ≡ choose (leb x y) y x }
-{
-    if x <= y { y } else { x }
-}
-
-fn join_span(x: Span, y: Span) -> Span
-    ensures { result ≡ join_span x y }
-{
-    let least = lesser(x.least, y.least);
-    let past = greater(x.past, y.past);
-    Span {
-        least: least,
-        past: past,
+    if k < spans.len() {
+        spans[k]
+    } else {
+        Span::NONE
     }
 }
 
-// The span of node k in tables of the lower rows' spans.
-fn span_at(least: &[u16], past: &[u16], k: usize) -> Span
-    ensures { result ≡ span_in least.now past.now k }
+fn both_spans(spans: &[Span], a: u16, b: u16) -> Span
+    ensures { result ≡ join_span (span_in spans.now a) (span_in spans.now b) }
 {
-    if least.len() <= k {
-        return Span {
-            least: 65535,
-            past: 0,
-        };
-    }
-    if past.len() <= k {
-        return Span {
-            least: 65535,
-            past: 0,
-        };
-    }
-    let low = least[k];
-    let high = past[k];
-    Span {
-        least: low,
-        past: high,
-    }
-}
-
-fn both_spans(least: &[u16], past: &[u16], a: u16, b: u16) -> Span
-    ensures { result ≡ join_span (span_in least.now past.now a) (span_in least.now
-        past.now b) }
-{
-    let left = span_at(least, past, a as usize);
-    let right = span_at(least, past, b as usize);
-    join_span(left, right)
+    span_at(spans, a as usize).join(span_at(spans, b as usize))
 }
 
 // The span of a node from those of the lower rows.
-fn node_span(v: &[u8], least: &[u16], past: &[u16], row: Row) -> Span
+fn node_span(v: &[u8], spans: &[Span], row: Row) -> Span
     requires { rows_of v.now ≤ 256 }
-    ensures { result ≡ gather no_span (variable_span v.now) join_span (span_in least.now past.now) row.kind row }
+    ensures { result ≡ gather no_span (variable_span v.now) join_span (span_in spans.now) row.kind row }
 {
-    let kind = row.kind;
-    match kind {
-        1 => variable_span(v, row.a),
-        2 => span_at(least, past, row.a as usize),
-        3 => both_spans(least, past, row.a, row.b),
-        4 => variable_span(v, row.a),
-        5 => both_spans(least, past, row.a, row.b),
-        6 => span_at(least, past, row.a as usize),
-        7 => variable_span(v, row.a),
-        8 => span_at(least, past, row.a as usize),
-        _ => Span {
-            least: 65535,
-            past: 0,
-        },
+    match row.kind {
+        1 | 4 | 7 => variable_span(v, row.a),
+        2 | 6 | 8 => span_at(spans, row.a as usize),
+        3 | 5 => both_spans(spans, row.a, row.b),
+        _ => Span::NONE,
     }
 }
 
-// The spans of all nodes, in two lent tables.
-pub fn fill_spans(v: &[u8], n: &[u8], least: &mut [u16], past: &mut [u16])
-    requires { (rows_of v.now ≤ 256) × (rows_of n.now ≤ 2048) × (rows_of n.now ≤ length least.old) × (rows_of
-        n.now ≤ length past.old) }
-    ensures { Spans (span_of v.now n.now) (rows_of n.now) least.old
-        past.old least.new past.new }
+// The spans of all nodes, in a lent table.
+pub fn fill_spans(v: &[u8], n: &[u8], spans: &mut [Span])
+    requires { (rows_of v.now ≤ 256) × (rows_of n.now ≤ 2048) × (rows_of n.now ≤ length spans.old) }
+    ensures { Spans (span_of v.now n.now) (rows_of n.now) spans.old spans.new }
 {
-    let nodes = image::rows_of(n);
-    let mut r: usize = 0;
-    while r < nodes {
+    for r in 0..image::rows_of(n) {
         let row = image::row_at(n, r);
-        let span = node_span(v, &least[..r], &past[..r], row);
-        let low = span.least;
-        let high = span.past;
-        least[r] = low;
-        past[r] = high;
-        r = r + 1;
+        spans[r] = node_span(v, &spans[..r], row);
     }
 }
 
 // Whether the span of node k lies among the variables from `first` on and below `next`.
-pub fn is_within(least: &[u16], past: &[u16], first: u32, next: u32, k: usize) -> bool
-    ensures { result ≡ lies_within first next (span_in least.now past.now k) }
+pub fn is_within(spans: &[Span], first: u32, next: u32, k: usize) -> bool
+    ensures { result ≡ lies_within first next (span_in spans.now k) }
 {
-    let span = span_at(least, past, k);
-    let low = span.least as u32;
-    let high = span.past as u32;
-    if low < first {
-        return false;
-    }
-    high <= next
+    let span = span_at(spans, k);
+    first <= u32::from(span.least) && u32::from(span.past) <= next
 }

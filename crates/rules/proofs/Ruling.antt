@@ -18,7 +18,7 @@ use Rattle.frames.proofs.Accepted.{ProceduresKept, procedures_kept}
 use Rattle.statements.specs.Statements.{procedure_at}
 use Rattle.statements.proofs.Bodies.{InBody, in_body}
 use Rattle.owners.specs.declared.Span.{Span}
-use Rattle.owners.specs.Owners.{own_below, span_of, span_in, within}
+use Rattle.owners.specs.Owners.{own_below, no_span, span_of, span_in, within}
 use Rattle.owners.specs.Owners.{Spans}
 use Rattle.owners.proofs.Owning.{span_own}
 use Rattle.owners.proofs.Spanning.{spans_known}
@@ -79,8 +79,8 @@ first_few v p s kept q h = go (dec_lt q (rows_of p))
         let last : q ≡ rows_of p = omega arith in
         rw last (omega arith)
 
-module _ (t v p n s least past firsts : List ℕ) (ready : Ready v p n s least past firsts) (type : ℕ → Option ℕ) (r q : ℕ)
-    (inside : r < rows_of s) (this_procedure : q ≡ procedure_at p r) where
+module _ (t v p n s : List ℕ) (spans : List Span) (firsts : List ℕ) (ready : Ready v p n s spans firsts) (type : ℕ → Option ℕ)
+    (r q : ℕ) (inside : r < rows_of s) (this_procedure : q ≡ procedure_at p r) where
   kept : ProceduresKept v p s
   kept = procedures_kept v p s ready.procedures
 
@@ -88,17 +88,17 @@ module _ (t v p n s least past firsts : List ℕ) (ready : Ready v p n s least p
   body = rw this_procedure (in_body v p s kept ready.some_procedure r inside)
 
   own_same : (first next : ℕ) → first ≡ get_or firsts q 0 → next ≡ get_or firsts (q + 1) 0
-      → (λ k. within first next (span_in least past k)) ≡ own_below v p n (procedure_at p r)
+      → (λ k. within first next (span_in spans k)) ≡ own_below v p n (procedure_at p r)
   own_same first next low high =
       let there = body.procedure in
       let start = low ∙ ready.table.first q (omega arith) in
       let end = high ∙ ready.table.first (q + 1) (omega arith) in
       rw (start, end, ← this_procedure)
-      (fun_ext (λ k. ap (within (first_variable v p q) (first_variable v p (q + 1))) (ready.spans k)
+      (fun_ext (λ k. ap (within (first_variable v p q) (first_variable v p (q + 1))) (ready.known k)
       ∙ span_own v p q ready.few_variables (first_few v p s kept q (omega arith)) (first_few v p s kept (q + 1) (omega arith)) n k))
 
   pub statement_is : (row : Row) → row ≡ row_at s r → (first next : ℕ) → first ≡ get_or firsts q 0 → next ≡ get_or firsts (q + 1) 0
-      → rule_by t v p n type (λ k. within first next (span_in least past k)) row.kind row ≡ statement_rule t v p n s type r
+      → rule_by t v p n type (λ k. within first next (span_in spans k)) row.kind row ≡ statement_rule t v p n s type r
   unfolding statement_rule
   statement_is row this_row first next low high =
       ap (λ (own : ℕ → Bool). rule_by t v p n type own row.kind row) (own_same first next low high)
@@ -106,27 +106,17 @@ module _ (t v p n s least past firsts : List ℕ) (ready : Ready v p n s least p
 
 -- ---- the tables
 
-pub zeros : (n : ℕ) → length {A = ℕ} (replicate n 0) ≡ n
-zeros n = length-replicate {A = ℕ} n 0
+pub empty : (n : ℕ) → length (replicate n no_span) ≡ n
+empty n = length-replicate n no_span
 
--- the tables are long enough for all nodes
-pub room : (span : ℕ → Span) (m nodes : ℕ) (old_least old_past least past : List ℕ) → Spans span m old_least old_past least past
-    → length old_least ≡ 2048 → length old_past ≡ 2048 → nodes ≤ 2048 → (nodes ≤ length least) × (nodes ≤ length past)
-room span m nodes old_least old_past least past tables a b h =
-    let c = tables.low.cells in
-    let d = tables.high.cells in
-    (omega arith, omega arith)
-
-pub ready : (v p n s old_least old_past least past old firsts : List ℕ) (nodes : ℕ) → RowsFit v p n s → nodes ≡ rows_of n
-    → Spans (span_of v n) (rows_of n) old_least old_past least past → length old_least ≡ 2048 → length old_past ≡ 2048
-    → Firsts v p old firsts → Ready v p n s (take nodes least) (take nodes past) firsts
-ready v p n s old_least old_past least past old firsts nodes fit e tables a b first =
-    let (low, high) = room (span_of v n) (rows_of n) (rows_of n) old_least old_past least past tables a b fit.few_nodes in
-    record {
-      few_variables = fit.few_variables;
-      few_statements = fit.few_statements;
-      some_procedure = fit.some_procedure;
-      procedures = fit.procedures;
-      table = record { first = first.first };
-      spans = rw e (spans_known v n old_least old_past least past tables low high);
-    }
+pub ready : (v p n s : List ℕ) (old spans : List Span) (old_firsts firsts : List ℕ) (nodes : ℕ) → RowsFit v p n s
+    → nodes ≡ rows_of n → Spans (span_of v n) (rows_of n) old spans → rows_of n ≤ length spans
+    → Firsts v p old_firsts firsts → Ready v p n s (take nodes spans) firsts
+ready v p n s old spans old_firsts firsts nodes fit e table room first = record {
+  few_variables = fit.few_variables;
+  few_statements = fit.few_statements;
+  some_procedure = fit.some_procedure;
+  procedures = fit.procedures;
+  table = record { first = first.first };
+  known = rw e (spans_known v n old spans table room);
+}

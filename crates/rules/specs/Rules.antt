@@ -12,8 +12,10 @@ use Rattle.relations.specs.Extends.{extends}
 use Rattle.frames.specs.Procedures.{first_variable, question6}
 use Rattle.nodes.specs.Nodes.{is_designator}
 use Rattle.statements.specs.Statements.{procedure_at}
-use Rattle.typing.specs.Typing.{type_of}
-use Rattle.owners.specs.Owners.{own_below, span_of, span_in}
+use Rattle.typing.specs.Typing.{type_of, type_in}
+use Rattle.owners.specs.declared.Span.{Span}
+use Rattle.owners.specs.Owners.{own_below, span_of, span_in, within}
+use Rattle.rules.specs.declared.Body.{Body}
 
 -- a node's type is row r
 unfoldable pub is_type : Option ℕ → ℕ → Bool
@@ -86,13 +88,13 @@ pub record FirstTable (v p firsts : List ℕ) : Type 0 where
   pub first : (q : ℕ) → q ≤ rows_of p → get_or firsts q 0 ≡ first_variable v p q
 
 -- accepted procedures, their first variables, and the spans of all nodes
-pub record Ready (v p n s least past firsts : List ℕ) : Type 0 where
+pub record Ready (v p n s : List ℕ) (spans : List Span) (firsts : List ℕ) : Type 0 where
   pub few_variables : rows_of v ≤ 256
   pub few_statements : rows_of s ≤ 1024
   pub some_procedure : 1 ≤ rows_of p
   pub procedures : question6 v p s ≡ Ok tt
   pub table : FirstTable v p firsts
-  pub spans : (k : ℕ) → span_in least past k ≡ span_of v n k
+  pub known : (k : ℕ) → span_in spans k ≡ span_of v n k
 
 -- tables whose counts are in range, with accepted procedures
 pub record RowsFit (v p n s : List ℕ) : Type 0 where
@@ -102,3 +104,13 @@ pub record RowsFit (v p n s : List ℕ) : Type 0 where
   pub few_nodes : rows_of n ≤ 2048
   pub few_statements : rows_of s ≤ 1024
   pub procedures : question6 v p s ≡ Ok tt
+
+-- ---- a body
+
+-- the types that its table of types gives
+abbrev pub types_in : Body → ℕ → Option ℕ
+types_in body = type_in body.types.now
+
+-- node k uses global variables and the body's own alone
+abbrev pub owned_in : Body → ℕ → Bool
+owned_in body k = within body.first body.next (span_in body.spans.now k)

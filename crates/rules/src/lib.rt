@@ -2,24 +2,16 @@
 #![tactic(auto)]
 
 ghost use Rattle.std.specs.Prelude.{◌≡◌, ℕ, ◌+◌, ◌≤◌, ◌<◌, length, get_or};
-ghost use Rattle.image.specs.Faults.{all_from};
 ghost use Rattle.image.specs.Rows.{rows_of};
 ghost use Rattle.frames.specs.Procedures.{first_variable, question6};
 ghost use Rattle.typing.specs.Typing.{type_in};
-ghost use Rattle.owners.specs.Owners.{span_of, span_in, within};
+ghost use Rattle.owners.specs.Owners.{span_of, span_in};
 ghost use Rattle.rules.specs.Rules.{is_type, assignable as is_assignable, assign_rule, form_rule, argument_rule};
 ghost use Rattle.rules.specs.Rules.{call_rule, type_rule, halt_rule, rule_by, rules_by, FirstTable, Ready, RowsFit};
+ghost use Rattle.rules.specs.Rules.{types_in, owned_in};
 
 use image::Row;
-
-fn is_type(types: &[u16], k: usize, r: u16) -> bool
-    ensures { result ≡ is_type (type_in types.now k) r }
-{
-    let Some(found) = typing::type_at(types, k) else {
-        return false;
-    };
-    found == r
-}
+use owners::Span;
 
 // Whether a node of type `source` may go where one of type `target` stands.
 fn assignable(t: &[u8], source: Option<u16>, target: Option<u16>) -> bool
@@ -34,197 +26,116 @@ fn assignable(t: &[u8], source: Option<u16>, target: Option<u16>) -> bool
     relations::extends(t, from, to)
 }
 
-fn assign_rule(
-    t: &[u8],
-    types: &[u16],
-    least: &[u16],
-    past: &[u16],
-    first: u32,
-    next: u32,
-    row: Row,
-) -> bool
-    ensures { result ≡ assign_rule t.now (type_in types.now) (λ k. within first next (span_in
-        least.now past.now k)) row }
-{
-    let a = row.a;
-    let b = row.b;
-    let source = typing::type_at(types, b as usize);
-    let target = typing::type_at(types, a as usize);
-    if !assignable(t, source, target) {
-        return false;
-    }
-    if !owners::is_within(least, past, first, next, a as usize) {
-        return false;
-    }
-    owners::is_within(least, past, first, next, b as usize)
-}
-
 // Whether argument row k may be passed to a parameter of a kind.
 fn form_rule(n: &[u8], kind: u8, k: usize) -> bool
     ensures { result ≡ form_rule n.now kind k }
 {
-    if kind != 3 {
-        return true;
-    }
-    let argument = image::row_at(n, k);
-    let held = argument.a;
-    nodes::is_designator(n, held as usize)
+    kind != 3 || nodes::is_designator(n, image::row_at(n, k).a as usize)
 }
 
-// Whether argument row k fits parameter row a.
-fn argument_rule(
-    t: &[u8],
-    v: &[u8],
-    n: &[u8],
-    types: &[u16],
-    least: &[u16],
-    past: &[u16],
+// A body, whose variables stand from `first` on and below `next`, with the types and the spans of all nodes and the
+// first variables of all procedures.
+#[derive(Clone, Copy)]
+struct Body<'a> {
+    t: &'a [u8],
+    v: &'a [u8],
+    p: &'a [u8],
+    n: &'a [u8],
+    types: &'a [u16],
+    spans: &'a [Span],
+    firsts: &'a [u32],
     first: u32,
     next: u32,
-    k: usize,
-    a: usize,
-) -> bool
-    ensures { result ≡ argument_rule t.now v.now n.now (type_in types.now) (λ j. within first next (span_in least.now past.now j)) k a }
-{
-    let parameter = image::row_at(v, a);
-    let kind = parameter.kind;
-    let declared = parameter.a;
-    let source = typing::type_at(types, k);
-    if !assignable(t, source, Some(declared)) {
-        return false;
-    }
-    if !form_rule(n, kind, k) {
-        return false;
-    }
-    owners::is_within(least, past, first, next, k)
 }
 
-// Whether count argument rows from row b on fit the parameter rows from `parameter` on.
-fn arguments_rule(
-    t: &[u8],
-    v: &[u8],
-    n: &[u8],
-    types: &[u16],
-    least: &[u16],
-    past: &[u16],
-    first: u32,
-    next: u32,
-    b: u16,
-    count: u16,
-    parameter: u32,
-) -> bool
-    ensures { result ≡ all_from (λ j. argument_rule t.now v.now n.now (type_in types.now) (λ k. within first next (span_in least.now past.now k)) (b + j)
-        (parameter + j)) 0 count }
-{
-    let end = count as usize;
-    let from = b as usize;
-    let to = parameter as usize;
-    let mut j: usize = 0;
-    while j < end {
-        if !argument_rule(t, v, n, types, least, past, first, next, from + j, to + j) {
+impl Body<'_> {
+    // Whether node k is of type row r.
+    fn is_type(&self, k: usize, r: u16) -> bool
+        ensures { result ≡ is_type (types_in self.now k) r }
+    {
+        let Some(found) = typing::type_at(self.types, k) else {
             return false;
+        };
+        found == r
+    }
+
+    // Whether the variables that node k uses are global or the body's own.
+    fn is_owned(&self, k: usize) -> bool
+        ensures { result ≡ owned_in self.now k }
+    {
+        owners::is_within(self.spans, self.first, self.next, k)
+    }
+
+    fn assign_rule(&self, row: Row) -> bool
+        ensures { result ≡ assign_rule self.now.t.now (types_in self.now) (owned_in self.now) row }
+    {
+        let source = typing::type_at(self.types, row.b as usize);
+        let target = typing::type_at(self.types, row.a as usize);
+        assignable(self.t, source, target)
+            && self.is_owned(row.a as usize)
+            && self.is_owned(row.b as usize)
+    }
+
+    // Whether argument row k fits parameter row a.
+    fn argument_rule(&self, k: usize, a: usize) -> bool
+        ensures { result ≡ argument_rule self.now.t.now self.now.v.now self.now.n.now (types_in self.now)
+            (owned_in self.now) k a }
+    {
+        let parameter = image::row_at(self.v, a);
+        let source = typing::type_at(self.types, k);
+        assignable(self.t, source, Some(parameter.a))
+            && form_rule(self.n, parameter.kind, k)
+            && self.is_owned(k)
+    }
+
+    fn call_rule(&self, row: Row) -> bool
+        requires { FirstTable self.now.v.now self.now.p.now self.now.firsts.now }
+        ensures { result ≡ call_rule self.now.t.now self.now.v.now self.now.p.now self.now.n.now (types_in self.now)
+            (owned_in self.now) row }
+    {
+        let called = image::row_at(self.p, row.a as usize);
+        let argument = row.b as usize;
+        let parameter = sizes::cell(self.firsts, row.a as usize) as usize;
+        for j in 0..called.b as usize {
+            if !self.argument_rule(argument + j, parameter + j) {
+                return false;
+            }
         }
-        j = j + 1;
+        true
     }
-    true
-}
 
-fn call_rule(
-    t: &[u8],
-    v: &[u8],
-    p: &[u8],
-    n: &[u8],
-    types: &[u16],
-    least: &[u16],
-    past: &[u16],
-    firsts: &[u32],
-    first: u32,
-    next: u32,
-    row: Row,
-) -> bool
-    requires { FirstTable v.now p.now firsts.now }
-    ensures { result ≡ call_rule t.now v.now p.now n.now (type_in types.now) (λ k. within first next (span_in least.now past.now k)) row }
-{
-    let a = row.a;
-    let b = row.b;
-    let called = image::row_at(p, a as usize);
-    let count = called.b;
-    let parameter = sizes::cell(firsts, a as usize);
-    arguments_rule(
-        t, v, n, types, least, past, first, next, b, count, parameter,
-    )
-}
-
-fn type_rule(
-    types: &[u16],
-    least: &[u16],
-    past: &[u16],
-    first: u32,
-    next: u32,
-    row: Row,
-    r: u16,
-) -> bool
-    ensures { result ≡ type_rule (type_in types.now) (λ k. within first next (span_in least.now
-        past.now k)) row r }
-{
-    let a = row.a;
-    if !is_type(types, a as usize, r) {
-        return false;
+    fn type_rule(&self, row: Row, r: u16) -> bool
+        ensures { result ≡ type_rule (types_in self.now) (owned_in self.now) row r }
+    {
+        self.is_type(row.a as usize, r) && self.is_owned(row.a as usize)
     }
-    owners::is_within(least, past, first, next, a as usize)
-}
 
-fn halt_rule(
-    n: &[u8],
-    types: &[u16],
-    least: &[u16],
-    past: &[u16],
-    first: u32,
-    next: u32,
-    row: Row,
-) -> bool
-    ensures { result ≡ halt_rule n.now (type_in types.now) (λ k. within first next (span_in
-        least.now past.now k)) row }
-{
-    let a = row.a;
-    if !type_rule(types, least, past, first, next, row, 1) {
-        return false;
+    fn halt_rule(&self, row: Row) -> bool
+        ensures { result ≡ halt_rule self.now.n.now (types_in self.now) (owned_in self.now) row }
+    {
+        self.type_rule(row, 1) && image::row_at(self.n, row.a as usize).kind == 0
     }
-    let node = image::row_at(n, a as usize);
-    node.kind == 0
-}
 
-// Whether a statement keeps its rules in a body whose variables stand from `first` on and below `next`.
-fn rule_by(
-    t: &[u8],
-    v: &[u8],
-    p: &[u8],
-    n: &[u8],
-    types: &[u16],
-    least: &[u16],
-    past: &[u16],
-    firsts: &[u32],
-    first: u32,
-    next: u32,
-    row: Row,
-) -> bool
-    requires { FirstTable v.now p.now firsts.now }
-    ensures { result ≡ rule_by t.now v.now p.now n.now (type_in types.now) (λ k. within first next (span_in least.now past.now k))
-        row.kind row }
-{
-    let kind = row.kind;
-    match kind {
-        0 => assign_rule(t, types, least, past, first, next, row),
-        1 => call_rule(t, v, p, n, types, least, past, firsts, first, next, row),
-        2 => type_rule(types, least, past, first, next, row, 0),
-        5 => type_rule(types, least, past, first, next, row, 1),
-        6 => type_rule(types, least, past, first, next, row, 1),
-        7 => halt_rule(n, types, least, past, first, next, row),
-        _ => true,
+    // Whether a statement of the body keeps its rules.
+    fn rule_by(&self, row: Row) -> bool
+        requires { FirstTable self.now.v.now self.now.p.now self.now.firsts.now }
+        ensures { result ≡ rule_by self.now.t.now self.now.v.now self.now.p.now self.now.n.now (types_in self.now)
+            (owned_in self.now) row.kind row }
+    {
+        match row.kind {
+            0 => self.assign_rule(row),
+            1 => self.call_rule(row),
+            2 => self.type_rule(row, 0),
+            5 => self.type_rule(row, 1),
+            6 => self.type_rule(row, 1),
+            7 => self.halt_rule(row),
+            _ => true,
+        }
     }
 }
 
 // Whether each statement keeps its rules, by tables of spans and of first variables.
+// Apart from check_rules: there a body would hold what is lent and what is local at one lifetime, which has no proof.
 fn rules_by(
     t: &[u8],
     v: &[u8],
@@ -232,26 +143,30 @@ fn rules_by(
     n: &[u8],
     s: &[u8],
     types: &[u16],
-    least: &[u16],
-    past: &[u16],
+    spans: &[Span],
     firsts: &[u32],
 ) -> Result<(), u16>
-    requires { Ready v.now p.now n.now s.now least.now past.now firsts.now }
+    requires { Ready v.now p.now n.now s.now spans.now firsts.now }
     ensures { result ≡ rules_by t.now v.now p.now n.now s.now (type_in types.now) }
 {
-    let statements = image::rows_of(s);
     let mut q: usize = 0;
-    let mut r: usize = 0;
-    while r < statements {
+    for r in 0..image::rows_of(s) {
+        let body = Body {
+            t,
+            v,
+            p,
+            n,
+            types,
+            spans,
+            firsts,
+            first: sizes::cell(firsts, q),
+            next: sizes::cell(firsts, q + 1),
+        };
         let row = image::row_at(s, r);
-        let first = sizes::cell(firsts, q);
-        let next = sizes::cell(firsts, q + 1);
-        if !rule_by(t, v, p, n, types, least, past, firsts, first, next, row) {
-            let bad = r as u16;
-            return Err(bad);
+        if !body.rule_by(row) {
+            return Err(r as u16);
         }
-        r = r + 1;
-        q = statements::next_procedure(p, q, r);
+        q = statements::next_procedure(p, q, r + 1);
     }
     Ok(())
 }
@@ -261,21 +176,10 @@ pub fn check_rules(t: &[u8], v: &[u8], p: &[u8], n: &[u8], s: &[u8], types: &[u1
     requires { RowsFit v.now p.now n.now s.now }
     ensures { result ≡ rules_by t.now v.now p.now n.now s.now (type_in types.now) }
 {
-    let nodes = image::rows_of(n);
-    let mut least = [0u16; 2048];
-    let mut past = [0u16; 2048];
-    owners::fill_spans(v, n, &mut least, &mut past);
+    let mut spans = [Span::NONE; 2048];
+    owners::fill_spans(v, n, &mut spans);
     let mut firsts = [0u32; 65];
     places::first_variables(v, p, &mut firsts);
-    rules_by(
-        t,
-        v,
-        p,
-        n,
-        s,
-        types,
-        &least[..nodes],
-        &past[..nodes],
-        &firsts,
-    )
+    let nodes = image::rows_of(n);
+    rules_by(t, v, p, n, s, types, &spans[..nodes], &firsts)
 }

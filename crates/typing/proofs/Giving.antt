@@ -4,6 +4,7 @@ use Rattle.relations.specs.declared.FieldAt.{FieldAt}
 use Rattle.std.specs.Prelude.{Option, Some, None}
 use mathlib.Core.Path.{◌≡◌, ◌∙◌}
 use mathlib.Core.List.{List}
+use mathlib.Core.Logic.{◌⊎◌, inl, inr}
 use Prim.Native.Nat.{ℕ}
 use borrow.Author.Tests.{eq-eqb, ne_eqb}
 use Rattle.prelude.proofs.Choice.{choose_yes, choose_no}
@@ -28,15 +29,11 @@ unfolding field_type
 field_type_lem a e = rw e
 
 module _ (t : List ℕ) (r index : ℕ) (row : Row) (this_row : row ≡ row_at t r) where
-  pub no_array : (row.kind ≡ 3 → ⊥) → element_type (row_at t r) index ≡ None
+  pub no_element : ((row.kind ≡ 3) × (index ≡ 1 → ⊥)) ⊎ (row.kind ≡ 3 → ⊥) → element_type (row_at t r) index ≡ None
   unfolding element_type
-  no_array h = rw (← this_row) (choose_no _ _ _ (ne_eqb row.kind 3 h))
+  no_element (inl (kind, h)) = rw (← this_row) (choose_yes _ _ _ (eq-eqb row.kind 3 kind) ∙ choose_no _ _ _ (ne_eqb index 1 h))
+  no_element (inr h) = rw (← this_row) (choose_no _ _ _ (ne_eqb row.kind 3 h))
 
-  module _ (kind : row.kind ≡ 3) where
-    pub no_index : (index ≡ 1 → ⊥) → element_type (row_at t r) index ≡ None
-    unfolding element_type
-    no_index h = rw (← this_row) (choose_yes _ _ _ (eq-eqb row.kind 3 kind) ∙ choose_no _ _ _ (ne_eqb index 1 h))
-
-    pub element_type_lem : index ≡ 1 → element_type (row_at t r) index ≡ Some row.a
-    unfolding element_type
-    element_type_lem h = rw (← this_row) (choose_yes _ _ _ (eq-eqb row.kind 3 kind) ∙ choose_yes _ _ _ (eq-eqb index 1 h))
+  pub element_type_lem : row.kind ≡ 3 → index ≡ 1 → element_type (row_at t r) index ≡ Some row.a
+  unfolding element_type
+  element_type_lem kind h = rw (← this_row) (choose_yes _ _ _ (eq-eqb row.kind 3 kind) ∙ choose_yes _ _ _ (eq-eqb index 1 h))

@@ -41,28 +41,21 @@ table_below type m old types table room = fun_ext (λ k. go k (dec_lt k m))
 
 -- the nodes below r have types, which the table holds
 pub record Filled (t f v n old types : List ℕ) (r : ℕ) : Type 0 where
-  pub within : r ≤ rows_of n
-  pub few : rows_of n ≤ 2048
-  pub room : rows_of n ≤ length types
   pub kept : KeptIn (λ k. has_type (type_of t f v n k)) 0 r
   pub table : Typed (type_of t f v n) r old types
 
-pub filled_none : (t f v n old : List ℕ) → rows_of n ≤ 2048 → rows_of n ≤ length old → Filled t f v n old old 0
-filled_none t f v n old few room = record {
-  within = omega arith;
-  few = few;
-  room = room;
+pub filled_none : (t f v n old : List ℕ) → Filled t f v n old old 0
+filled_none t f v n old = record {
   kept = kept_none _ 0;
   table = record { cells = refl; holds = λ k h. absurd (omega arith); rest = λ k h. refl };
 }
 
 module _ (t f v n old types : List ℕ) (r : ℕ) (p : Filled t f v n old types r) where
-  module _ (more : r < rows_of n) (row : Row) (this_row : row ≡ row_at n r) (x : Option ℕ)
+  module _ (more : r < rows_of n) (inside : r < length types) (row : Row) (this_row : row ≡ row_at n r) (x : Option ℕ)
       (given : x ≡ type_by t f v (type_in (take r types)) row.kind row) where
     pub type_here : type_of t f v n r ≡ x
     unfolding type_of
     type_here =
-        let room = p.room in
         rec_eq None (λ type k. type_by t f v type (row_at n k).kind (row_at n k)) r
         ∙ ap (λ (type : ℕ → Option ℕ). type_by t f v type (row_at n r).kind (row_at n r))
         (sym (table_below (type_of t f v n) r old types p.table (omega arith)))
@@ -76,9 +69,6 @@ module _ (t f v n old types : List ℕ) (r : ℕ) (p : Filled t f v n old types 
     pub filled_next : (type : ℕ) → x ≡ Some type → Filled t f v n old (set types r type) (r + 1)
     unfolding has_type
     filled_next type known = record {
-      within = omega arith;
-      few = p.few;
-      room = rw (length-set types r type) p.room;
       kept = kept_next _ 0 r p.kept (ap has_type (type_here ∙ known));
       table = record {
         cells = length-set types r type ∙ p.table.cells;
@@ -91,15 +81,11 @@ module _ (t f v n old types : List ℕ) (r : ℕ) (p : Filled t f v n old types 
         go k (yes l) h = p.table.holds k l ∙ ap Some (sym (get_or-set_other types r k type 0 (omega arith)))
         go k (no l) h =
             let q : r ≡ k = omega arith in
-            let room = p.room in
-            rw (← q) (type_here ∙ known ∙ ap Some (sym (get_or-set_same types r type 0 (omega arith))))
+            rw (← q) (type_here ∙ known ∙ ap Some (sym (get_or-set_same types r type 0 inside)))
 
   pub all_typed : rows_of n ≤ r → Ok tt ≡ question10 t f v n
   unfolding question10
   all_typed done = scan_end _ (rows_of n) r p.kept done
-
-  pub filled_all : rows_of n ≤ r → Typed (type_of t f v n) (rows_of n) old types
-  filled_all done = let w = p.within in let q : r ≡ rows_of n = omega arith in rw q at p.table
 
 -- ---- the whole table
 

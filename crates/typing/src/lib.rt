@@ -16,9 +16,10 @@ pub fn type_at(types: &[u16], k: usize) -> Option<u16>
     ensures { result ≡ type_in types.now k }
 {
     if k < types.len() {
-        return Some(types[k]);
+        Some(types[k])
+    } else {
+        None
     }
-    None
 }
 
 #[tactic(auto, unfolding(crate::specs::Typing::field_node, crate::specs::Typing::typed))]
@@ -38,15 +39,11 @@ fn element_node(t: &[u8], types: &[u16], row: Row) -> Option<u16>
     let whole = type_at(types, row.a as usize)?;
     let index = type_at(types, row.b as usize)?;
     let array = image::row_at(t, whole as usize);
-    let kind = array.kind;
-    let element = array.a;
-    if kind != 3 {
-        return None;
+    if array.kind == 3 && index == 1 {
+        Some(array.a)
+    } else {
+        None
     }
-    if index != 1 {
-        return None;
-    }
-    Some(element)
 }
 
 // Whether a guard or test may narrow variable a to type b.
@@ -54,28 +51,19 @@ fn narrows(t: &[u8], v: &[u8], a: u16, b: u16) -> bool
     ensures { result ≡ narrows_to t.now v.now a b }
 {
     let variable = image::row_at(v, a as usize);
-    let kind = variable.kind;
-    let declared = variable.a;
-    if kind != 3 {
-        return false;
-    }
-    let type_row = image::row_at(t, declared as usize);
-    let form = type_row.kind;
-    if form != 4 {
-        return false;
-    }
-    relations::extends(t, b, declared)
+    variable.kind == 3
+        && image::row_at(t, variable.a as usize).kind == 4
+        && relations::extends(t, b, variable.a)
 }
 
 fn narrow_node(t: &[u8], v: &[u8], row: Row, given: u16) -> Option<u16>
     ensures { result ≡ narrow_node t.now v.now row given }
 {
-    let a = row.a;
-    let b = row.b;
-    if narrows(t, v, a, b) {
-        return Some(given);
+    if narrows(t, v, row.a, row.b) {
+        Some(given)
+    } else {
+        None
     }
-    None
 }
 
 #[tactic(auto, unfolding(crate::specs::Typing::dyadic_node, crate::specs::Typing::typed))]
@@ -101,9 +89,7 @@ fn monadic_node(t: &[u8], types: &[u16], row: Row) -> Option<u16>
 fn variable_node(v: &[u8], row: Row) -> Option<u16>
     ensures { result ≡ variable_node v.now row }
 {
-    let variable = image::row_at(v, row.a as usize);
-    let declared = variable.a;
-    Some(declared)
+    Some(image::row_at(v, row.a as usize).a)
 }
 
 // The type of a node from those of the lower rows.
@@ -112,8 +98,7 @@ fn node_type(t: &[u8], f: &[u8], plan: &[u32], v: &[u8], types: &[u16], row: Row
     ensures { result ≡ type_by t.now f.now v.now (type_in types.now)
         row.kind row }
 {
-    let kind = row.kind;
-    match kind {
+    match row.kind {
         0 => Some(row.a),
         1 => variable_node(v, row),
         2 => field_node(t, f, plan, types, row),
@@ -142,16 +127,12 @@ pub fn check_typing(
     ensures types { Typed (type_of t.now f.now v.now n.now)
         (passed n.now result) types.old types.new }
 {
-    let nodes = image::rows_of(n);
-    let mut r: usize = 0;
-    while r < nodes {
+    for r in 0..image::rows_of(n) {
         let row = image::row_at(n, r);
         let Some(given) = node_type(t, f, plan, v, &types[..r], row) else {
-            let bad = r as u16;
-            return Err(bad);
+            return Err(r as u16);
         };
         types[r] = given;
-        r = r + 1;
     }
     Ok(())
 }

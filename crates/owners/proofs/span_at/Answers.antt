@@ -1,17 +1,12 @@
-use Rattle.owners.specs.Owners.{span_in}
-use borrow.Author.Tests.{lt-ltb, le-ltb}
-use Rattle.prelude.proofs.Choice.{choose_yes, choose_no, also_yes, also_left, also_right}
+use Rattle.owners.specs.Owners.{span_in, no_span}
+use Rattle.std.proofs.lemmas.List.{get_or_default, get_or_past}
 use mathlib.Core.Path.{sym}
 use Rattle.owners.proofs.span_at.Goals as goal
 
-pub returns-then-least-k : goal.returns-then-least-k
+pub returns-then-k-spans : goal.returns-then-k-spans
 unfolding span_in
-returns-then-least-k c = sym (choose_no _ _ _ (also_left _ (le-ltb _ _ c.if-least-k.true)))
+returns-then-k-spans c = get_or_default _ _ _ no_span c.if-k-spans.true
 
-pub returns-then-past-k : goal.returns-then-past-k
+pub returns-else-k-spans : goal.returns-else-k-spans
 unfolding span_in
-returns-then-past-k c = sym (choose_no _ _ _ (also_right _ (le-ltb _ _ c.if-past-k.true)))
-
-pub returns : goal.returns
-unfolding span_in
-returns c = sym (choose_yes _ _ _ (also_yes (lt-ltb _ _ c.if-least-k.false) (lt-ltb _ _ c.if-past-k.false)))
+returns-else-k-spans c = sym (get_or_past _ _ no_span c.if-k-spans.false)

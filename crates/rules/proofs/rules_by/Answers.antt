@@ -7,49 +7,33 @@ use mathlib.Core.Path.{sym, ◌∙◌}
 use Rattle.rules.proofs.rules_by.Goals as goal
 
 pub loop-r-init : goal.loop-r-init
-loop-r-init c = (omega arith, procedure_first _, kept_none _ _)
+loop-r-init c = (procedure_first _, kept_none _ _)
 
 pub overflow_add-q : goal.overflow_add-q
 overflow_add-q c = let l = c.loop-r in
     let small = c.requires.few_statements in
     let least = procedure_few c.args.p.now l.r in
-    let this = l.invariant.1 in
-    omega (arith, l.invariant.0)
-
-pub rule_by-requires : goal.rule_by-requires
-rule_by-requires c = c.requires.table
-
-pub overflow_cast-bad : goal.overflow_cast-bad
-overflow_cast-bad c = let l = c.loop-r.invariant in let few = c.requires.few_statements in omega (arith, l.0)
+    omega (arith, l.invariant.0, c.rows_of-r-end.ensures)
 
 pub returns-then-not-rule_by : goal.returns-then-not-rule_by
 unfolding rules_by
 returns-then-not-rule_by c = let l = c.loop-r in
-    let pre = c.requires in
-    let more = rw c.rows_of-statements.ensures at c.loop-r-test.true in
-    let here = statement_is _ _ _ _ _ _ _ _ pre _ l.r l.q more l.invariant.1 _ c.row_at-row.ensures _ _ c.cell-first.ensures c.cell-next.ensures in
-    scan_bad _ _ _ l.invariant.2 more (sym here ∙ sym c.rule_by.ensures ∙ c.if-not-rule_by.true)
-
-pub overflow_add-r : goal.overflow_add-r
-overflow_add-r c = let l = c.loop-r.invariant in let few = c.requires.few_statements in omega (arith, l.0)
+    let more = rw c.rows_of-r-end.ensures at c.loop-r-test.true in
+    let here = statement_is _ _ _ _ _ _ _ c.requires _ l.r l.q more l.invariant.0 _ c.row_at-row.ensures _ _ c.cell.ensures c.cell-in-loop-r.ensures in
+    scan_bad _ _ _ l.invariant.1 more (sym here ∙ sym c.rule_by.ensures ∙ c.if-not-rule_by.true)
 
 pub next_procedure-q-requires : goal.next_procedure-q-requires
 next_procedure-q-requires c = let l = c.loop-r in
     let small = c.requires.few_statements in
     let least = procedure_few c.args.p.now l.r in
-    let this = l.invariant.1 in
-    omega (arith, l.invariant.0)
-
-pub loop-r-smaller : goal.loop-r-smaller
-loop-r-smaller c = omega arith
+    omega (arith, l.invariant.0, c.rows_of-r-end.ensures)
 
 pub loop-r-preserved : goal.loop-r-preserved
 loop-r-preserved c = let l = c.loop-r in
-    let pre = c.requires in
-    let more = rw c.rows_of-statements.ensures at c.loop-r-test.true in
-    let here = statement_is _ _ _ _ _ _ _ _ pre _ l.r l.q more l.invariant.1 _ c.row_at-row.ensures _ _ c.cell-first.ensures c.cell-next.ensures in
-    (omega arith, c.next_procedure-q.ensures ∙ procedure_next _ _ _ l.invariant.1, kept_next _ _ _ l.invariant.2 (sym here ∙ sym c.rule_by.ensures ∙ c.if-not-rule_by.false))
+    let more = rw c.rows_of-r-end.ensures at c.loop-r-test.true in
+    let here = statement_is _ _ _ _ _ _ _ c.requires _ l.r l.q more l.invariant.0 _ c.row_at-row.ensures _ _ c.cell.ensures c.cell-in-loop-r.ensures in
+    (c.next_procedure-q.ensures ∙ procedure_next _ _ _ l.invariant.0, kept_next _ _ _ l.invariant.1 (sym here ∙ sym c.rule_by.ensures ∙ c.if-not-rule_by.false))
 
 pub returns : goal.returns
 unfolding rules_by
-returns c = scan_end _ _ _ c.loop-r.invariant.2 (rw c.rows_of-statements.ensures at c.loop-r-test.false)
+returns c = scan_end _ _ _ c.loop-r.invariant.1 (rw c.rows_of-r-end.ensures at c.loop-r-test.false)

@@ -2,13 +2,8 @@ use Rattle.rules.specs.Rules.{statement_rule}
 use Rattle.statements.specs.Statements.{procedure_at}
 use Rattle.typing.specs.Typing.{type_in}
 use Rattle.image.specs.Faults.{KeptIn}
-use Rattle.image.specs.Rows.{rows_of}
-use Prim.Native.Nat.{◌-◌, ◌≤◌}
 use mathlib.Core.Path.{◌≡◌}
 use Rattle.rules.proofs.rules_by.Given as goal
 
 abbrev pub invariant-loop-r : goal.invariant-loop-r
-invariant-loop-r l = (l.r ≤ rows_of l.s) × (l.q ≡ procedure_at l.p l.r) × KeptIn (statement_rule l.t l.v l.p l.n l.s (type_in l.types)) 0 l.r
-
-abbrev pub decreases-loop-r : goal.decreases-loop-r
-decreases-loop-r l = l.statements - l.r
+invariant-loop-r l = (l.q ≡ procedure_at l.p l.r) × KeptIn (statement_rule l.t l.v l.p l.n l.s (type_in l.types)) 0 l.r

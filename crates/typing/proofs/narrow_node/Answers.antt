@@ -7,6 +7,6 @@ pub returns-then-narrows : goal.returns-then-narrows
 unfolding narrow_node
 returns-then-narrows c = sym (choose_yes _ _ _ (sym c.narrows.ensures ∙ c.if-narrows.true))
 
-pub returns : goal.returns
+pub returns-else-narrows : goal.returns-else-narrows
 unfolding narrow_node
-returns c = sym (choose_no _ _ _ (sym c.narrows.ensures ∙ c.if-narrows.false))
+returns-else-narrows c = sym (choose_no _ _ _ (sym c.narrows.ensures ∙ c.if-narrows.false))

@@ -8,6 +8,6 @@ pub returns-then-k-types : goal.returns-then-k-types
 unfolding type_in
 returns-then-k-types c = sym (choose_yes _ _ _ (lt-ltb _ _ c.if-k-types.true))
 
-pub returns : goal.returns
+pub returns-else-k-types : goal.returns-else-k-types
 unfolding type_in
-returns c = sym (choose_no _ _ _ (le-ltb _ _ c.if-k-types.false))
+returns-else-k-types c = sym (choose_no _ _ _ (le-ltb _ _ c.if-k-types.false))
