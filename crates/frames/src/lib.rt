@@ -15,27 +15,12 @@ use image::Row;
 fn form_kept(row: Row, types: usize, lower: bool) -> bool
     ensures { result ≡ form_kept row types lower }
 {
-    let kind = row.kind;
-    let zero = row.zero;
-    let a = row.a;
-    let b = row.b;
-    let c = row.c;
-    if 3 < kind {
-        return false;
-    }
-    if zero != 0 {
-        return false;
-    }
-    if types <= a as usize {
-        return false;
-    }
-    if b != 0 {
-        return false;
-    }
-    if c != 0 {
-        return false;
-    }
-    if kind == 0 { lower } else { true }
+    row.kind <= 3
+        && row.zero == 0
+        && (row.a as usize) < types
+        && row.b == 0
+        && row.c == 0
+        && (row.kind != 0 || lower)
 }
 
 // Question 5.
@@ -46,16 +31,12 @@ pub fn check_variables(t: &[u8], v: &[u8]) -> Result<(), u16>
     let types = image::rows_of(t);
     let n = image::rows_of(v);
     let mut lower = true;
-    let mut r: usize = 0;
-    while r < n {
+    for r in 0..n {
         let row = image::row_at(v, r);
         if !form_kept(row, types, lower) {
-            let bad = r as u16;
-            return Err(bad);
+            return Err(r as u16);
         }
-        let kind = row.kind;
-        lower = kind == 0;
-        r = r + 1;
+        lower = row.kind == 0;
     }
     Ok(())
 }
@@ -65,66 +46,47 @@ pub fn globals(v: &[u8]) -> usize
     ensures { result ≡ globals_of v.now }
 {
     let n = image::rows_of(v);
-    let mut k: usize = 0;
-    while k < n {
+    for k in 0..n {
         let row = image::row_at(v, k);
         if row.kind != 0 {
             return k;
         }
-        k = k + 1;
     }
-    k
+    n
 }
 
 // ---- question 6
 
 // Where the body of procedure r ends.
+#[tactic(auto, unfolding(crate::specs::Procedures::body_end, prelude::specs::Choice::choose))]
 pub fn body_end(p: &[u8], statements: usize, r: usize) -> usize
     requires { r < 65536 }
     ensures { result ≡ body_end p.now statements r }
 {
     let next = r + 1;
     if next < image::rows_of(p) {
-        let row = image::row_at(p, next);
-        return row.a as usize;
+        image::row_at(p, next).a as usize
+    } else {
+        statements
     }
-    statements
 }
 
 fn module_kept(r: usize, row: Row) -> bool
     ensures { result ≡ module_kept r row }
 {
-    let a = row.a;
-    let b = row.b;
-    if r != 0 {
-        return true;
-    }
-    if a != 0 {
-        return false;
-    }
-    b == 0
+    r != 0 || row.a == 0 && row.b == 0
 }
 
 fn body_kept(p: &[u8], statements: usize, r: usize, row: Row) -> bool
     requires { r < 65536 }
     ensures { result ≡ body_kept p.now statements r row }
 {
-    let kind = row.kind;
-    let zero = row.zero;
     let a = row.a as usize;
-    if kind != 0 {
-        return false;
-    }
-    if zero != 0 {
-        return false;
-    }
-    if !module_kept(r, row) {
-        return false;
-    }
-    if statements <= a {
-        return false;
-    }
-    a < body_end(p, statements, r)
+    row.kind == 0
+        && row.zero == 0
+        && module_kept(r, row)
+        && a < statements
+        && a < body_end(p, statements, r)
 }
 
 // Whether n variables from row k on have kinds from low to high.
@@ -132,18 +94,11 @@ fn kinds_within(v: &[u8], low: u8, high: u8, k: usize, n: u16) -> bool
     requires { k < 1048576 }
     ensures { result ≡ all_from (kind_within v.now low high) k n }
 {
-    let end = k + (n as usize);
-    let mut i = k;
-    while i < end {
+    for i in k..k + n as usize {
         let row = image::row_at(v, i);
-        let kind = row.kind;
-        if kind < low {
+        if row.kind < low || high < row.kind {
             return false;
         }
-        if high < kind {
-            return false;
-        }
-        i = i + 1;
     }
     true
 }
@@ -152,16 +107,10 @@ fn own_kept(v: &[u8], first: usize, row: Row) -> bool
     requires { first ≤ 256 }
     ensures { result ≡ own_kept v.now first row }
 {
-    let b = row.b;
-    let c = row.c;
-    let end = first + ((b as usize) + (c as usize));
-    if image::rows_of(v) < end {
-        return false;
-    }
-    if !kinds_within(v, 2, 3, first, b) {
-        return false;
-    }
-    kinds_within(v, 1, 1, first + (b as usize), c)
+    let locals = first + row.b as usize;
+    locals + row.c as usize <= image::rows_of(v)
+        && kinds_within(v, 2, 3, first, row.b)
+        && kinds_within(v, 1, 1, locals, row.c)
 }
 
 // Question 6.
@@ -172,25 +121,16 @@ pub fn check_procedures(v: &[u8], p: &[u8], s: &[u8]) -> Result<(), u16>
     let statements = image::rows_of(s);
     let n = image::rows_of(p);
     let mut first = globals(v);
-    let mut r: usize = 0;
-    while r < n {
+    for r in 0..n {
         let row = image::row_at(p, r);
-        if !body_kept(p, statements, r, row) {
-            let bad = r as u16;
-            return Err(bad);
+        if !body_kept(p, statements, r, row) || !own_kept(v, first, row) {
+            return Err(r as u16);
         }
-        if !own_kept(v, first, row) {
-            let wrong = r as u16;
-            return Err(wrong);
-        }
-        let b = row.b as usize;
-        let c = row.c as usize;
-        first = first + (b + c);
-        r = r + 1;
+        first += row.b as usize + row.c as usize;
     }
     if first == image::rows_of(v) {
-        return Ok(());
+        Ok(())
+    } else {
+        Err(n as u16)
     }
-    let count = r as u16;
-    Err(count)
 }

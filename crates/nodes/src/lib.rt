@@ -13,172 +13,84 @@ use image::Row;
 pub fn is_designator(n: &[u8], k: usize) -> bool
     ensures { result ≡ is_designator n.now k }
 {
-    let row = image::row_at(n, k);
-    let kind = row.kind;
-    if kind < 1 {
-        return false;
-    }
-    kind <= 4
+    let kind = image::row_at(n, k).kind;
+    1 <= kind && kind <= 4
 }
 
 // Whether node row k is an argument.
 pub fn is_argument(n: &[u8], k: usize) -> bool
     ensures { result ≡ is_argument n.now k }
 {
-    let row = image::row_at(n, k);
-    row.kind == 8
+    image::row_at(n, k).kind == 8
 }
 
 fn child_kept(n: &[u8], r: usize, k: u16) -> bool
     ensures { result ≡ child_kept n.now r k }
 {
     let child = k as usize;
-    if r <= child {
-        return false;
-    }
-    !is_argument(n, child)
+    child < r && !is_argument(n, child)
 }
 
 fn designator_kept(n: &[u8], r: usize, k: u16) -> bool
     ensures { result ≡ designator_kept n.now r k }
 {
     let child = k as usize;
-    if r <= child {
-        return false;
-    }
-    is_designator(n, child)
+    child < r && is_designator(n, child)
 }
 
 fn constant_kept(version: u8, row: Row) -> bool
     ensures { result ≡ constant_kept version row }
 {
-    let a = row.a;
-    let b = row.b;
-    let c = row.c;
-    if image::scalar_rows(version) <= a {
-        return false;
-    }
-    if a != 0 {
-        return true;
-    }
-    if b != 0 {
-        return false;
-    }
-    c <= 1
+    row.a < image::scalar_rows(version) && (row.a != 0 || row.b == 0 && row.c <= 1)
 }
 
 fn variable_kept(variables: usize, row: Row) -> bool
     ensures { result ≡ variable_kept variables row }
 {
-    let a = row.a;
-    let b = row.b;
-    let c = row.c;
-    if variables <= a as usize {
-        return false;
-    }
-    if b != 0 {
-        return false;
-    }
-    c == 0
+    (row.a as usize) < variables && row.b == 0 && row.c == 0
 }
 
 fn field_kept(n: &[u8], r: usize, row: Row) -> bool
     ensures { result ≡ field_kept n.now r row }
 {
-    let a = row.a;
-    let c = row.c;
-    if !designator_kept(n, r, a) {
-        return false;
-    }
-    c == 0
+    designator_kept(n, r, row.a) && row.c == 0
 }
 
 fn element_kept(n: &[u8], r: usize, row: Row) -> bool
     ensures { result ≡ element_kept n.now r row }
 {
-    let a = row.a;
-    let b = row.b;
-    let c = row.c;
-    if !designator_kept(n, r, a) {
-        return false;
-    }
-    if !child_kept(n, r, b) {
-        return false;
-    }
-    c == 0
+    designator_kept(n, r, row.a) && child_kept(n, r, row.b) && row.c == 0
 }
 
 fn guard_kept(types: usize, variables: usize, row: Row) -> bool
     ensures { result ≡ guard_kept types variables row }
 {
-    let a = row.a;
-    let b = row.b;
-    let c = row.c;
-    if variables <= a as usize {
-        return false;
-    }
-    if types <= b as usize {
-        return false;
-    }
-    c == 0
+    (row.a as usize) < variables && (row.b as usize) < types && row.c == 0
 }
 
 fn dyadic_kept(n: &[u8], r: usize, row: Row) -> bool
     ensures { result ≡ dyadic_kept n.now r row }
 {
-    let a = row.a;
-    let b = row.b;
-    let c = row.c;
-    if !child_kept(n, r, a) {
-        return false;
-    }
-    if !child_kept(n, r, b) {
-        return false;
-    }
-    if c < 1 {
-        return false;
-    }
-    c <= 16
+    child_kept(n, r, row.a) && child_kept(n, r, row.b) && 1 <= row.c && row.c <= 16
 }
 
 fn monadic_kept(version: u8, n: &[u8], r: usize, row: Row) -> bool
     ensures { result ≡ monadic_kept version n.now r row }
 {
-    let a = row.a;
-    let b = row.b;
-    let c = row.c;
-    if !child_kept(n, r, a) {
-        return false;
-    }
-    if b != 0 {
-        return false;
-    }
-    if c < 1 {
-        return false;
-    }
-    c <= image::monadics(version)
+    child_kept(n, r, row.a) && row.b == 0 && 1 <= row.c && row.c <= image::monadics(version)
 }
 
 fn argument_kept(n: &[u8], r: usize, row: Row) -> bool
     ensures { result ≡ argument_kept n.now r row }
 {
-    let a = row.a;
-    let b = row.b;
-    let c = row.c;
-    if !child_kept(n, r, a) {
-        return false;
-    }
-    if b != 0 {
-        return false;
-    }
-    c == 0
+    child_kept(n, r, row.a) && row.b == 0 && row.c == 0
 }
 
+#[tactic(auto, unfolding(crate::specs::Nodes::form_kept, prelude::specs::Choice::choose))]
 fn node_form(version: u8, types: usize, variables: usize, n: &[u8], r: usize, row: Row) -> bool
     ensures { result ≡ form_kept version types variables n.now r row.kind row }
 {
-    let kind = row.kind;
-    match kind {
+    match row.kind {
         0 => constant_kept(version, row),
         1 => variable_kept(variables, row),
         2 => field_kept(n, r, row),
@@ -200,19 +112,11 @@ pub fn check_nodes(version: u8, t: &[u8], v: &[u8], n: &[u8]) -> Result<(), u16>
     let types = image::rows_of(t);
     let variables = image::rows_of(v);
     let nodes = image::rows_of(n);
-    let mut r: usize = 0;
-    while r < nodes {
+    for r in 0..nodes {
         let row = image::row_at(n, r);
-        let zero = row.zero;
-        if zero != 0 {
-            let filled = r as u16;
-            return Err(filled);
+        if row.zero != 0 || !node_form(version, types, variables, n, r, row) {
+            return Err(r as u16);
         }
-        if !node_form(version, types, variables, n, r, row) {
-            let bad = r as u16;
-            return Err(bad);
-        }
-        r = r + 1;
     }
     Ok(())
 }

@@ -18,22 +18,16 @@ fn begins_at(p: &[u8], q: usize, r: usize) -> bool
     ensures { result ≡ begins_at p.now q r }
 {
     let next = q + 1;
-    if image::rows_of(p) <= next {
-        return false;
-    }
-    let row = image::row_at(p, next);
-    row.a as usize == r
+    next < image::rows_of(p) && image::row_at(p, next).a as usize == r
 }
 
 // The procedure whose body has statement row r, where that of the row before is q.
+#[tactic(auto, unfolding(crate::specs::Statements::next_procedure, prelude::specs::Choice::choose))]
 pub fn next_procedure(p: &[u8], q: usize, r: usize) -> usize
     requires { q < 65536 }
     ensures { result ≡ next_procedure p.now q r }
 {
-    if begins_at(p, q, r) {
-        return q + 1;
-    }
-    q
+    if begins_at(p, q, r) { q + 1 } else { q }
 }
 
 // Whether node row k is there and no argument.
@@ -41,31 +35,23 @@ pub fn is_node(n: &[u8], k: u16) -> bool
     ensures { result ≡ is_node n.now k }
 {
     let node = k as usize;
-    if image::rows_of(n) <= node {
-        return false;
-    }
-    !nodes::is_argument(n, node)
+    node < image::rows_of(n) && !nodes::is_argument(n, node)
 }
 
 fn target_kept(start: usize, end: usize, b: u16) -> bool
     ensures { result ≡ target_kept start end b }
 {
     let target = b as usize;
-    if target < start {
-        return false;
-    }
-    target < end
+    start <= target && target < end
 }
 
 // The run of arguments from node row i on, where that of the next row is `run`.
+#[tactic(auto, unfolding(prelude::specs::Choice::choose))]
 fn next_run(n: &[u8], i: usize, run: u16) -> u16
     requires { run < 65535 }
     ensures { result ≡ choose (is_argument n.now i) (run + 1) 0 }
 {
-    if nodes::is_argument(n, i) {
-        return run + 1;
-    }
-    0
+    if nodes::is_argument(n, i) { run + 1 } else { 0 }
 }
 
 // Writes how many arguments stand in a row from each node row on, from the last row down.
@@ -73,10 +59,9 @@ fn fill_runs(n: &[u8], runs: &mut [u16])
     requires { (rows_of n.now ≤ 2048) × (rows_of n.now ≤ length runs.old) }
     ensures { RunsIn n.now runs.old runs.new }
 {
-    let mut i = image::rows_of(n);
+    let nodes = image::rows_of(n);
     let mut run: u16 = 0;
-    while 0 < i {
-        i = i - 1;
+    for i in (0..nodes).rev() {
         run = next_run(n, i, run);
         runs[i] = run;
     }
@@ -86,139 +71,71 @@ fn fill_runs(n: &[u8], runs: &mut [u16])
 fn run_at(runs: &[u16], b: u16) -> u16
     ensures { result ≡ get_or runs.now b 0 }
 {
-    let row = b as usize;
-    if row < runs.len() {
-        return runs[row];
-    }
-    0
+    runs.get(b as usize).copied().unwrap_or(0)
 }
 
 fn arguments_kept(runs: &[u16], b: u16, parameters: u16) -> bool
     ensures { (n : List ℕ) → Runs n runs.now → result ≡ arguments_kept n b parameters }
 {
     if parameters == 0 {
-        return b == 0;
+        b == 0
+    } else {
+        parameters <= run_at(runs, b)
     }
-    let run = run_at(runs, b);
-    parameters <= run
 }
 
 fn assign_kept(n: &[u8], row: Row) -> bool
     ensures { result ≡ assign_kept n.now row }
 {
-    let a = row.a;
-    let b = row.b;
-    let c = row.c;
-    if !nodes::is_designator(n, a as usize) {
-        return false;
-    }
-    if !is_node(n, b) {
-        return false;
-    }
-    c == 0
+    nodes::is_designator(n, row.a as usize) && is_node(n, row.b) && row.c == 0
 }
 
 fn call_kept(runs: &[u16], p: &[u8], row: Row) -> bool
     ensures { (n : List ℕ) → Runs n runs.now → result ≡ call_kept n p.now row }
 {
-    let a = row.a;
-    let b = row.b;
-    let c = row.c;
-    if a < 1 {
-        return false;
-    }
-    if image::rows_of(p) <= a as usize {
-        return false;
-    }
-    let called = image::row_at(p, a as usize);
-    let parameters = called.b;
-    if !arguments_kept(runs, b, parameters) {
-        return false;
-    }
-    c == 0
+    let a = row.a as usize;
+    1 <= a
+        && a < image::rows_of(p)
+        && arguments_kept(runs, row.b, image::row_at(p, a).b)
+        && row.c == 0
 }
 
 fn jump_kept(n: &[u8], start: usize, end: usize, row: Row) -> bool
     ensures { result ≡ jump_kept n.now start end row }
 {
-    let a = row.a;
-    let b = row.b;
-    let c = row.c;
-    if !is_node(n, a) {
-        return false;
-    }
-    if !target_kept(start, end, b) {
-        return false;
-    }
-    c == 0
+    is_node(n, row.a) && target_kept(start, end, row.b) && row.c == 0
 }
 
 fn goto_kept(start: usize, end: usize, row: Row) -> bool
     ensures { result ≡ goto_kept start end row }
 {
-    let a = row.a;
-    let b = row.b;
-    let c = row.c;
-    if a != 0 {
-        return false;
-    }
-    if !target_kept(start, end, b) {
-        return false;
-    }
-    c == 0
+    row.a == 0 && target_kept(start, end, row.b) && row.c == 0
 }
 
 fn return_kept(row: Row) -> bool
     ensures { result ≡ return_kept row }
 {
-    let a = row.a;
-    let b = row.b;
-    let c = row.c;
-    if a != 0 {
-        return false;
-    }
-    if b != 0 {
-        return false;
-    }
-    c == 0
+    row.a == 0 && row.b == 0 && row.c == 0
 }
 
 fn read_kept(n: &[u8], row: Row) -> bool
     ensures { result ≡ read_kept n.now row }
 {
-    let a = row.a;
-    let b = row.b;
-    let c = row.c;
-    if !nodes::is_designator(n, a as usize) {
-        return false;
-    }
-    if b != 0 {
-        return false;
-    }
-    c == 0
+    nodes::is_designator(n, row.a as usize) && row.b == 0 && row.c == 0
 }
 
 fn value_kept(n: &[u8], row: Row) -> bool
     ensures { result ≡ value_kept n.now row }
 {
-    let a = row.a;
-    let b = row.b;
-    let c = row.c;
-    if !is_node(n, a) {
-        return false;
-    }
-    if b != 0 {
-        return false;
-    }
-    c == 0
+    is_node(n, row.a) && row.b == 0 && row.c == 0
 }
 
+#[tactic(auto, unfolding(crate::specs::Statements::form_kept, prelude::specs::Choice::choose))]
 fn statement_form(n: &[u8], runs: &[u16], p: &[u8], start: usize, end: usize, row: Row) -> bool
     requires { Runs n.now runs.now }
     ensures { result ≡ form_kept n.now p.now start end row.kind row }
 {
-    let kind = row.kind;
-    match kind {
+    match row.kind {
         0 => assign_kept(n, row),
         1 => call_kept(runs, p, row),
         2 => jump_kept(n, start, end, row),
@@ -231,22 +148,12 @@ fn statement_form(n: &[u8], runs: &[u16], p: &[u8], start: usize, end: usize, ro
     }
 }
 
+#[tactic(auto, unfolding(crate::specs::Statements::last_kept, prelude::specs::Choice::choose))]
 fn last_kept(end: usize, r: usize, row: Row) -> bool
     requires { r < 65536 }
     ensures { result ≡ last_kept end r row }
 {
-    let kind = row.kind;
-    let next = r + 1;
-    if next != end {
-        return true;
-    }
-    if kind == 3 {
-        return true;
-    }
-    if kind == 4 {
-        return true;
-    }
-    kind == 7
+    r + 1 != end || matches!(row.kind, 3 | 4 | 7)
 }
 
 // Whether statement row r in the body of procedure q keeps its form.
@@ -262,17 +169,9 @@ fn statement_in(
     requires { (q < 65536) × (r < 65536) × Runs n.now runs.now }
     ensures { result ≡ statement_in n.now p.now statements q r row }
 {
-    let zero = row.zero;
-    if zero != 0 {
-        return false;
-    }
-    let procedure = image::row_at(p, q);
-    let start = procedure.a as usize;
+    let start = image::row_at(p, q).a as usize;
     let end = frames::body_end(p, statements, q);
-    if !statement_form(n, runs, p, start, end, row) {
-        return false;
-    }
-    last_kept(end, r, row)
+    row.zero == 0 && statement_form(n, runs, p, start, end, row) && last_kept(end, r, row)
 }
 
 // The lowest statement row at fault, by the runs of arguments.
@@ -282,15 +181,12 @@ fn scan_statements(n: &[u8], runs: &[u16], p: &[u8], s: &[u8]) -> Result<(), u16
 {
     let statements = image::rows_of(s);
     let mut q: usize = 0;
-    let mut r: usize = 0;
-    while r < statements {
+    for r in 0..statements {
         let row = image::row_at(s, r);
         if !statement_in(n, runs, p, statements, q, r, row) {
-            let bad = r as u16;
-            return Err(bad);
+            return Err(r as u16);
         }
-        r = r + 1;
-        q = next_procedure(p, q, r);
+        q = next_procedure(p, q, r + 1);
     }
     Ok(())
 }

@@ -1,32 +1,17 @@
 use Rattle.prelude.proofs.Choice.{tests}
 use Rattle.prelude.specs.Choice.{choose, ◌also◌}
+use native.Mathlib.Omega.{arith}
 use Rattle.frames.specs.Variables.{form_kept}
 use Rattle.frames.proofs.form_kept.Goals as goal
 
-pub returns-then-kind-gt3 : goal.returns-then-kind-gt3
+pub returns-then-row-ne0 : goal.returns-then-row-ne0
 unfolding form_kept ◌also◌ choose
-returns-then-kind-gt3 c = search tests
+returns-then-row-ne0 c = grind (arith, tests)
 
-pub returns-then-zero-ne0 : goal.returns-then-zero-ne0
+pub returns-else-row-ne0 : goal.returns-else-row-ne0
 unfolding form_kept ◌also◌ choose
-returns-then-zero-ne0 c = search tests
+returns-else-row-ne0 c = grind (arith, tests)
 
-pub returns-then-types-a : goal.returns-then-types-a
+pub returns-else-row-eq0-3 : goal.returns-else-row-eq0-3
 unfolding form_kept ◌also◌ choose
-returns-then-types-a c = search tests
-
-pub returns-then-b-ne0 : goal.returns-then-b-ne0
-unfolding form_kept ◌also◌ choose
-returns-then-b-ne0 c = search tests
-
-pub returns-then-c-ne0 : goal.returns-then-c-ne0
-unfolding form_kept ◌also◌ choose
-returns-then-c-ne0 c = search tests
-
-pub returns-then-kind-eq0 : goal.returns-then-kind-eq0
-unfolding form_kept ◌also◌ choose
-returns-then-kind-eq0 c = search tests
-
-pub returns-else-kind-eq0 : goal.returns-else-kind-eq0
-unfolding form_kept ◌also◌ choose
-returns-else-kind-eq0 c = search tests
+returns-else-row-eq0-3 c = grind (arith, tests)

@@ -1,10 +1,6 @@
-use Prim.Native.Nat.{◌-◌, ◌≤◌}
 use Rattle.image.specs.Faults.{KeptIn}
 use Rattle.frames.specs.Variables.{kind_within}
 use Rattle.frames.proofs.kinds_within.Given as goal
 
 abbrev pub invariant-loop-i : goal.invariant-loop-i
-invariant-loop-i l = (l.k ≤ l.i) × (l.i ≤ l.end) × KeptIn (kind_within l.v l.low l.high) l.k l.i
-
-abbrev pub decreases-loop-i : goal.decreases-loop-i
-decreases-loop-i l = l.end - l.i
+invariant-loop-i l = KeptIn (kind_within l.v l.low l.high) l.k l.i

@@ -1,16 +1,17 @@
 use Rattle.prelude.proofs.Choice.{tests}
 use Rattle.prelude.specs.Choice.{choose, ◌also◌}
+use native.Mathlib.Omega.{arith}
 use Rattle.frames.specs.Procedures.{module_kept}
 use Rattle.frames.proofs.module_kept.Goals as goal
 
 pub returns-then-r-ne0 : goal.returns-then-r-ne0
 unfolding module_kept ◌also◌ choose
-returns-then-r-ne0 c = search tests
+returns-then-r-ne0 c = grind (arith, tests)
 
-pub returns-then-a-ne0 : goal.returns-then-a-ne0
+pub returns-then-row-eq0 : goal.returns-then-row-eq0
 unfolding module_kept ◌also◌ choose
-returns-then-a-ne0 c = search tests
+returns-then-row-eq0 c = grind (arith, tests)
 
-pub returns : goal.returns
+pub returns-else-row-eq0 : goal.returns-else-row-eq0
 unfolding module_kept ◌also◌ choose
-returns c = search tests
+returns-else-row-eq0 c = grind (arith, tests)

@@ -1,34 +1,21 @@
-use borrow.Author.Tests.{eq-eqb, ne_eqb, lt-ltb, le-ltb}
+use Rattle.prelude.proofs.Choice.{tests}
 use Rattle.prelude.specs.Choice.{choose, ◌also◌}
+use native.Mathlib.Omega.{arith}
 use Rattle.nodes.specs.Nodes.{constant_kept}
 use Rattle.nodes.proofs.constant_kept.Goals as goal
 
-pub returns-then-scalar_rows-a : goal.returns-then-scalar_rows-a
-unfolding constant_kept ◌also◌
-returns-then-scalar_rows-a c = rw (← c.scalar_rows.ensures, le-ltb _ _ c.if-scalar_rows-a.true)
-
-pub returns-then-a-ne0 : goal.returns-then-a-ne0
+pub returns-then-row-ne0 : goal.returns-then-row-ne0
 unfolding constant_kept ◌also◌ choose
-returns-then-a-ne0 c =
-    rw
-    (← c.scalar_rows.ensures, lt-ltb _ _ c.if-scalar_rows-a.false, ne_eqb _ _ c.if-a-ne0.true)
+returns-then-row-ne0 c = grind (arith, tests)
 
-pub returns-then-b-ne0 : goal.returns-then-b-ne0
+pub returns-then-row-eq0 : goal.returns-then-row-eq0
 unfolding constant_kept ◌also◌ choose
-returns-then-b-ne0 c =
-    rw (
-      ← c.scalar_rows.ensures,
-      lt-ltb _ _ c.if-scalar_rows-a.false,
-      eq-eqb _ _ c.if-a-ne0.false,
-      ne_eqb _ _ c.if-b-ne0.true,
-    )
+returns-then-row-eq0 c = grind (arith, tests)
 
-pub returns : goal.returns
+pub returns-else-row-eq0 : goal.returns-else-row-eq0
 unfolding constant_kept ◌also◌ choose
-returns c =
-    rw (
-      ← c.scalar_rows.ensures,
-      lt-ltb _ _ c.if-scalar_rows-a.false,
-      eq-eqb _ _ c.if-a-ne0.false,
-      eq-eqb _ _ c.if-b-ne0.false,
-    )
+returns-else-row-eq0 c = grind (arith, tests)
+
+pub returns-else-row-scalar_rows : goal.returns-else-row-scalar_rows
+unfolding constant_kept ◌also◌ choose
+returns-else-row-scalar_rows c = grind (arith, tests)

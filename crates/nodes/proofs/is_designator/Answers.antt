@@ -1,12 +1,13 @@
-use Rattle.nodes.specs.Nodes.{is_designator}
+use Rattle.prelude.proofs.Choice.{tests}
 use Rattle.prelude.specs.Choice.{◌also◌}
-use borrow.Author.Tests.{lt-leb, le-leb}
+use native.Mathlib.Omega.{arith}
+use Rattle.nodes.specs.Nodes.{is_designator}
 use Rattle.nodes.proofs.is_designator.Goals as goal
 
-pub returns-then-kind-lt1 : goal.returns-then-kind-lt1
+pub returns-then-kind-ge1 : goal.returns-then-kind-ge1
 unfolding is_designator ◌also◌
-returns-then-kind-lt1 c = rw (← c.row_at-row.ensures, lt-leb _ _ c.if-kind-lt1.true)
+returns-then-kind-ge1 c = grind (arith, tests)
 
-pub returns : goal.returns
+pub returns-else-kind-ge1 : goal.returns-else-kind-ge1
 unfolding is_designator ◌also◌
-returns c = rw (← c.row_at-row.ensures, le-leb _ _ c.if-kind-lt1.false)
+returns-else-kind-ge1 c = grind (arith, tests)

@@ -10,7 +10,7 @@ pub returns-then-parameters-eq0 : goal.returns-then-parameters-eq0
 unfolding arguments_kept
 returns-then-parameters-eq0 c = λ n runs. sym (choose_yes _ _ _ (eq-eqb _ _ c.if-parameters-eq0.true))
 
-pub returns : goal.returns
-returns c = λ n runs.
-    ap (leb c.args.parameters) c.run_at-run.ensures
+pub returns-else-parameters-eq0 : goal.returns-else-parameters-eq0
+returns-else-parameters-eq0 c = λ n runs.
+    ap (leb c.args.parameters) c.run_at.ensures
     ∙ some_kept n _ runs _ _ c.if-parameters-eq0.false

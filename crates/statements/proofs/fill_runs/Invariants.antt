@@ -3,6 +3,3 @@ use Rattle.statements.proofs.fill_runs.Given as goal
 
 abbrev pub invariant-loop-i : goal.invariant-loop-i
 invariant-loop-i l = Written l.n l.initial.runs l.runs l.i l.run
-
-abbrev pub decreases-loop-i : goal.decreases-loop-i
-decreases-loop-i l = l.i

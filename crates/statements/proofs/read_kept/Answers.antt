@@ -1,19 +1,13 @@
+use Rattle.prelude.proofs.Choice.{tests}
+use Rattle.prelude.specs.Choice.{◌also◌}
+use native.Mathlib.Omega.{arith}
 use Rattle.statements.specs.Statements.{read_kept}
-use mathlib.Core.Path.{sym, ◌∙◌}
-use borrow.Author.Tests.{eq-eqb, ne_eqb}
-use Rattle.prelude.proofs.Choice.{also_left, also_right, also_pass}
 use Rattle.statements.proofs.read_kept.Goals as goal
 
-pub returns-then-not-is_designator : goal.returns-then-not-is_designator
-unfolding read_kept
-returns-then-not-is_designator c = sym (also_left _ (sym c.is_designator.ensures ∙ c.if-not-is_designator.true))
+pub returns-then-row-eq0 : goal.returns-then-row-eq0
+unfolding read_kept ◌also◌
+returns-then-row-eq0 c = grind (arith, tests)
 
-pub returns-then-b-ne0 : goal.returns-then-b-ne0
-unfolding read_kept
-returns-then-b-ne0 c = sym (also_right _ (also_left _ (ne_eqb _ _ c.if-b-ne0.true)))
-
-pub returns : goal.returns
-unfolding read_kept
-returns c = sym
-    (also_pass _ (sym c.is_designator.ensures ∙ c.if-not-is_designator.false)
-    ∙ also_pass _ (eq-eqb _ _ c.if-b-ne0.false))
+pub returns-else-row-eq0 : goal.returns-else-row-eq0
+unfolding read_kept ◌also◌
+returns-else-row-eq0 c = grind (arith, tests)
