@@ -43,14 +43,13 @@ fn base_word(t: &[u8], plan: &[u32], from: usize, r: usize) -> u32
         (base_of (form t.now r)) }
 {
     let row = image::row_at(t, r);
-    let base = shapes::base_of(row) as usize;
-    if base == 0 {
+    let Some(base) = (shapes::base_of(row) as usize).checked_sub(1) else {
+        return 0;
+    };
+    if r <= base {
         return 0;
     }
-    if r < base {
-        return 0;
-    }
-    plan[from + base - 1]
+    plan[from + base]
 }
 
 // Writes the word of every type row, whose bit 0 is row `low`.
@@ -58,9 +57,7 @@ pub fn fill(t: &[u8], plan: &mut [u32], from: usize, low: usize)
     requires { (from ≤ 65536) × (from + 64 ≤ length plan.old) }
     ensures { Filled from 64 (word_of t.now low) plan.old plan.new }
 {
-    let mut r: usize = 0;
-    while r < ROWS {
+    for r in 0..ROWS {
         plan[from + r] = base_word(t, plan, from, r) | own_bit(low, r);
-        r = r + 1;
     }
 }

@@ -1,11 +1,11 @@
 -- Laws of cells that are overwritten and copied.
-use mathlib.Core.Path.{◌≡◌, sym, ◌∙◌, ap}
+use mathlib.Core.Path.{◌≡◌, refl, sym, ◌∙◌, ap}
 use mathlib.Core.List.{List, [], ◌∷◌, ◌++◌, append_assoc, append-nil}
-use Prim.Native.Nat.{ℕ, suc, ◌+◌, ◌-◌, ◌≤◌, ◌<◌}
+use Prim.Native.Nat.{ℕ, zero, suc, ◌+◌, ◌-◌, ◌≤◌, ◌<◌}
 use native.Mathlib.Omega.{arith}
 use native.Mathlib.Nat.{le_of_eq}
 use lib.ListN.{length, get_or, set, take, drop, replicate, length-append, length-drop, length-replicate}
-use lib.ListN.{take-append-drop, drop_of_length-le, get_or-append, replicate-append-replicate}
+use lib.ListN.{take-append-drop, drop_of_length-le, get_or-append}
 use lib.Seq.{length-take-le, take-suc, drop-cons, take_at, drop_at, drop-append-add, get_or-append-add, set_split}
 use lib.Seq.{take-add, take_all, drop-drop, get_or-take, get_or-drop}
 use Rattle.semantics.specs.Memory.{part_at, overwrite}
@@ -158,38 +158,31 @@ module _ {X : Type 0} where
       overwrite_one (overwrite cells (a + 1) new) a x (rw size (omega arith))
       ∙ overwrite_before cells (x ∷ []) new a (omega arith)
 
-  -- the same in one cell more
-  pub fill_next : (cells : List X) (a n : ℕ) (x : X) → a + n < length cells
-      → set (overwrite cells a (replicate n x)) (a + n) x ≡ overwrite cells a (replicate (n + 1) x)
-  fill_next cells a n x h =
-      let size = length-replicate n x in
-      rw (← replicate-append-replicate n 1 x) (rw size at (set_behind cells (replicate n x) a x (rw size h)))
+  -- the same in one cell more, of those that a list begins with
+  same_suc : (cells : List X) (n : ℕ) (x : X) → n < length cells
+      → set (replicate n x ++ drop n cells) n x ≡ replicate (suc n) x ++ drop (suc n) cells
+  same_suc [] n x h = absurd (omega arith)
+  same_suc (y ∷ cells) zero x h = refl
+  same_suc (y ∷ cells) (suc n) x h = ap (λ (l : List X). x ∷ l) (same_suc cells n x (omega arith))
 
-  -- one cell more copied to a place not above it
-  pub copy_next : (cells : List X) (from to n : ℕ) (d : X) → from + n < length cells → to ≤ from
-      → set (overwrite cells to (part_at cells from n)) (to + n)
-      (get_or (overwrite cells to (part_at cells from n)) (from + n) d)
-      ≡ overwrite cells to (part_at cells from (n + 1))
-  copy_next cells from to n d h low =
-      let size = part_length cells from n (omega arith) in
-      rw (
-        cell_behind cells (part_at cells from n) to (from + n) d (omega (arith, size)) (omega arith),
-        part_next cells from n d h,
-      )
-      (rw size at (set_behind cells (part_at cells from n) to (get_or cells (from + n) d) (omega (arith, size))))
+  pub same_next : (cells : List X) (n : ℕ) (x : X) → n < length cells
+      → set (replicate n x ++ drop n cells) n x ≡ replicate (n + 1) x ++ drop (n + 1) cells
+  same_next cells n x h = let one : n + 1 ≡ suc n = omega arith in rw one (same_suc cells n x h)
 
-  -- one cell more copied to a place not below it
-  pub copy_before : (cells : List X) (from to n : ℕ) (d : X) → to + n < length cells → from ≤ to
-      → set (overwrite cells (to + 1) (part_at cells (from + 1) n)) to
-      (get_or (overwrite cells (to + 1) (part_at cells (from + 1) n)) from d)
-      ≡ overwrite cells to (part_at cells from (n + 1))
-  copy_before cells from to n d h low =
-      let size = part_length cells (from + 1) n (omega arith) in
+  -- the same in all of a part, put back
+  pub same_part : (cells part : List X) (a n : ℕ) (x : X) → a + n ≤ length cells
+      → part ≡ replicate n x ++ drop n (part_at cells a n)
+      → take a cells ++ (part ++ drop n (drop a cells)) ≡ overwrite cells a (replicate n x)
+  unfolding overwrite
+  same_part cells part a n x h e =
+      let size = le_of_eq (part_length cells a n h) in
       rw (
-        cell_before cells (part_at cells (from + 1) n) (to + 1) from d (omega arith) (omega arith),
-        part_before cells from n d (omega arith),
+        e,
+        drop_of_length-le (part_at cells a n) {i = n} size,
+        append-nil (replicate n x),
+        drop-drop n a cells,
+        length-replicate n x,
       )
-      (set_before cells (part_at cells (from + 1) n) to (get_or cells from d) (omega (arith, size)))
 
   -- one cell more copied to the part from top on, which is lent for it
   pub copy_lent : (old cells part : List X) (top from place n : ℕ) (d : X) → from + n < top

@@ -25,14 +25,10 @@ pub fn value_at(store: &[i64], top: u32, kind: u16, address: u32) -> Answer
 fn mark_of(z: i64) -> Mark
     ensures { result ≡ mark_of z }
 {
-    if z < 0 {
+    if z < 0 || 65535 < z {
         return Mark::Nothing;
     }
-    if 65535 < z {
-        return Mark::Nothing;
-    }
-    let n = z as u16;
-    Mark::Number(n)
+    Mark::Number(z as u16)
 }
 
 // The link, address or type in the cell at an address below top. The store does not tell the three apart.
@@ -73,38 +69,13 @@ pub fn zero(store: &mut [i64], a: u32, n: u32)
 {
     let start = a as usize;
     let count = n as usize;
-    let mut i: usize = 0;
-    while i < count {
-        store[start + i] = 0;
-        i = i + 1;
+    // no `fill`: at 2 to 32 cells it takes up to twice the time
+    for cell in &mut store[start..start + count] {
+        *cell = 0;
     }
 }
 
 // ---- copying
-
-// n cells to a place not above them: the lowest first.
-fn copy_down(store: &mut [i64], from: usize, to: usize, n: usize)
-    requires { (from + n ≤ length store.old) × (to ≤ from) }
-    ensures { store.new ≡ overwrite store.old to (part_at store.old from n) }
-{
-    let mut i: usize = 0;
-    while i < n {
-        store[to + i] = store[from + i];
-        i = i + 1;
-    }
-}
-
-// n cells to a place not below them: the highest first.
-fn copy_up(store: &mut [i64], from: usize, to: usize, n: usize)
-    requires { (to + n ≤ length store.old) × (from ≤ to) }
-    ensures { store.new ≡ overwrite store.old to (part_at store.old from n) }
-{
-    let mut left = n;
-    while 0 < left {
-        left = left - 1;
-        store[to + left] = store[from + left];
-    }
-}
 
 // n cells, as if all were read before any is written.
 pub fn copy(store: &mut [i64], from: u32, to: u32, n: u32)
@@ -114,11 +85,7 @@ pub fn copy(store: &mut [i64], from: u32, to: u32, n: u32)
     let source = from as usize;
     let target = to as usize;
     let count = n as usize;
-    if source < target {
-        copy_up(store, source, target, count);
-    } else {
-        copy_down(store, source, target, count);
-    }
+    store.copy_within(source..source + count, target);
 }
 
 // n cells from below top to a place in the part from top on, each written through that part.
@@ -128,10 +95,8 @@ pub fn copy_above(store: &mut [i64], top: u32, from: u32, place: u32, n: u32)
         ≡ overwrite store.old (top + place) (part_at store.old from n) }
 {
     let start = top as usize;
-    let mut i: u32 = 0;
-    while i < n {
+    for i in 0..n {
         let z = store[(from + i) as usize];
         put(&mut store[start..], place + i, z);
-        i = i + 1;
     }
 }

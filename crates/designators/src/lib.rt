@@ -51,13 +51,7 @@ fn field_cell(d: u16, found: Option<FieldAt>) -> u32
     let Some(FieldAt { offset, declared }) = found else {
         return UNKNOWN;
     };
-    if 65535 < offset {
-        return UNKNOWN;
-    }
-    if 254 < declared {
-        return UNKNOWN;
-    }
-    if 254 < d {
+    if 65535 < offset || 254 < declared || 254 < d {
         return UNKNOWN;
     }
     offset * 65536 + declared as u32 * 256 + d as u32
@@ -90,24 +84,21 @@ fn node_cell(t: &[u8], f: &[u8], v: &[u8], plan: &[u32], r: usize, row: Row) -> 
     ensures { result ≡ cell_by t.now f.now v.now
         (below UNKNOWN r (λ k. get_or plan.now (NODES + k) 0)) row.kind row }
 {
-    let kind = row.kind;
-    let a = row.a;
-    let b = row.b;
-    match kind {
+    match row.kind {
         1 => {
-            let variable = image::row_at(v, a as usize);
+            let variable = image::row_at(v, row.a as usize);
             typed_cell(variable.a)
         }
         2 => {
-            let d = type_below(plan, r, a);
-            field_cell(d, relations::field(t, f, plan, d, b))
+            let d = type_below(plan, r, row.a);
+            field_cell(d, relations::field(t, f, plan, d, row.b))
         }
         3 => {
-            let whole = type_below(plan, r, a);
+            let whole = type_below(plan, r, row.a);
             let array = image::row_at(t, whole as usize);
             typed_cell(array.a)
         }
-        4 => typed_cell(b),
+        4 => typed_cell(row.b),
         _ => UNKNOWN,
     }
 }
@@ -120,11 +111,8 @@ pub fn fill(t: &[u8], f: &[u8], v: &[u8], n: &[u8], plan: &mut [u32])
         (cell_of t.now f.now v.now n.now)
         plan.old plan.new }
 {
-    let nodes = image::rows_of(n);
-    let mut r: usize = 0;
-    while r < nodes {
+    for r in 0..image::rows_of(n) {
         let row = image::row_at(n, r);
         plan[NODES + r] = node_cell(t, f, v, plan, r, row);
-        r = r + 1;
     }
 }

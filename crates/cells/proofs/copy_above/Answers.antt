@@ -1,4 +1,4 @@
-use mathlib.Core.Path.{◌≡◌, refl, sym, ◌∙◌, ap}
+use mathlib.Core.Path.{refl, sym, ◌∙◌, ap}
 use Prim.Native.Nat.{◌+◌}
 use native.Mathlib.Omega.{arith}
 use borrow.Author.Rules.{rules}
@@ -11,25 +11,16 @@ use Rattle.cells.proofs.copy_above.Goals as goal
 
 pub loop-i-init : goal.loop-i-init
 unfolding part_at
-loop-i-init c = (search rules, refl, sym (overwrite_none _ _))
+loop-i-init c = (refl, sym (overwrite_none _ _))
 
 pub loop-i-preserved : goal.loop-i-preserved
 loop-i-preserved c =
     let l = c.loop-i in
     let a = c.args in
-    let (few, size, copied) = l.invariant in
+    let (size, copied) = l.invariant in
     let e = rw (plain64 (get_or l.store (a.from + l.i) (pos 0)) (search rules)) at c.put.ensures in
     let whole =
     copy_lent a.store.now l.store c.put.new.store a.top a.from a.place l.i (pos 0)
     (omega (arith, c.requires.0)) (omega (arith, c.requires.1)) copied e in
     let many = part_length a.store.now a.from (l.i + 1) (omega (arith, c.requires.0, c.requires.1)) in
-    (search rules, ap length whole ∙ overwrite_length _ _ _ (omega (arith, many)), whole)
-
-pub shape_of-store : goal.shape_of-store
-shape_of-store c = c.loop-i.invariant.1
-
-pub returns : goal.returns
-returns c =
-    let (few, size, copied) = c.loop-i.invariant in
-    let all : c.loop-i.i ≡ c.args.n = omega arith in
-    rw (← all) copied
+    (ap length whole ∙ overwrite_length _ _ _ (omega (arith, many)), whole)

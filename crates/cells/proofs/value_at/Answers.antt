@@ -1,5 +1,6 @@
 use mathlib.Core.Path.{sym, ◌∙◌, ap}
 use borrow.Author.Tests.{lt-ltb, le-ltb}
+use borrow.Author.Rules.{rules}
 use lib.IntN.{pos}
 use lib.ListN.{get_or}
 use Rattle.prelude.proofs.Choice.{choose_yes, choose_no}
@@ -17,5 +18,5 @@ pub returns : goal.returns
 unfolding value_at bare cell_at
 returns c =
     let z = get_or c.args.store.now c.args.address (pos 0) in
-    c.cell.ensures ∙ ap (cell_of c.args.kind) (plain64 z (record { sfits = c.cell-arg-1.given }))
+    c.cell.ensures ∙ ap (cell_of c.args.kind) (plain64 z (search rules))
     ∙ sym (choose_yes _ _ _ (lt-ltb _ _ c.if-top-address.false))

@@ -1,26 +1,25 @@
-use mathlib.Core.Path.{◌≡◌, refl, sym}
-use Prim.Native.Nat.{◌+◌, ◌<◌}
+use mathlib.Core.Path.{◌≡◌, refl}
+use Prim.Native.Nat.{◌+◌, ◌-◌}
 use native.Mathlib.Omega.{arith}
-use borrow.Author.Rules.{rules}
 use lib.IntN.{pos}
-use lib.ListN.{length, length-set}
-use Rattle.cells.proofs.Overwriting.{overwrite_none, fill_next}
+use lib.ListN.{length}
+use Rattle.semantics.specs.Memory.{part_at}
+use Rattle.cells.proofs.Overwriting.{part_length, same_next, same_part}
 use Rattle.cells.proofs.zero.Goals as goal
 
-pub loop-i-init : goal.loop-i-init
-loop-i-init c = (search rules, refl, sym (overwrite_none _ _))
+pub loop-cell-init : goal.loop-cell-init
+loop-cell-init c = refl
 
-pub loop-i-preserved : goal.loop-i-preserved
-loop-i-preserved c =
-    let (few, size, same) = c.loop-i.invariant in
-    let more : c.args.a + c.loop-i.i < length c.args.store.now = omega (arith, c.requires) in
-    (search rules, simp length-set size, rw same (fill_next _ _ _ (pos 0) more))
-
-pub shape_of-store : goal.shape_of-store
-shape_of-store c = c.loop-i.invariant.1
+pub loop-cell-preserved : goal.loop-cell-preserved
+loop-cell-preserved c = let l = c.loop-cell in
+    rw l.invariant (same_next _ l.cell-index (pos 0) c.loop-cell-test.true)
 
 pub returns : goal.returns
+unfolding part_at
 returns c =
-    let (few, size, same) = c.loop-i.invariant in
-    let all : c.loop-i.i ≡ c.args.n = omega arith in
-    rw (← all) same
+    let a = c.args in
+    let l = c.loop-cell in
+    let count : a.a + a.n - a.a ≡ a.n = omega arith in
+    let size : length (part_at a.store.now a.a a.n) ≡ a.n = part_length a.store.now a.a a.n c.requires in
+    let all : l.cell-index ≡ a.n = omega (arith, size) in
+    rw count (same_part a.store.now l.cell-items a.a a.n (pos 0) c.requires (rw (count, all) at l.invariant))

@@ -1,14 +1,10 @@
 use mathlib.Core.Path.{◌≡◌}
-use Prim.Native.Nat.{◌-◌, ◌≤◌}
+use mathlib.Core.List.{◌++◌}
 use lib.IntN.{pos}
-use lib.ListN.{length, replicate}
-use Rattle.semantics.specs.Memory.{overwrite}
+use lib.ListN.{drop, replicate}
 use Rattle.cells.proofs.zero.Given as goal
 
--- `cells::zero` meets its contract: after i turns i cells are overwritten with zero.
-abbrev pub invariant-loop-i : goal.invariant-loop-i
-invariant-loop-i l =
-    (l.i ≤ l.n) × (length l.store ≡ length l.initial.store) × (l.store ≡ overwrite l.initial.store l.a (replicate l.i (pos 0)))
-
-abbrev pub decreases-loop-i : goal.decreases-loop-i
-decreases-loop-i l = l.n - l.i
+-- `cells::zero` meets its contract: the cells behind are zero, and those ahead as they were.
+abbrev pub invariant-loop-cell : goal.invariant-loop-cell
+invariant-loop-cell l =
+    l.cell-items ≡ replicate l.cell-index (pos 0) ++ drop l.cell-index l.initial.cell-items

@@ -1,6 +1,6 @@
 use mathlib.Core.Path.{◌∙◌}
-use borrow.Author.Tests.{ne_eqb}
 use Rattle.prelude.specs.Choice.{choose}
+use Rattle.prelude.proofs.Choice.{tests}
 use Rattle.relations.proofs.Fielding.{field_known}
 use Rattle.designators.specs.Designators.{cell_by}
 use Rattle.designators.proofs.node_cell.Goals as goal
@@ -27,5 +27,4 @@ returns-in-4 c = c.typed_cell-in-4.ensures ∙ rw c.in-4.is
 
 pub returns-in_default : goal.returns-in_default
 unfolding cell_by choose
-returns-in_default c = let rest = c.in_default.in_default-own.rest in
-    rw (ne_eqb _ 1 rest.0.0.0.1, ne_eqb _ 2 rest.0.0.1, ne_eqb _ 3 rest.0.1, ne_eqb _ 4 rest.1)
+returns-in_default c = search tests
