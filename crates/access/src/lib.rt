@@ -30,6 +30,14 @@ const VERSION: u8 = 1;
 // The plan of a run, lent by a reference that is one number: docs/PLAN.md.
 pub type Plan = [u32; RUN_PLAN];
 
+// An accepted image and its plan, as a run reads them.
+#[derive(Clone, Copy)]
+pub struct Loaded<'a> {
+    pub image: &'a [u8],
+    pub plan: &'a Plan,
+    pub ghost ready: { Ready image.now plan.now },
+}
+
 // ---- tables and rows
 
 // Table k of the six, in their order.
@@ -43,163 +51,161 @@ pub fn table<'a>(image: &'a [u8], plan: &[u32], k: usize) -> &'a [u8]
     &image[start..end]
 }
 
-pub fn type_at(image: &&[u8], plan: &Plan, r: u16) -> Row
-    requires { Planned image.now.now plan.now }
-    ensures { result ≡ row_at (program_of image.now.now).types r }
-{
-    image::row_at(table(*image, plan, 0), r as usize)
-}
-
-pub fn variable_at(image: &&[u8], plan: &Plan, a: u32) -> Row
-    requires { Planned image.now.now plan.now }
-    ensures { result ≡ row_at (program_of image.now.now).variables a }
-{
-    image::row_at(table(*image, plan, 2), a as usize)
-}
-
-pub fn procedure_at(image: &&[u8], plan: &Plan, q: u16) -> Row
-    requires { Planned image.now.now plan.now }
-    ensures { result ≡ row_at (program_of image.now.now).procedures q }
-{
-    image::row_at(table(*image, plan, 3), q as usize)
-}
-
-pub fn node_at(image: &&[u8], plan: &Plan, r: u32) -> Row
-    requires { Planned image.now.now plan.now }
-    ensures { result ≡ row_at (program_of image.now.now).nodes r }
-{
-    image::row_at(table(*image, plan, 4), r as usize)
-}
-
-pub fn statement_at(image: &&[u8], plan: &Plan, r: u32) -> Row
-    requires { Planned image.now.now plan.now }
-    ensures { result ≡ row_at (program_of image.now.now).statements r }
-{
-    image::row_at(table(*image, plan, 5), r as usize)
-}
-
-// ---- types
-
-// Whether type row r extends row u: a bit of row r's. Past the last row there can be, each row extends itself alone.
-pub fn extends(image: &&[u8], plan: &Plan, r: u16, u: u16) -> bool
-    requires { Planned image.now.now plan.now }
-    ensures { result ≡ extends_of (program_of image.now.now).types r u }
-{
-    if 63 < r {
-        return r == u;
+impl<'a> Loaded<'a> {
+    pub fn table(&self, k: usize) -> &'a [u8]
+        requires { k < 6 }
+        ensures { result.now ≡ table_of (program_of self.now.image.now) k }
+    {
+        let plan = self.plan;
+        table(self.image, plan, k)
     }
-    if u < 32 {
-        return ancestors::holds(plan[LOWER + r as usize], u);
+
+    pub fn type_at(&self, r: u16) -> Row
+        ensures { result ≡ row_at (program_of self.now.image.now).types r }
+    {
+        image::row_at(self.table(0), r as usize)
     }
-    if u < 64 {
-        return ancestors::holds(plan[UPPER + r as usize], u - 32);
+
+    pub fn variable_at(&self, a: u32) -> Row
+        ensures { result ≡ row_at (program_of self.now.image.now).variables a }
+    {
+        image::row_at(self.table(2), a as usize)
     }
-    false
-}
 
-// The field that node row k names, of an object of type row r: by the node's cell if that is of the same record, else up
-// the bases.
-pub fn field(image: &&[u8], plan: &Plan, k: u32, r: u16) -> Option<FieldAt>
-    requires { Planned image.now.now plan.now × ((row_at (program_of image.now.now).nodes k).kind ≡ 2)
-        × (r < rows_of (program_of image.now.now).types) }
-    ensures { result ≡ field_of (program_of image.now.now).types
-        (program_of image.now.now).fields r
-        (row_at (program_of image.now.now).nodes k).b }
-{
-    let cell = plan[NODES + k as usize];
-    if designators::record_in(cell) == r {
-        return FieldAnswer::Field(designators::offset_in(cell), designators::type_in(cell));
+    pub fn procedure_at(&self, q: u16) -> Row
+        ensures { result ≡ row_at (program_of self.now.image.now).procedures q }
+    {
+        image::row_at(self.table(3), q as usize)
     }
-    let n = node_at(image, plan, k).b;
-    relations::field(table(*image, plan, 0), table(*image, plan, 1), plan, r, n)
-}
 
-// The size of type row r.
-pub fn size_of(image: &&[u8], plan: &Plan, r: u16) -> u32
-    requires { Planned image.now.now plan.now × (r < rows_of (program_of image.now.now).types) }
-    ensures { result ≡ size_of (program_of image.now.now).types
-        (program_of image.now.now).fields r }
-{
-    plan[r as usize]
-}
-
-// Whether objects of type row r are single cells: the scalars stand first, each in the row of its kind.
-pub fn is_single(image: &&[u8], plan: &Plan, r: u16) -> bool
-    requires { Planned image.now.now plan.now × (r < rows_of (program_of image.now.now).types) }
-    ensures { result ≡ is_single (program_of image.now.now).types r }
-{
-    r < image::scalar_rows(VERSION)
-}
-
-// ---- variables and procedures
-
-// Where variable row a begins: a global in the store, another in its frame.
-pub fn place_of(image: &&[u8], plan: &Plan, a: u32) -> u32
-    requires { Planned image.now.now plan.now × (a < rows_of (program_of image.now.now).variables) }
-    ensures { result ≡ place_of (program_of image.now.now) a }
-{
-    plan[PLACES + a as usize]
-}
-
-// How many cells variable row a has.
-pub fn width_of(image: &&[u8], plan: &Plan, a: u32) -> u32
-    requires { Planned image.now.now plan.now × (a < rows_of (program_of image.now.now).variables) }
-    ensures { result ≡ width_of (program_of image.now.now).types
-        (program_of image.now.now).fields (program_of image.now.now).variables a }
-{
-    let row = variable_at(image, plan, a);
-    let kind = row.kind;
-    let r = row.a;
-    if kind == 3 {
-        return 2;
+    pub fn node_at(&self, r: u32) -> Row
+        ensures { result ≡ row_at (program_of self.now.image.now).nodes r }
+    {
+        image::row_at(self.table(4), r as usize)
     }
-    size_of(image, plan, r)
-}
 
-// The size of procedure q's frame.
-pub fn frame_size(image: &&[u8], plan: &Plan, q: u16) -> u32
-    requires { Planned image.now.now plan.now × (q < rows_of (program_of image.now.now).procedures) }
-    ensures { result ≡ frame_size (program_of image.now.now).types
-        (program_of image.now.now).fields (program_of image.now.now).variables
-        (program_of image.now.now).procedures q }
-{
-    plan[FRAMES + q as usize]
-}
+    pub fn statement_at(&self, r: u32) -> Row
+        ensures { result ≡ row_at (program_of self.now.image.now).statements r }
+    {
+        image::row_at(self.table(5), r as usize)
+    }
 
-// The first variable row of procedure q.
-pub fn first_variable(image: &&[u8], plan: &Plan, q: u16) -> u32
-    requires { Planned image.now.now plan.now × (q < rows_of (program_of image.now.now).procedures) }
-    ensures { result ≡ first_variable (program_of image.now.now).variables
-        (program_of image.now.now).procedures q }
-{
-    plan[FIRSTS + q as usize]
-}
+    // ---- types
 
-// How many variables procedure q has.
-pub fn claimed_by(image: &&[u8], plan: &Plan, q: u16) -> u32
-    requires { Planned image.now.now plan.now }
-    ensures { result ≡ claimed_by (row_at (program_of image.now.now).procedures q) }
-{
-    let row = procedure_at(image, plan, q);
-    let parameters = row.b as u32;
-    let locals = row.c as u32;
-    parameters + locals
-}
+    // Whether type row r extends row u: a bit of row r's. Past the last row there can be, each row extends itself alone.
+    pub fn extends(&self, r: u16, u: u16) -> bool
+        ensures { result ≡ extends_of (program_of self.now.image.now).types r u }
+    {
+        if 63 < r {
+            return r == u;
+        }
+        if u < 32 {
+            return ancestors::holds(self.plan[LOWER + r as usize], u);
+        }
+        if u < 64 {
+            return ancestors::holds(self.plan[UPPER + r as usize], u - 32);
+        }
+        false
+    }
 
-// How many cells the globals have.
-pub fn global_room(image: &&[u8], plan: &Plan) -> u32
-    requires { Planned image.now.now plan.now }
-    ensures { result ≡ global_room (program_of image.now.now) }
-{
-    plan[GLOBALS]
-}
+    // The field that node row k names, of an object of type row r: by the node's cell if that is of the same record, else up
+    // the bases.
+    pub fn field(&self, k: u32, r: u16) -> Option<FieldAt>
+        requires { ((row_at (program_of self.now.image.now).nodes k).kind ≡ 2)
+            × (r < rows_of (program_of self.now.image.now).types) }
+        ensures { result ≡ field_of (program_of self.now.image.now).types
+            (program_of self.now.image.now).fields r
+            (row_at (program_of self.now.image.now).nodes k).b }
+    {
+        let plan = self.plan;
+        let cell = plan[NODES + k as usize];
+        if designators::record_in(cell) == r {
+            return FieldAnswer::Field(designators::offset_in(cell), designators::type_in(cell));
+        }
+        relations::field(self.table(0), self.table(1), plan, r, self.node_at(k).b)
+    }
 
-// The procedure whose body has statement row r.
-pub fn procedure_of(image: &&[u8], plan: &Plan, r: u32) -> u32
-    requires { Ready image.now.now plan.now × (r < rows_of (program_of image.now.now).statements) }
-    ensures { result ≡ procedure_at (program_of image.now.now).procedures r }
-{
-    plan[OWNERS + r as usize]
+    // The size of type row r.
+    pub fn size_of(&self, r: u16) -> u32
+        requires { r < rows_of (program_of self.now.image.now).types }
+        ensures { result ≡ size_of (program_of self.now.image.now).types
+            (program_of self.now.image.now).fields r }
+    {
+        self.plan[r as usize]
+    }
+
+    // Whether objects of type row r are single cells: the scalars stand first, each in the row of its kind.
+    pub fn is_single(&self, r: u16) -> bool
+        requires { r < rows_of (program_of self.now.image.now).types }
+        ensures { result ≡ is_single (program_of self.now.image.now).types r }
+    {
+        r < image::scalar_rows(VERSION)
+    }
+
+    // ---- variables and procedures
+
+    // Where variable row a begins: a global in the store, another in its frame.
+    pub fn place_of(&self, a: u32) -> u32
+        requires { a < rows_of (program_of self.now.image.now).variables }
+        ensures { result ≡ place_of (program_of self.now.image.now) a }
+    {
+        self.plan[PLACES + a as usize]
+    }
+
+    // How many cells variable row a has.
+    pub fn width_of(&self, a: u32) -> u32
+        requires { a < rows_of (program_of self.now.image.now).variables }
+        ensures { result ≡ width_of (program_of self.now.image.now).types
+            (program_of self.now.image.now).fields (program_of self.now.image.now).variables a }
+    {
+        let row = self.variable_at(a);
+        if row.kind == 3 {
+            return 2;
+        }
+        self.size_of(row.a)
+    }
+
+    // The size of procedure q's frame.
+    pub fn frame_size(&self, q: u16) -> u32
+        requires { q < rows_of (program_of self.now.image.now).procedures }
+        ensures { result ≡ frame_size (program_of self.now.image.now).types
+            (program_of self.now.image.now).fields (program_of self.now.image.now).variables
+            (program_of self.now.image.now).procedures q }
+    {
+        self.plan[FRAMES + q as usize]
+    }
+
+    // The first variable row of procedure q.
+    pub fn first_variable(&self, q: u16) -> u32
+        requires { q < rows_of (program_of self.now.image.now).procedures }
+        ensures { result ≡ first_variable (program_of self.now.image.now).variables
+            (program_of self.now.image.now).procedures q }
+    {
+        self.plan[FIRSTS + q as usize]
+    }
+
+    // How many variables procedure q has.
+    pub fn claimed_by(&self, q: u16) -> u32
+        ensures { result ≡ claimed_by (row_at (program_of self.now.image.now).procedures q) }
+    {
+        let row = self.procedure_at(q);
+        row.b as u32 + row.c as u32
+    }
+
+    // How many cells the globals have.
+    pub fn global_room(&self) -> u32
+        ensures { result ≡ global_room (program_of self.now.image.now) }
+    {
+        self.plan[GLOBALS]
+    }
+
+    // The procedure whose body has statement row r.
+    pub fn procedure_of(&self, r: u32) -> u32
+        requires { r < rows_of (program_of self.now.image.now).statements }
+        ensures { result ≡ procedure_at (program_of self.now.image.now).procedures r }
+    {
+        self.plan[OWNERS + r as usize]
+    }
 }
 
 // ---- the plan
@@ -210,11 +216,9 @@ fn fill_owners(p: &[u8], n: usize, plan: &mut [u32])
     ensures { Filled OWNERS n (procedure_at p.now) plan.old plan.new }
 {
     let mut q: usize = 0;
-    let mut r: usize = 0;
-    while r < n {
+    for r in 0..n {
         plan[OWNERS + r] = q as u32;
-        r = r + 1;
-        q = statements::next_procedure(p, q, r);
+        q = statements::next_procedure(p, q, r + 1);
     }
 }
 

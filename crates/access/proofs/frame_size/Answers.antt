@@ -1,9 +1,0 @@
-use native.Mathlib.Omega.{arith}
-use Rattle.access.proofs.Bounds.{procedures_few}
-use Rattle.access.proofs.frame_size.Goals as goal
-
-pub bounds-plan-q : goal.bounds-plan-q
-bounds-plan-q c = omega (arith, c.requires.0.checked.cells, procedures_few c.requires.0, c.requires.1)
-
-pub returns : goal.returns
-returns c = c.requires.0.checked.frame _ c.requires.1

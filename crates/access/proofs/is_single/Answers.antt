@@ -1,6 +1,0 @@
-use mathlib.Core.Path.{sym}
-use Rattle.access.proofs.Bounds.{single_first}
-use Rattle.access.proofs.is_single.Goals as goal
-
-pub returns : goal.returns
-returns c = rw c.scalar_rows.ensures (sym (single_first c.requires.0 _ c.requires.1 1))

@@ -1,8 +1,0 @@
-use mathlib.Core.Path.{◌∙◌}
-use Rattle.semantics.specs.Memory.{bare, value_at}
-use Rattle.access.proofs.Bounds.{kind_read}
-use Rattle.finding.proofs.load.Goals as goal
-
-pub returns : goal.returns
-unfolding value_at bare
-returns c = c.value_at.ensures ∙ rw (kind_read c.requires.0 _ c.requires.1 _)
