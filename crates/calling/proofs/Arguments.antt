@@ -33,9 +33,8 @@ use Rattle.semantics.specs.Stepping.{argument_cells, passed}
 use Rattle.semantics.specs.Running.{program_of}
 use Rattle.semantics.specs.contracts.Found.{the_type as found_type}
 use Rattle.semantics.proofs.Demand3.{program_accepted}
-use Rattle.access.specs.Ready.{Planned, Ready}
+use Rattle.access.specs.Ready.{Planned}
 use Rattle.access.proofs.Bounds.{variable_typed}
-use Rattle.finding.specs.Standing.{Standing}
 use Rattle.calling.specs.declared.Step.TheVariants as Steps
 use Rattle.calling.specs.declared.Passing.{Passing}
 use Rattle.calling.specs.declared.Passing.TheVariants as Ps
@@ -43,13 +42,6 @@ use Rattle.calling.specs.Showing.{state_of, Stands}
 use Rattle.calling.specs.Passing.{lost_place, lost_value, ended_by, framed, passed_one, Roomy}
 use Rattle.calling.specs.Passing.{Passes, Passes.passes_done, Passes.passes_trap, Passes.passes_stuck}
 use Rattle.calling.specs.contracts.Passing.{the_type as passing_type}
-
--- ---- finding from here
-
--- what a step may ask, finding may
-pub standing : {image plan : List ℕ} {s : Registers} {cells : List ℤ} → Ready image plan → Stands s cells
-    → Standing image plan s.base s.top cells
-standing ready stands = record { planned = ready.planned; low = stands.base; stored = stands.top }
 
 -- ---- other cells, as many
 

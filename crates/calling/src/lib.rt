@@ -10,11 +10,11 @@ ghost use Rattle.semantics.specs.Memory.{bare, overwrite};
 ghost use Rattle.semantics.specs.Finding.{find_of, eval_of};
 ghost use Rattle.semantics.specs.Stepping.{on_place, on_value, on_part, passed, entered, called};
 ghost use Rattle.semantics.specs.Running.{program_of, asked_by};
-ghost use Rattle.access.specs.Ready.{Ready};
 ghost use Rattle.calling.specs.Showing.{state_of, Stands, Shows};
 ghost use Rattle.calling.specs.Passing.{lost_place, lost_value, ended_by, framed, passed_one, Roomy, Passes};
 
-use access::Plan;
+use access::Loaded;
+use finding::View;
 use image::Row;
 use semantics::{Found, Registers};
 use values::{Answer, Trap};
@@ -68,142 +68,103 @@ pub fn ended_by(x: Passing) -> Step
 // ---- arguments
 
 // An object, at a place of the new frame: its address and dynamic type.
-fn pass_object(
-    image: &&[u8],
-    plan: &Plan,
-    store: &mut [i64],
-    s: Registers,
-    k: u32,
-    place: u32,
-) -> Passing
-    requires { Ready image.now.now plan.now × Stands s store.old
-        × (s.top + (place + 2) ≤ length store.old) }
+fn pass_object(loaded: &Loaded, store: &mut [i64], s: Registers, k: u32, place: u32) -> Passing
+    requires { Stands s store.old × (s.top + (place + 2) ≤ length store.old) }
     ensures { (output : List ℤ) → Passes (state_of s store.old output)
         (λ next. on_place (state_of s store.old output)
-        (find_of bare (program_of image.now.now) s.base s.top store.old k)
+        (find_of bare (program_of loaded.now.image.now) s.base s.top store.old k)
         (λ object. framed (state_of s store.old output) place next
         (pos object.address ∷ pos object.dynamic ∷ []))) result store.new }
 {
-    let base = s.base;
-    let top = s.top;
-    let found = finding::find_at(image, plan, store, base, top, k);
+    let found = View::new(loaded, store, s).find(k);
     let Found::At(object) = found else {
         return lost_place(found);
     };
     let address = object.address as i64;
     let dynamic = object.dynamic as i64;
-    cells::put_pair(&mut store[top as usize..], place, address, dynamic);
+    cells::put_pair(&mut store[s.top as usize..], place, address, dynamic);
     Passing::Done
 }
 
 // A scalar value, at a place of the new frame.
-fn pass_value(
-    image: &&[u8],
-    plan: &Plan,
-    store: &mut [i64],
-    s: Registers,
-    k: u32,
-    place: u32,
-) -> Passing
-    requires { Ready image.now.now plan.now × Stands s store.old
-        × (s.top + (place + 1) ≤ length store.old) }
+fn pass_value(loaded: &Loaded, store: &mut [i64], s: Registers, k: u32, place: u32) -> Passing
+    requires { Stands s store.old × (s.top + (place + 1) ≤ length store.old) }
     ensures { (output : List ℤ) → Passes (state_of s store.old output)
         (λ next. on_value (state_of s store.old output)
-        (eval_of bare (program_of image.now.now) s.base s.top store.old k)
+        (eval_of bare (program_of loaded.now.image.now) s.base s.top store.old k)
         (λ v. framed (state_of s store.old output) place next (bare.put v ∷ []))) result store.new }
 {
-    let base = s.base;
-    let top = s.top;
-    let answer = finding::fresh(finding::eval_at(image, plan, store, base, top, k));
+    let answer = finding::fresh(View::new(loaded, store, s).eval(k));
     let Answer::Val(value) = answer else {
         return lost_value(answer);
     };
     let number = values::number_of(value);
-    cells::put(&mut store[top as usize..], place, number);
+    cells::put(&mut store[s.top as usize..], place, number);
     Passing::Done
 }
 
 // The cells of an object, as one of type row r, at a place of the new frame.
 fn pass_cells(
-    image: &&[u8],
-    plan: &Plan,
+    loaded: &Loaded,
     store: &mut [i64],
     s: Registers,
     k: u32,
     place: u32,
     r: u16,
 ) -> Passing
-    requires { Ready image.now.now plan.now × Stands s store.old
-        × (r < rows_of (program_of image.now.now).types)
-        × (s.top + (place + size_of (program_of image.now.now).types (program_of image.now.now).fields r)
+    requires { Stands s store.old × (r < rows_of (program_of loaded.now.image.now).types)
+        × (s.top + (place + size_of (program_of loaded.now.image.now).types (program_of loaded.now.image.now).fields r)
         ≤ length store.old) }
     ensures { (output : List ℤ) → Passes (state_of s store.old output)
         (λ next. on_place (state_of s store.old output)
-        (find_of bare (program_of image.now.now) s.base s.top store.old k)
+        (find_of bare (program_of loaded.now.image.now) s.base s.top store.old k)
         (λ object. on_part (state_of s store.old output) object.address
-        (size_of (program_of image.now.now).types (program_of image.now.now).fields r)
+        (size_of (program_of loaded.now.image.now).types (program_of loaded.now.image.now).fields r)
         (framed (state_of s store.old output) place next))) result store.new }
 {
-    let base = s.base;
-    let top = s.top;
-    let found = finding::find_at(image, plan, store, base, top, k);
+    let found = View::new(loaded, store, s).find(k);
     let Found::At(object) = found else {
         return lost_place(found);
     };
-    let address = object.address;
-    let size = access::size_of(image, plan, r);
-    let end = address + size;
-    if top < end {
+    let size = loaded.size_of(r);
+    if s.top < object.address + size {
         return Passing::Stuck;
     }
-    cells::copy_above(store, top, address, place, size);
+    cells::copy_above(store, s.top, object.address, place, size);
     Passing::Done
 }
 
 // One argument: node row k, to variable row a.
-fn pass(image: &&[u8], plan: &Plan, store: &mut [i64], s: Registers, k: u32, a: u32) -> Passing
-    requires { Ready image.now.now plan.now × Stands s store.old
-        × Roomy image.now.now s.top a store.old }
+fn pass(loaded: &Loaded, store: &mut [i64], s: Registers, k: u32, a: u32) -> Passing
+    requires { Stands s store.old × Roomy loaded.now.image.now s.top a store.old }
     ensures { (output : List ℤ) → Passes (state_of s store.old output)
-        (passed_one bare (program_of image.now.now) k a (state_of s store.old output))
+        (passed_one bare (program_of loaded.now.image.now) k a (state_of s store.old output))
         result store.new }
 {
-    let parameter = access::variable_at(image, plan, a);
-    let kind = parameter.kind;
-    let r = parameter.a;
-    let place = access::place_of(image, plan, a);
-    if kind == 3 {
-        return pass_object(image, plan, store, s, k, place);
+    let parameter = loaded.variable_at(a);
+    let place = loaded.place_of(a);
+    if parameter.kind == 3 {
+        return pass_object(loaded, store, s, k, place);
     }
-    if access::is_single(image, plan, r) {
-        return pass_value(image, plan, store, s, k, place);
+    if loaded.is_single(parameter.a) {
+        return pass_value(loaded, store, s, k, place);
     }
-    pass_cells(image, plan, store, s, k, place, r)
+    pass_cells(loaded, store, s, k, place, parameter.a)
 }
 
 // n arguments from node row k on, to the variables from row a on.
-fn pass_all(
-    image: &&[u8],
-    plan: &Plan,
-    store: &mut [i64],
-    s: Registers,
-    k: u32,
-    a: u32,
-    n: u32,
-) -> Passing
-    requires { Ready image.now.now plan.now × Stands s store.old × (k ≤ 65536) × (a ≤ 65536) × (n ≤ 65536)
-        × ((j : ℕ) → j < n → Roomy image.now.now s.top (a + j) store.old) }
+fn pass_all(loaded: &Loaded, store: &mut [i64], s: Registers, k: u32, a: u32, n: u32) -> Passing
+    requires { Stands s store.old × (k ≤ 65536) × (a ≤ 65536) × (n ≤ 65536)
+        × ((j : ℕ) → j < n → Roomy loaded.now.image.now s.top (a + j) store.old) }
     ensures { (output : List ℤ) → Passes (state_of s store.old output)
-        (passed bare (program_of image.now.now) k a n (state_of s store.old output))
+        (passed bare (program_of loaded.now.image.now) k a n (state_of s store.old output))
         result store.new }
 {
-    let mut j: u32 = 0;
-    while j < n {
-        let one = pass(image, plan, store, s, k + j, a + j);
+    for j in 0..n {
+        let one = pass(loaded, store, s, k + j, a + j);
         let Passing::Done = one else {
             return one;
         };
-        j = j + 1;
     }
     Passing::Done
 }
@@ -224,81 +185,67 @@ fn write_frame(frame: &mut [i64], past: u32, size: u32, caller: u32, back: u32, 
 }
 
 // Where the locals of procedure q begin in its frame.
-fn locals_place(image: &&[u8], plan: &Plan, q: u16) -> u32
-    requires { Ready image.now.now plan.now × (q < rows_of (program_of image.now.now).procedures) }
-    ensures { result ≡ 3 + room_from (program_of image.now.now).types
-        (program_of image.now.now).fields (program_of image.now.now).variables
-        (first_variable (program_of image.now.now).variables
-        (program_of image.now.now).procedures q)
-        (row_at (program_of image.now.now).procedures q).b }
+fn locals_place(loaded: &Loaded, q: u16) -> u32
+    requires { q < rows_of (program_of loaded.now.image.now).procedures }
+    ensures { result ≡ 3 + room_from (program_of loaded.now.image.now).types
+        (program_of loaded.now.image.now).fields (program_of loaded.now.image.now).variables
+        (first_variable (program_of loaded.now.image.now).variables
+        (program_of loaded.now.image.now).procedures q)
+        (row_at (program_of loaded.now.image.now).procedures q).b }
 {
-    let procedure = access::procedure_at(image, plan, q);
-    let parameters = procedure.b;
-    let locals = procedure.c;
-    if locals == 0 {
-        return access::frame_size(image, plan, q);
+    let procedure = loaded.procedure_at(q);
+    if procedure.c == 0 {
+        return loaded.frame_size(q);
     }
-    let first = access::first_variable(image, plan, q);
-    access::place_of(image, plan, first + parameters as u32)
+    loaded.place_of(loaded.first_variable(q) + procedure.b as u32)
 }
 
 // The top that a call of procedure q asks for.
-fn new_top(image: &&[u8], plan: &Plan, top: u32, q: u16) -> u32
-    requires { Ready image.now.now plan.now × (top ≤ 65536)
-        × (q < rows_of (program_of image.now.now).procedures) }
-    ensures { result ≡ top + frame_size (program_of image.now.now).types
-        (program_of image.now.now).fields (program_of image.now.now).variables
-        (program_of image.now.now).procedures q }
+fn new_top(loaded: &Loaded, top: u32, q: u16) -> u32
+    requires { (top ≤ 65536) × (q < rows_of (program_of loaded.now.image.now).procedures) }
+    ensures { result ≡ top + frame_size (program_of loaded.now.image.now).types
+        (program_of loaded.now.image.now).fields (program_of loaded.now.image.now).variables
+        (program_of loaded.now.image.now).procedures q }
 {
-    let size = access::frame_size(image, plan, q);
-    top + size
+    top + loaded.frame_size(q)
 }
 
 // The call of procedure q, whose arguments are passed.
-fn enter(image: &&[u8], plan: &Plan, store: &mut [i64], s: Registers, q: u16) -> Step
-    requires { Ready image.now.now plan.now × Stands s store.old
-        × (q < rows_of (program_of image.now.now).procedures)
-        × (s.row < rows_of (program_of image.now.now).statements)
-        × (s.top + frame_size (program_of image.now.now).types (program_of image.now.now).fields
-        (program_of image.now.now).variables (program_of image.now.now).procedures q ≤ length store.old) }
+fn enter(loaded: &Loaded, store: &mut [i64], s: Registers, q: u16) -> Step
+    requires { Stands s store.old × (q < rows_of (program_of loaded.now.image.now).procedures)
+        × (s.row < rows_of (program_of loaded.now.image.now).statements)
+        × (s.top + frame_size (program_of loaded.now.image.now).types (program_of loaded.now.image.now).fields
+        (program_of loaded.now.image.now).variables (program_of loaded.now.image.now).procedures q ≤ length store.old) }
     ensures { (output : List ℤ) → Shows (state_of s store.old output)
-        (entered bare (program_of image.now.now) q
-        (row_at (program_of image.now.now).procedures q) (state_of s store.old output))
+        (entered bare (program_of loaded.now.image.now) q
+        (row_at (program_of loaded.now.image.now).procedures q) (state_of s store.old output))
         result store.new output }
 {
-    let row = s.row;
-    let base = s.base;
-    let top = s.top;
-    let read = s.read;
-    let written = s.written;
-    let procedure = access::procedure_at(image, plan, q);
-    let start = procedure.a;
-    let size = access::frame_size(image, plan, q);
-    let past = locals_place(image, plan, q);
-    let caller = access::procedure_of(image, plan, row);
-    let back = row + 1;
-    let end = top + size;
-    write_frame(&mut store[top as usize..], past, size, caller, back, base);
+    let procedure = loaded.procedure_at(q);
+    let size = loaded.frame_size(q);
+    let past = locals_place(loaded, q);
+    let caller = loaded.procedure_of(s.row);
+    let frame = &mut store[s.top as usize..];
+    write_frame(frame, past, size, caller, s.row + 1, s.base);
     Step::Goes(Registers {
-        row: start as u32,
-        base: top,
-        top: end,
-        read,
-        written,
+        row: procedure.a as u32,
+        base: s.top,
+        top: s.top + size,
+        read: s.read,
+        written: s.written,
     })
 }
 
 // The top that the step from s asks for, in a store of so many cells: a call's that passes the store check, else 0.
-pub fn asked(image: &&[u8], plan: &Plan, cells: usize, s: Registers) -> u32
-    requires { Ready image.now.now plan.now × (s.top ≤ 65536) }
-    ensures { result ≡ asked_by (program_of image.now.now) s cells }
+pub fn asked(loaded: &Loaded, cells: usize, s: Registers) -> u32
+    requires { s.top ≤ 65536 }
+    ensures { result ≡ asked_by (program_of loaded.now.image.now) s cells }
 {
-    let top = s.top;
-    let statement = access::statement_at(image, plan, s.row);
+    let statement = loaded.statement_at(s.row);
     if statement.kind != 1 {
         return 0;
     }
-    let end = new_top(image, plan, top, statement.a);
+    let end = new_top(loaded, s.top, statement.a);
     if cells < end as usize {
         return 0;
     }
@@ -306,27 +253,30 @@ pub fn asked(image: &&[u8], plan: &Plan, cells: usize, s: Registers) -> u32
 }
 
 // Statement kind 1: the store check first, then the arguments, then the frame.
-pub fn call(image: &&[u8], plan: &Plan, store: &mut [i64], s: Registers, statement: Row) -> Step
-    requires { Ready image.now.now plan.now × Stands s store.old
-        × (statement.a < rows_of (program_of image.now.now).procedures)
-        × (s.row < rows_of (program_of image.now.now).statements) }
+pub fn call(loaded: &Loaded, store: &mut [i64], s: Registers, statement: Row) -> Step
+    requires { Stands s store.old × (statement.a < rows_of (program_of loaded.now.image.now).procedures)
+        × (s.row < rows_of (program_of loaded.now.image.now).statements) }
     ensures { (output : List ℤ) → Shows (state_of s store.old output)
-        (called bare (program_of image.now.now) statement (state_of s store.old output))
+        (called bare (program_of loaded.now.image.now) statement (state_of s store.old output))
         result store.new output }
 {
     let q = statement.a;
-    let k = statement.b;
-    let top = s.top;
-    let end = new_top(image, plan, top, q);
+    let end = new_top(loaded, s.top, q);
     if store.len() < end as usize {
         return Step::Trapped(Trap::Frame, 0);
     }
-    let procedure = access::procedure_at(image, plan, q);
-    let parameters = procedure.b;
-    let first = access::first_variable(image, plan, q);
-    let passing = pass_all(image, plan, store, s, k as u32, first, parameters as u32);
+    let procedure = loaded.procedure_at(q);
+    let first = loaded.first_variable(q);
+    let passing = pass_all(
+        loaded,
+        store,
+        s,
+        statement.b as u32,
+        first,
+        procedure.b as u32,
+    );
     let Passing::Done = passing else {
         return ended_by(passing);
     };
-    enter(image, plan, store, s, q)
+    enter(loaded, store, s, q)
 }

@@ -36,7 +36,7 @@ use Rattle.semantics.specs.Running.{program_of}
 use Rattle.access.specs.Ready.{Planned}
 use Rattle.access.proofs.Bounds.{field_low, element_typed, element_low, variable_typed, place_low, guard_typed}
 use Rattle.access.proofs.Bounds.{nodes_few}
-use Rattle.finding.specs.Standing.{Standing, Within}
+use Rattle.finding.specs.Within.{Within}
 use Rattle.finding.proofs.Laws.{find_other}
 
 -- an object at n or below, of a type that there is; or none
@@ -262,13 +262,13 @@ find_missing g base top cells r h =
     (λ e. absurd (omega arith)) (λ e. absurd (omega arith)) (λ e. absurd (omega arith)) (λ e. absurd (omega arith))
 
 -- an object that was found, of a type that there is, and low enough
-pub find_within : {image plan : List ℕ} {base top : ℕ} {cells : List ℤ} → Standing image plan base top cells → (r : ℕ)
-    (place : Place) → find_of bare (program_of image) base top cells r ≡ Fs.At place → Within image place
-find_within {image} {plan} {base} {top} {cells} s r place e =
+pub find_within : {image plan : List ℕ} → Planned image plan → {base : ℕ} → base ≤ 65536 → (top : ℕ)
+    (cells : List ℤ) (r : ℕ) {place : Place} → find_of bare (program_of image) base top cells r ≡ Fs.At place
+    → Within image place
+find_within {image} p {base} low top cells r e =
     within_low (subst (Low image 16777216) e (go (dec_lt r (rows_of (program_of image).nodes))))
   where
     go : Dec (r < rows_of (program_of image).nodes)
         → Low image 16777216 (find_of bare (program_of image) base top cells r)
-    go (yes l) =
-        low_more (find_low s.planned base top cells s.low r) (omega (arith, nodes_few s.planned))
+    go (yes l) = low_more (find_low p base top cells low r) (omega (arith, nodes_few p))
     go (no l) = rw (find_missing (program_of image) base top cells r (omega arith)) low_stuck

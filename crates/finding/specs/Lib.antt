@@ -1,2 +1,2 @@
-pub mod Standing
+pub mod Within
 pub mod Missed

@@ -9,14 +9,13 @@ ghost use Rattle.semantics.specs.Memory.{bare, value_at};
 ghost use Rattle.semantics.specs.Finding.{reach, content, object, parameter_place, variable_place, field_place};
 ghost use Rattle.semantics.specs.Finding.{element_place, array_place, guard_place, test_of, find_of, eval_of};
 ghost use Rattle.semantics.specs.Running.{program_of};
-ghost use Rattle.access.specs.Ready.{Planned};
-ghost use Rattle.finding.specs.Standing.{Standing, Within};
+ghost use Rattle.finding.specs.Within.{Within};
 ghost use Rattle.finding.specs.Missed.{no_place, no_value};
 
-use access::Plan;
+use access::Loaded;
 use image::Row;
 use relations::FieldAt;
-use semantics::{Found, Mark, Place};
+use semantics::{Found, Mark, Place, Registers};
 use values::{Answer, Trap, Value};
 
 // ---- answers of calls
@@ -58,16 +57,6 @@ fn no_value(x: Found) -> Answer
     }
 }
 
-// The value of an object. A scalar's type row is its kind, and no other row is the kind of a value.
-fn load(image: &&[u8], plan: &Plan, store: &&[i64], top: u32, place: Place) -> Answer
-    requires { Planned image.now.now plan.now
-        × (place.declared < rows_of (program_of image.now.now).types) × (top ≤ length store.now.now) }
-    ensures { result ≡ value_at bare top store.now.now
-        (kind_in (program_of image.now.now).types place.declared) place.address }
-{
-    cells::value_at(*store, top, place.declared, place.address)
-}
-
 // ---- designators
 
 // An object of type row r at an address: its dynamic type is the declared one.
@@ -81,347 +70,341 @@ fn plain(address: u32, r: u16) -> Found
     })
 }
 
-// The object of a VAR parameter of type row r, whose two cells begin at `at`.
-fn parameter_place(store: &&[i64], top: u32, at: u32, r: u16) -> Found
-    requires { (top ≤ length store.now.now) × (at < 4294967295) }
-    ensures { result ≡ parameter_place bare top store.now.now at r }
-{
-    let Mark::Number(address) = cells::mark_at(*store, top, at) else {
-        return Found::Stuck;
-    };
-    let Mark::Number(dynamic) = cells::mark_at(*store, top, at + 1) else {
-        return Found::Stuck;
-    };
-    Found::At(Place {
-        address: address as u32,
-        declared: r,
-        dynamic,
-    })
-}
-
-// Node kind 1: variable row a.
-fn variable_place(image: &&[u8], plan: &Plan, store: &&[i64], base: u32, top: u32, a: u16) -> Found
-    requires { Standing image.now.now plan.now base top store.now.now }
-    ensures { result ≡ variable_place bare (program_of image.now.now) base top store.now.now a
-        (row_at (program_of image.now.now).variables a) }
-{
-    let row = access::variable_at(image, plan, a as u32);
-    let kind = row.kind;
-    let r = row.a;
-    if 3 < kind {
-        return Found::Stuck;
-    }
-    let place = access::place_of(image, plan, a as u32);
-    if kind == 0 {
-        return plain(place, r);
-    }
-    let at = base + place;
-    if kind < 3 {
-        return plain(at, r);
-    }
-    parameter_place(store, top, at, r)
-}
-
 // Node kind 2: the field that node row k names, of an object.
-fn field_place(image: &&[u8], plan: &Plan, whole: Place, k: u32) -> Found
-    requires { Planned image.now.now plan.now × Within image.now.now whole
-        × ((row_at (program_of image.now.now).nodes k).kind ≡ 2) }
-    ensures { result ≡ field_place whole (field_of (program_of image.now.now).types
-        (program_of image.now.now).fields whole.declared
-        (row_at (program_of image.now.now).nodes k).b) }
+fn field_place(loaded: &Loaded, whole: Place, k: u32) -> Found
+    requires { Within loaded.now.image.now whole
+        × ((row_at (program_of loaded.now.image.now).nodes k).kind ≡ 2) }
+    ensures { result ≡ field_place whole (field_of (program_of loaded.now.image.now).types
+        (program_of loaded.now.image.now).fields whole.declared
+        (row_at (program_of loaded.now.image.now).nodes k).b) }
 {
-    let address = whole.address;
-    let declared = whole.declared;
-    let Some(FieldAt { offset: offset, declared: r }) = access::field(image, plan, k, declared) else {
+    let Some(FieldAt { offset: offset, declared: r }) = loaded.field(k, whole.declared) else {
         return Found::Stuck;
     };
-    plain(address + offset, r)
+    plain(whole.address + offset, r)
 }
 
 // Node kind 3: the element at an index of an object whose type row is `array`.
-fn element_place(image: &&[u8], plan: &Plan, whole: Place, array: Row, index: i32) -> Found
-    requires { Planned image.now.now plan.now × Within image.now.now whole
-        × (array ≡ row_at (program_of image.now.now).types whole.declared) × (array.kind ≡ 3) }
-    ensures { result ≡ element_place (program_of image.now.now) whole array index }
+fn element_place(loaded: &Loaded, whole: Place, array: Row, index: i32) -> Found
+    requires { Within loaded.now.image.now whole
+        × (array ≡ row_at (program_of loaded.now.image.now).types whole.declared) × (array.kind ≡ 3) }
+    ensures { result ≡ element_place (program_of loaded.now.image.now) whole array index }
 {
-    let address = whole.address;
-    let element = array.a;
-    let length = array.b;
     if index < 0 {
         return Found::Trap(Trap::Index);
     }
     let i = index as u32;
-    if length as u32 <= i {
+    if array.b as u32 <= i {
         return Found::Trap(Trap::Index);
     }
-    let size = access::size_of(image, plan, element);
-    let offset = i * size;
-    plain(address + offset, element)
+    let size = loaded.size_of(array.a);
+    plain(whole.address + i * size, array.a)
 }
 
 // Node kind 4: an object guarded by type row b.
-fn guard_place(image: &&[u8], plan: &Plan, place: Place, b: u16) -> Found
-    requires { Planned image.now.now plan.now }
-    ensures { result ≡ guard_place (program_of image.now.now) b place }
+fn guard_place(loaded: &Loaded, place: Place, b: u16) -> Found
+    ensures { result ≡ guard_place (program_of loaded.now.image.now) b place }
 {
-    let address = place.address;
-    let dynamic = place.dynamic;
-    if access::extends(image, plan, dynamic, b) {
+    if loaded.extends(place.dynamic, b) {
         return Found::At(Place {
-            address,
+            address: place.address,
             declared: b,
-            dynamic,
+            dynamic: place.dynamic,
         });
     }
     Found::Trap(Trap::Guard)
 }
 
 // Node kind 7: whether an object's dynamic type extends type row b.
-fn type_test(image: &&[u8], plan: &Plan, place: Place, b: u16) -> Answer
-    requires { Planned image.now.now plan.now }
-    ensures { result ≡ test_of (program_of image.now.now) b place }
+fn type_test(loaded: &Loaded, place: Place, b: u16) -> Answer
+    ensures { result ≡ test_of (program_of loaded.now.image.now) b place }
 {
-    Answer::Val(Value::Bool(access::extends(image, plan, place.dynamic, b)))
+    Answer::Val(Value::Bool(loaded.extends(place.dynamic, b)))
 }
 
-// ---- nodes
+// ---- what a statement sees
 
-// The object that node row r designates.
-#[cycle(eval_find)]
-fn find(image: &&[u8], plan: &Plan, store: &&[i64], base: u32, top: u32, r: u32) -> Found
-    requires { Standing image.now.now plan.now base top store.now.now }
-    ensures { result ≡ find_of bare (program_of image.now.now) base top store.now.now r }
-{
-    let node = access::node_at(image, plan, r);
-    let kind = node.kind;
-    let a = node.a;
-    let b = node.b;
-    let first = a as u32;
-    let second = b as u32;
-    match kind {
-        1 => variable_place(image, plan, store, base, top, a),
-        2 => {
-            if r <= first {
-                return Found::Stuck;
-            }
-            let whole = fresh_place(find(image, plan, store, base, top, first));
-            let Found::At(owner) = whole else {
-                return whole;
-            };
-            fresh_place(field_place(image, plan, owner, r))
+// An accepted image, the store, and where the newest frame begins and ends.
+#[derive(Clone, Copy)]
+pub struct View<'a, 'b> {
+    pub loaded: Loaded<'a>,
+    pub store: &'b [i64],
+    pub base: u32,
+    pub top: u32,
+    pub ghost low: { base ≤ 65536 },
+    pub ghost stored: { top ≤ length store.now },
+}
+
+impl<'a, 'b> View<'a, 'b> {
+    // What the statement at s sees.
+    pub fn new(loaded: &Loaded<'a>, store: &'b [i64], s: Registers) -> Self
+        requires { (s.base ≤ 65536) × (s.top ≤ length store.now) }
+        ensures { (result.loaded ≡ loaded.now) × (result.store.now ≡ store.now)
+            × (result.base ≡ s.base) × (result.top ≡ s.top) }
+    {
+        View {
+            loaded: *loaded,
+            store,
+            base: s.base,
+            top: s.top,
         }
-        3 => {
-            if r <= first {
-                return Found::Stuck;
-            }
-            let list = fresh_place(find(image, plan, store, base, top, first));
-            let Found::At(array) = list else {
-                return list;
-            };
-            let row = access::type_at(image, plan, array.declared);
-            if row.kind != 3 {
-                return Found::Stuck;
-            }
-            if r <= second {
-                return Found::Stuck;
-            }
-            let index = fresh(eval(image, plan, store, base, top, second));
-            let Answer::Val(value) = index else {
-                return no_place(index);
-            };
-            let Value::Int(i) = value else {
-                return Found::Stuck;
-            };
-            fresh_place(element_place(image, plan, array, row, i))
-        }
-        4 => {
-            let guarded = variable_place(image, plan, store, base, top, a);
-            let Found::At(object) = guarded else {
-                return guarded;
-            };
-            guard_place(image, plan, object, b)
-        }
-        8 => {
-            if r <= first {
-                return Found::Stuck;
-            }
-            fresh_place(find(image, plan, store, base, top, first))
-        }
-        _ => Found::Stuck,
     }
-}
 
-// The value of node row r.
-#[cycle(eval_find)]
-fn eval(image: &&[u8], plan: &Plan, store: &&[i64], base: u32, top: u32, r: u32) -> Answer
-    requires { Standing image.now.now plan.now base top store.now.now }
-    ensures { result ≡ eval_of bare (program_of image.now.now) base top store.now.now r }
-{
-    let node = access::node_at(image, plan, r);
-    let kind = node.kind;
-    let a = node.a;
-    let b = node.b;
-    let c = node.c;
-    let first = a as u32;
-    let second = b as u32;
-    match kind {
-        0 => values::constant(a, b, c),
-        1 => {
-            let variable = variable_place(image, plan, store, base, top, a);
-            let Found::At(object) = variable else {
-                return no_value(variable);
-            };
-            fresh(load(image, plan, store, top, object))
+    // The value of an object. A scalar's type row is its kind, and no other row is the kind of a value.
+    fn load(&self, place: Place) -> Answer
+        requires { place.declared < rows_of (program_of self.now.loaded.image.now).types }
+        ensures { result ≡ value_at bare self.now.top self.now.store.now
+            (kind_in (program_of self.now.loaded.image.now).types place.declared) place.address }
+    {
+        cells::value_at(self.store, self.top, place.declared, place.address)
+    }
+
+    // The object of a VAR parameter of type row r, whose two cells begin at `at`.
+    fn parameter_place(&self, at: u32, r: u16) -> Found
+        requires { at < 4294967295 }
+        ensures { result ≡ parameter_place bare self.now.top self.now.store.now at r }
+    {
+        let Mark::Number(address) = cells::mark_at(self.store, self.top, at) else {
+            return Found::Stuck;
+        };
+        let Mark::Number(dynamic) = cells::mark_at(self.store, self.top, at + 1) else {
+            return Found::Stuck;
+        };
+        Found::At(Place {
+            address: address as u32,
+            declared: r,
+            dynamic,
+        })
+    }
+
+    // Node kind 1: variable row a.
+    fn variable_place(&self, a: u16) -> Found
+        ensures { result ≡ variable_place bare (program_of self.now.loaded.image.now)
+            self.now.base self.now.top self.now.store.now a
+            (row_at (program_of self.now.loaded.image.now).variables a) }
+    {
+        let row = self.loaded.variable_at(a as u32);
+        if 3 < row.kind {
+            return Found::Stuck;
         }
-        2 => {
-            if r <= first {
-                return Answer::Stuck;
-            }
-            let whole = fresh_place(find(image, plan, store, base, top, first));
-            let Found::At(owner) = whole else {
-                return no_value(whole);
-            };
-            let part = fresh_place(field_place(image, plan, owner, r));
-            let Found::At(object) = part else {
-                return no_value(part);
-            };
-            fresh(load(image, plan, store, top, object))
+        let place = self.loaded.place_of(a as u32);
+        if row.kind == 0 {
+            return plain(place, row.a);
         }
-        3 => {
-            if r <= first {
-                return Answer::Stuck;
-            }
-            let list = fresh_place(find(image, plan, store, base, top, first));
-            let Found::At(array) = list else {
-                return no_value(list);
-            };
-            let row = access::type_at(image, plan, array.declared);
-            if row.kind != 3 {
-                return Answer::Stuck;
-            }
-            if r <= second {
-                return Answer::Stuck;
-            }
-            let index = fresh(eval(image, plan, store, base, top, second));
-            let Answer::Val(value) = index else {
-                return index;
-            };
-            let Value::Int(i) = value else {
-                return Answer::Stuck;
-            };
-            let element = fresh_place(element_place(image, plan, array, row, i));
-            let Found::At(object) = element else {
-                return no_value(element);
-            };
-            fresh(load(image, plan, store, top, object))
+        let at = self.base + place;
+        if row.kind < 3 {
+            return plain(at, row.a);
         }
-        4 => {
-            let guarded = variable_place(image, plan, store, base, top, a);
-            let Found::At(whole) = guarded else {
-                return no_value(guarded);
-            };
-            let narrowed = guard_place(image, plan, whole, b);
-            let Found::At(object) = narrowed else {
-                return no_value(narrowed);
-            };
-            fresh(load(image, plan, store, top, object))
-        }
-        5 => {
-            if r <= first {
-                return Answer::Stuck;
-            }
-            let left = fresh(eval(image, plan, store, base, top, first));
-            let Answer::Val(x) = left else {
-                return left;
-            };
-            if operators::decides(c, x) {
-                return left;
-            }
-            if r <= second {
-                return Answer::Stuck;
-            }
-            let right = fresh(eval(image, plan, store, base, top, second));
-            let Answer::Val(y) = right else {
-                return right;
-            };
-            match x {
-                Value::Bool(p) => {
-                    let Value::Bool(q) = y else {
-                        return Answer::Stuck;
-                    };
-                    operators::booleans(c, p, q)
+        self.parameter_place(at, row.a)
+    }
+
+    // ---- nodes
+
+    // The object that node row r designates.
+    #[cycle(eval_find)]
+    pub fn find(&self, r: u32) -> Found
+        ensures { result ≡ find_of bare (program_of self.now.loaded.image.now)
+            self.now.base self.now.top self.now.store.now r }
+    {
+        let node = self.loaded.node_at(r);
+        let first = node.a as u32;
+        let second = node.b as u32;
+        match node.kind {
+            1 => self.variable_place(node.a),
+            2 => {
+                if r <= first {
+                    return Found::Stuck;
                 }
-                Value::Int(i) => match y {
-                    Value::Bool(_) => Answer::Stuck,
-                    Value::Int(j) => operators::integers(c, i, j),
-                    Value::Set(u) => operators::membership(c, i, u),
-                },
-                Value::Set(s) => {
-                    let Value::Set(t) = y else {
-                        return Answer::Stuck;
-                    };
-                    operators::sets(c, s, t)
+                let whole = fresh_place(self.find(first));
+                let Found::At(owner) = whole else {
+                    return whole;
+                };
+                fresh_place(field_place(&self.loaded, owner, r))
+            }
+            3 => {
+                if r <= first {
+                    return Found::Stuck;
+                }
+                let list = fresh_place(self.find(first));
+                let Found::At(array) = list else {
+                    return list;
+                };
+                let row = self.loaded.type_at(array.declared);
+                if row.kind != 3 {
+                    return Found::Stuck;
+                }
+                if r <= second {
+                    return Found::Stuck;
+                }
+                let index = fresh(self.eval(second));
+                let Answer::Val(value) = index else {
+                    return no_place(index);
+                };
+                let Value::Int(i) = value else {
+                    return Found::Stuck;
+                };
+                fresh_place(element_place(&self.loaded, array, row, i))
+            }
+            4 => {
+                let guarded = self.variable_place(node.a);
+                let Found::At(object) = guarded else {
+                    return guarded;
+                };
+                guard_place(&self.loaded, object, node.b)
+            }
+            8 => {
+                if r <= first {
+                    return Found::Stuck;
+                }
+                fresh_place(self.find(first))
+            }
+            _ => Found::Stuck,
+        }
+    }
+
+    // The value of node row r.
+    #[cycle(eval_find)]
+    pub fn eval(&self, r: u32) -> Answer
+        ensures { result ≡ eval_of bare (program_of self.now.loaded.image.now)
+            self.now.base self.now.top self.now.store.now r }
+    {
+        let node = self.loaded.node_at(r);
+        let first = node.a as u32;
+        let second = node.b as u32;
+        match node.kind {
+            0 => values::constant(node.a, node.b, node.c),
+            1 => {
+                let variable = self.variable_place(node.a);
+                let Found::At(object) = variable else {
+                    return no_value(variable);
+                };
+                fresh(self.load(object))
+            }
+            2 => {
+                if r <= first {
+                    return Answer::Stuck;
+                }
+                let whole = fresh_place(self.find(first));
+                let Found::At(owner) = whole else {
+                    return no_value(whole);
+                };
+                let part = fresh_place(field_place(&self.loaded, owner, r));
+                let Found::At(object) = part else {
+                    return no_value(part);
+                };
+                fresh(self.load(object))
+            }
+            3 => {
+                if r <= first {
+                    return Answer::Stuck;
+                }
+                let list = fresh_place(self.find(first));
+                let Found::At(array) = list else {
+                    return no_value(list);
+                };
+                let row = self.loaded.type_at(array.declared);
+                if row.kind != 3 {
+                    return Answer::Stuck;
+                }
+                if r <= second {
+                    return Answer::Stuck;
+                }
+                let index = fresh(self.eval(second));
+                let Answer::Val(value) = index else {
+                    return index;
+                };
+                let Value::Int(i) = value else {
+                    return Answer::Stuck;
+                };
+                let element = fresh_place(element_place(&self.loaded, array, row, i));
+                let Found::At(object) = element else {
+                    return no_value(element);
+                };
+                fresh(self.load(object))
+            }
+            4 => {
+                let guarded = self.variable_place(node.a);
+                let Found::At(whole) = guarded else {
+                    return no_value(guarded);
+                };
+                let narrowed = guard_place(&self.loaded, whole, node.b);
+                let Found::At(object) = narrowed else {
+                    return no_value(narrowed);
+                };
+                fresh(self.load(object))
+            }
+            5 => {
+                if r <= first {
+                    return Answer::Stuck;
+                }
+                let left = fresh(self.eval(first));
+                let Answer::Val(x) = left else {
+                    return left;
+                };
+                if operators::decides(node.c, x) {
+                    return left;
+                }
+                if r <= second {
+                    return Answer::Stuck;
+                }
+                let right = fresh(self.eval(second));
+                let Answer::Val(y) = right else {
+                    return right;
+                };
+                match x {
+                    Value::Bool(p) => {
+                        let Value::Bool(q) = y else {
+                            return Answer::Stuck;
+                        };
+                        operators::booleans(node.c, p, q)
+                    }
+                    Value::Int(i) => match y {
+                        Value::Bool(_) => Answer::Stuck,
+                        Value::Int(j) => operators::integers(node.c, i, j),
+                        Value::Set(u) => operators::membership(node.c, i, u),
+                    },
+                    Value::Set(s) => {
+                        let Value::Set(t) = y else {
+                            return Answer::Stuck;
+                        };
+                        operators::sets(node.c, s, t)
+                    }
                 }
             }
-        }
-        // one call serves both: the answer of each call has a place of its own in the frame
-        6 | 8 => {
-            if r <= first {
-                return Answer::Stuck;
+            // one call serves both: the answer of each call has a place of its own in the frame
+            6 | 8 => {
+                if r <= first {
+                    return Answer::Stuck;
+                }
+                let operand = fresh(self.eval(first));
+                if node.kind == 8 {
+                    return operand;
+                }
+                let Answer::Val(z) = operand else {
+                    return operand;
+                };
+                fresh(operators::monadic(node.c, z))
             }
-            let operand = fresh(eval(image, plan, store, base, top, first));
-            if kind == 8 {
-                return operand;
+            7 => {
+                let tested = self.variable_place(node.a);
+                let Found::At(object) = tested else {
+                    return no_value(tested);
+                };
+                type_test(&self.loaded, object, node.b)
             }
-            let Answer::Val(z) = operand else {
-                return operand;
-            };
-            fresh(operators::monadic(c, z))
+            _ => Answer::Stuck,
         }
-        7 => {
-            let tested = variable_place(image, plan, store, base, top, a);
-            let Found::At(object) = tested else {
-                return no_value(tested);
-            };
-            type_test(image, plan, object, b)
+    }
+
+    // The same as find, where most objects are variables: such a one takes no call.
+    pub fn locate(&self, r: u32) -> Found
+        ensures { result ≡ find_of bare (program_of self.now.loaded.image.now)
+            self.now.base self.now.top self.now.store.now r }
+    {
+        let node = self.loaded.node_at(r);
+        if node.kind == 1 {
+            return self.variable_place(node.a);
         }
-        _ => Answer::Stuck,
+        fresh_place(self.find(r))
     }
-}
-
-// The same as find, where most objects are variables: such a one takes no call.
-fn locate(image: &&[u8], plan: &Plan, store: &&[i64], base: u32, top: u32, r: u32) -> Found
-    requires { Standing image.now.now plan.now base top store.now.now }
-    ensures { result ≡ find_of bare (program_of image.now.now) base top store.now.now r }
-{
-    let node = access::node_at(image, plan, r);
-    let kind = node.kind;
-    let a = node.a;
-    if kind == 1 {
-        return variable_place(image, plan, store, base, top, a);
-    }
-    fresh_place(find(image, plan, store, base, top, r))
-}
-
-// ---- at a statement, which has the store as a slice
-
-pub fn find_at(image: &&[u8], plan: &Plan, store: &[i64], base: u32, top: u32, r: u32) -> Found
-    requires { Standing image.now.now plan.now base top store.now }
-    ensures { result ≡ find_of bare (program_of image.now.now) base top store.now r }
-{
-    find(image, plan, &store, base, top, r)
-}
-
-pub fn eval_at(image: &&[u8], plan: &Plan, store: &[i64], base: u32, top: u32, r: u32) -> Answer
-    requires { Standing image.now.now plan.now base top store.now }
-    ensures { result ≡ eval_of bare (program_of image.now.now) base top store.now r }
-{
-    eval(image, plan, &store, base, top, r)
-}
-
-pub fn locate_at(image: &&[u8], plan: &Plan, store: &[i64], base: u32, top: u32, r: u32) -> Found
-    requires { Standing image.now.now plan.now base top store.now }
-    ensures { result ≡ find_of bare (program_of image.now.now) base top store.now r }
-{
-    locate(image, plan, &store, base, top, r)
 }

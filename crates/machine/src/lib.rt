@@ -7,12 +7,11 @@ ghost use Rattle.checker.specs.Check.{refusal_of, row_of};
 ghost use Rattle.semantics.specs.Memory.{bare};
 ghost use Rattle.semantics.specs.Running.{program_of, first_top, run_from, refused_with, result_of, store_after};
 ghost use Rattle.semantics.specs.Running.{output_after};
-ghost use Rattle.access.specs.Ready.{Ready};
 ghost use Rattle.calling.specs.Showing.{state_of, Stands};
 ghost use Rattle.asking.specs.Continuing.{continue_result, continued_store, continued_output};
 ghost use Rattle.machine.specs.Stopping.{ended_with, stop_by, Stops, store_question};
 
-use access::Plan;
+use access::Loaded;
 use calling::Step;
 use checker::Refusal;
 use semantics::{Registers, RunResult};
@@ -45,21 +44,11 @@ fn stop_by(x: Step, s: Registers, k: u32, mark: u32) -> RunResult
     }
 }
 
-fn max_of(a: u32, b: u32) -> u32
-    ensures { result ≡ max a b }
-{
-    if a < b {
-        return b;
-    }
-    a
-}
-
 // At most n steps more from any state, where `done` were done before and the mark was `first`. A step that goes on leaves
 // the top that it asked for, or one no higher than before, so that only the last step is asked. Top is read from s: read
 // from q, it costs five instructions a step more.
 pub fn advance(
-    image: &&[u8],
-    plan: &Plan,
+    loaded: &Loaded,
     input: &[i32],
     store: &mut [i64],
     output: &mut [i32],
@@ -68,27 +57,23 @@ pub fn advance(
     first: u32,
     n: u32,
 ) -> RunResult
-    requires { Ready image.now.now plan.now × Stands from store.old × (from.top ≤ first)
-        × (done + n ≤ 4294967295) }
-    ensures { Stops (run_from bare (program_of image.now.now) input.now n done first
+    requires { Stands from store.old × (from.top ≤ first) × (done + n ≤ 4294967295) }
+    ensures { Stops (run_from bare (program_of loaded.now.image.now) input.now n done first
         (state_of from store.old output.old)) result store.new output.new }
 {
     let end = done + n;
     let mut s = from;
-    let mut k = done;
     let mut mark = first;
-    while k < end {
-        let next = stepping::step(image, plan, input, store, output, s);
-        let count = k + 1;
+    for k in done..end {
+        let next = stepping::step(loaded, input, store, output, s);
         let Step::Goes(q) = next else {
-            let asked = calling::asked(image, plan, store.len(), s);
-            return stop_by(next, s, count, max_of(mark, asked));
+            let asked = calling::asked(loaded, store.len(), s);
+            return stop_by(next, s, k + 1, mark.max(asked));
         };
         s = q;
-        mark = max_of(mark, s.top);
-        k = count;
+        mark = mark.max(s.top);
     }
-    ended(0, 0, 0, k, s, mark)
+    ended(0, 0, 0, end, s, mark)
 }
 
 // ---- the run
@@ -126,24 +111,19 @@ fn refused_by(answer: Result<(), Refusal>) -> RunResult
 
 // G + F0: how many cells the globals and procedure 0's frame have.
 fn first_top(image: &&[u8], plan: &Plan) -> u32
-    requires { Ready image.now.now plan.now }
-    ensures { result ≡ first_top (program_of image.now.now) }
+    ensures { result ≡ first_top (program_of loaded.now.image.now) }
 {
-    let globals = access::global_room(image, plan);
-    let frame = access::frame_size(image, plan, 0);
-    globals + frame
+    loaded.global_room() + loaded.frame_size(0)
 }
 
 // 12 or 13, where a store of so many cells is too large or too small, else 0.
-fn store_question(image: &&[u8], plan: &Plan, cells: usize) -> u32
-    requires { Ready image.now.now plan.now }
-    ensures { result ≡ store_question (program_of image.now.now) cells }
+fn store_question(loaded: &Loaded, cells: usize) -> u32
+    ensures { result ≡ store_question (program_of loaded.now.image.now) cells }
 {
     if 65536 < cells {
         return 12;
     }
-    let top = first_top(image, plan);
-    if cells < top as usize {
+    if cells < first_top(loaded) as usize {
         return 13;
     }
     0
@@ -169,21 +149,21 @@ pub fn run(
     let Ok(()) = answer else {
         return refused_by(answer);
     };
-    let question = store_question(&image, &plan, store.len());
+    let loaded = Loaded { image, plan: &plan };
+    let question = store_question(&loaded, store.len());
     if question != 0 {
         return refused(question, 0);
     }
-    let base = access::global_room(&image, &plan);
-    let top = first_top(&image, &plan);
+    let top = first_top(&loaded);
     cells::zero(store, 0, top);
     let first = Registers {
         row: 0,
-        base,
+        base: loaded.global_room(),
         top,
         read: 0,
         written: 0,
     };
-    advance(&image, &plan, input, store, output, first, 0, top, steps)
+    advance(&loaded, input, store, output, first, 0, top, steps)
 }
 
 // ---- the continuation
@@ -221,18 +201,19 @@ pub fn resume(
     let Ok(()) = answer else {
         return refused_by(answer);
     };
-    let question = store_question(&image, &plan, store.len());
+    let loaded = Loaded { image, plan: &plan };
+    let question = store_question(&loaded, store.len());
     if question != 0 {
         return refused(question, 0);
     }
     if steps == 0 {
-        let passes = resuming::continuable(&image, &plan, input, store, output, from, 0);
+        let passes = resuming::continuable(&loaded, input, store, output, from, 0);
         return kept(passes, from);
     }
-    if !resuming::continuable(&image, &plan, input, store, output, from, steps) {
+    if !resuming::continuable(&loaded, input, store, output, from, steps) {
         return refused(14, 0);
     }
     advance(
-        &image, &plan, input, store, output, from.at, from.steps, from.mark, steps,
+        &loaded, input, store, output, from.at, from.steps, from.mark, steps,
     )
 }

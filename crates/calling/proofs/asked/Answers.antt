@@ -14,14 +14,14 @@ use Rattle.calling.proofs.asked.Goals.{After-new_top-end, After-statement_at-sta
 -- `calling::asked` meets its contract: a call's top, where the store has room for it.
 -- behind the statement's row: a call's procedure is there
 called : (c : After-statement_at-statement) → c.statement_at-statement.result.kind ≡ 1
-    → c.statement_at-statement.result.a < rows_of (program_of c.args.image.now.now).procedures
+    → c.statement_at-statement.result.a < rows_of (program_of c.args.loaded.now.image.now).procedures
 called c e =
     rw c.statement_at-statement.ensures
-    (call_there c.requires.0.planned c.args.s.row
+    (call_there c.args.loaded.now.ready.planned c.args.s.row
     (sym (ap (λ (r : Row). r.kind) c.statement_at-statement.ensures) ∙ e))
 
 -- behind its top
-asks : (c : After-new_top-end) → asked_by (program_of c.args.image.now.now) c.args.s c.args.cells
+asks : (c : After-new_top-end) → asked_by (program_of c.args.loaded.now.image.now) c.args.s c.args.cells
     ≡ choose (ltb c.args.cells c.new_top-end.result) 0 c.new_top-end.result
 unfolding asked_by
 asks c =
@@ -35,7 +35,7 @@ returns-then-statement-ne1 c =
 
 pub new_top-end-requires : goal.new_top-end-requires
 new_top-end-requires c =
-    (c.requires.0, c.requires.1, called (goal.at.new_top-end-requires c).After-statement_at-statement c.if-statement-ne1.false)
+    (c.requires, called (goal.at.new_top-end-requires c).After-statement_at-statement c.if-statement-ne1.false)
 
 pub returns-then-cells-end : goal.returns-then-cells-end
 returns-then-cells-end c = sym (asks (goal.at.returns-then-cells-end c).After-new_top-end ∙ choose_yes _ _ _ (lt-ltb _ _ c.if-cells-end.true))

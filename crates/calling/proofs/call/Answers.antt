@@ -9,7 +9,7 @@ use Rattle.calling.proofs.call.Goals as goal
 
 pub returns-then-store-end : goal.returns-then-store-end
 returns-then-store-end c = λ output.
-    shows_beyond (program_of c.args.image.now.now) c.args.statement c.args.s c.args.store.now output
+    shows_beyond (program_of c.args.loaded.now.image.now) c.args.statement c.args.s c.args.store.now output
     (rw (← c.new_top-end.ensures) c.if-store-end.true)
 
 pub pass_all-passing-requires : goal.pass_all-passing-requires
@@ -17,17 +17,16 @@ pass_all-passing-requires c =
     let row = c.procedure_at-procedure in
     let begin = c.first_variable-first in (
       c.requires.0,
-      c.requires.1,
       omega arith,
-      first_low c.requires.0.planned _ c.requires.2 row.result row.ensures _ begin.ensures,
+      first_low c.args.loaded.now.ready.planned _ c.requires.1 row.result row.ensures _ begin.ensures,
       omega arith,
-      parameter_roomy c.requires.0.planned _ c.requires.2 _ row.ensures _ begin.ensures _ _ (rw (← c.new_top-end.ensures) c.if-store-end.false),
+      parameter_roomy c.args.loaded.now.ready.planned _ c.requires.1 _ row.ensures _ begin.ensures _ _ (rw (← c.new_top-end.ensures) c.if-store-end.false),
     )
 
 pub returns-in_default : goal.returns-in_default
 returns-in_default c = λ output.
     let row = c.procedure_at-procedure.ensures in
-    let ended = call_ended (program_of c.args.image.now.now) c.args.statement c.args.s
+    let ended = call_ended (program_of c.args.loaded.now.image.now) c.args.statement c.args.s
     c.args.store.now output (rw (← c.new_top-end.ensures) c.if-store-end.false) _ row _ c.first_variable-first.ensures (opened c.in_default.in_default-own.keys2)
     (c.pass_all-passing.ensures output) in
     rw c.ended_by.ensures ended
@@ -35,12 +34,12 @@ returns-in_default c = λ output.
 pub enter-requires : goal.enter-requires
 enter-requires c =
     let many = c.pass_all-passing.auto.store in
-    (c.requires.0, stands_kept c.requires.1 many, c.requires.2, c.requires.3, rw many (rw (← c.new_top-end.ensures) c.if-store-end.false))
+    (stands_kept c.requires.0 many, c.requires.1, c.requires.2, rw many (rw (← c.new_top-end.ensures) c.if-store-end.false))
 
 pub returns : goal.returns
 returns c = λ output.
     let row = c.procedure_at-procedure.ensures in
     let all = c.pass_all-passing in
     let passes = rw c.in-Done.is at (all.ensures output) in
-    call_entered (program_of c.args.image.now.now) c.args.statement c.args.s c.args.store.now
+    call_entered (program_of c.args.loaded.now.image.now) c.args.statement c.args.s c.args.store.now
     output (rw (← c.new_top-end.ensures) c.if-store-end.false) _ row _ c.first_variable-first.ensures passes (c.enter.ensures output)

@@ -9,8 +9,8 @@ use Rattle.calling.proofs.enter.Goals as goal
 pub write_frame-requires : goal.write_frame-requires
 write_frame-requires c =
     rw (c.frame_size-size.ensures, c.locals_place-past.ensures)
-    (frame_within (program_of c.args.image.now.now) c.args.q c.args.s c.args.store.now
-    c.requires.4 c.requires.1.few)
+    (frame_within (program_of c.args.loaded.now.image.now) c.args.q c.args.s c.args.store.now
+    c.requires.3 c.requires.0.few)
 
 pub returns : goal.returns
 returns c = λ output.
@@ -20,5 +20,5 @@ returns c = λ output.
     let row = c.procedure_at-procedure in
     let low : row.result.a ≤ 65536 = search rules in
     let wrote = rw (past, size, caller) at c.write_frame.ensures in
-    rw size (shows_entered (program_of c.args.image.now.now) c.args.q c.args.s c.args.store.now
-    c.requires.4 c.requires.1.few _ wrote _ (ap (λ (r : Row). r.a) row.ensures) low output)
+    rw size (shows_entered (program_of c.args.loaded.now.image.now) c.args.q c.args.s c.args.store.now
+    c.requires.3 c.requires.0.few _ wrote _ (ap (λ (r : Row). r.a) row.ensures) low output)

@@ -9,9 +9,8 @@ loop-j-init c = along_none
 pub pass-one-requires : goal.pass-one-requires
 pass-one-requires c =
     let few = c.loop-j.invariant.kept in (
-      c.requires.0,
-      stands_kept c.requires.1 few,
-      roomy_kept (c.requires.5 c.loop-j.j c.loop-j-test.true) few,
+      stands_kept c.requires.0 few,
+      roomy_kept (c.requires.4 c.loop-j.j c.loop-j-test.true) few,
     )
 
 pub returns-in_default : goal.returns-in_default

@@ -7,22 +7,20 @@ use borrow.Author.Rules.{rules}
 use lib.IntN.{pos}
 use Rattle.values.proofs.Numbers.{of_nat64}
 use Rattle.cells.proofs.Overwriting.{overwrite_lent}
-use Rattle.calling.proofs.Arguments.{standing, place_lost, place_written}
+use Rattle.finding.proofs.Seeing.{seen}
+use Rattle.calling.proofs.Arguments.{place_lost, place_written}
 use Rattle.calling.proofs.pass_object.Goals as goal
 
 -- `calling::pass_object` meets its contract: two cells of the lent part, or what the operand's loss comes to.
-pub find_at-found-requires : goal.find_at-found-requires
-find_at-found-requires c = standing c.requires.0 c.requires.1
-
 pub returns-in_default : goal.returns-in_default
 returns-in_default c = λ output.
-    rw (c.lost_place.ensures, ← c.find_at-found.ensures)
+    rw (c.lost_place.ensures, ← (seen c.new.result c.new.ensures c.args.k c.find-found.ensures))
     (place_lost _ _ _ (opened c.in_default.in_default-own.keys2))
 
 pub returns : goal.returns
 returns c =
-    let found = sym c.find_at-found.ensures ∙ c.in-At.is in
-    let room = c.requires.1.top in
+    let found = sym (seen c.new.result c.new.ensures c.args.k c.find-found.ensures) ∙ c.in-At.is in
+    let room = c.requires.0.top in
     let object = c.in-At.object in
     let a : object.address < 9223372036854775808 = search rules in
     let d : object.dynamic < 9223372036854775808 = omega (arith, c.struct_known-2-1.given) in

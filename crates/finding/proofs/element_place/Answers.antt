@@ -25,37 +25,37 @@ overflow_cast-i c =
     let e = plain32 _ c.ranges.index in
     rw e (to_unsigned c.args.index (rw e at c.if-index-lt0.false) c.ranges.index)
 
-pub returns-then-length-i : goal.returns-then-length-i
-returns-then-length-i c =
+pub returns-then-array-i : goal.returns-then-array-i
+returns-then-array-i c =
     let e = plain32 _ c.ranges.index in
-    sym (element_past _ _ _ c.args.index (rw e at c.if-index-lt0.false) (rw e at c.if-length-i.true))
+    sym (element_past _ _ _ c.args.index (rw e at c.if-index-lt0.false) (rw e at c.if-array-i.true))
 
 pub size_of-size-requires : goal.size_of-size-requires
 size_of-size-requires c =
     let p = c.requires in
-    (p.0, rw p.2 (element_typed p.0 c.args.whole.declared (rw p.2 at p.3)))
+    rw p.1 (element_typed c.args.loaded.now.ready.planned c.args.whole.declared (rw p.1 at p.2))
 
 -- an element's offset is low
 offset_low : (c : After-size_of-size) → nat_abs (to_z w32 (of_z w32 c.args.index)) * c.size_of-size.result ≤ 4096
 offset_low c =
     let p = c.requires in
-    rw (c.size_of-size.ensures, p.2)
-    (element_low p.0 c.args.whole.declared _ (rw p.2 at p.3) (rw p.2 at c.if-length-i.false))
+    rw (c.size_of-size.ensures, p.1)
+    (element_low c.args.loaded.now.ready.planned c.args.whole.declared _ (rw p.1 at p.2) (rw p.1 at c.if-array-i.false))
 
-pub overflow_mul-offset : goal.overflow_mul-offset
-overflow_mul-offset c =
-    let l = offset_low (goal.at.overflow_mul-offset c).After-size_of-size in
+pub overflow_mul-i : goal.overflow_mul-i
+overflow_mul-i c =
+    let l = offset_low (goal.at.overflow_mul-i c).After-size_of-size in
     record { fits = omega arith }
 
-pub overflow_add-address : goal.overflow_add-address
-overflow_add-address c =
-    let l = offset_low (goal.at.overflow_add-address c).After-size_of-size in
-    record { fits = omega (arith, c.requires.1.low) }
+pub overflow_add-whole : goal.overflow_add-whole
+overflow_add-whole c =
+    let l = offset_low (goal.at.overflow_add-whole c).After-size_of-size in
+    record { fits = omega (arith, c.requires.0.low) }
 
 pub returns : goal.returns
 unfolding element_place choose
 returns c =
     let e = plain32 _ c.ranges.index in
     let h : lt_z c.args.index (pos 0) ≡ false = rw e at c.if-index-lt0.false in
-    let l : nat_abs c.args.index < c.args.array.b = rw e at c.if-length-i.false in
+    let l : nat_abs c.args.index < c.args.array.b = rw e at c.if-array-i.false in
     c.plain.ensures ∙ rw (e, c.size_of-size.ensures, pos_is c.args.index h, lt-ltb _ _ l)

@@ -6,8 +6,8 @@ use mir.Val.{SFits}
 use Rattle.values.proofs.Numbers.{plain64}
 use Rattle.semantics.specs.Memory.{bare}
 use Rattle.semantics.specs.Stepping.{assigned}
-use Rattle.calling.proofs.Arguments.{standing}
 use Rattle.finding.proofs.Low.{find_within}
+use Rattle.finding.proofs.Seeing.{seen, valued}
 use Rattle.stepping.proofs.Showing.{shows_yes, shows_no, shows_place, shows_value, shows_lost_place}
 use Rattle.stepping.proofs.Showing.{shows_lost_value}
 use Rattle.stepping.proofs.assign.Goals as goal
@@ -15,60 +15,53 @@ use Rattle.stepping.proofs.assign.Goals as goal
 pub returns-in_default : goal.returns-in_default
 unfolding assigned
 returns-in_default c = λ output.
-    shows_lost_place _ c.locate_at-found.ensures (opened c.in_default.in_default-own.keys2)
+    shows_lost_place _ (seen c.new-view.result c.new-view.ensures _ c.locate-found.ensures) (opened c.in_default.in_default-own.keys2)
     c.lost_place.ensures c.ended_by.ensures
 
 pub is_single-requires : goal.is_single-requires
 is_single-requires c =
-    let stands = standing c.requires.0 c.requires.1 in
-    (c.requires.0.planned, (find_within stands _ _ (sym c.locate_at-found.ensures ∙ c.in-At.is)).typed)
+    (find_within c.args.loaded.now.ready.planned c.requires.0.base _ _ _ (sym (seen c.new-view.result c.new-view.ensures _ c.locate-found.ensures) ∙ c.in-At.is)).typed
 
 pub returns-in_default-answer : goal.returns-in_default-answer
 unfolding assigned
 returns-in_default-answer c = λ output.
-    shows_place _ c.locate_at-found.ensures c.in-At.is
+    shows_place _ (seen c.new-view.result c.new-view.ensures _ c.locate-found.ensures) c.in-At.is
     (shows_yes _ (rw (← c.is_single.ensures) c.if-is_single.true)
-    (shows_lost_value _ (c.fresh-answer.ensures
-    ∙ c.eval_at.ensures) (opened c.in_default-answer.in_default-answer-own.keys2)
+    (shows_lost_value _ (c.fresh-answer.ensures ∙ valued c.new-view.result c.new-view.ensures _ c.eval.ensures) (opened c.in_default-answer.in_default-answer-own.keys2)
     c.lost_value.ensures c.ended_by-in_default-answer.ensures))
 
 pub returns-then-is_single : goal.returns-then-is_single
 unfolding assigned bare
 returns-then-is_single c = λ output.
-    let fits : SFits w64 c.number_of-number.result = search rules in
-    shows_place _ c.locate_at-found.ensures c.in-At.is
+    let fits : SFits w64 c.number_of.result = search rules in
+    shows_place _ (seen c.new-view.result c.new-view.ensures _ c.locate-found.ensures) c.in-At.is
     (shows_yes _ (rw (← c.is_single.ensures) c.if-is_single.true)
-    (shows_value _ (c.fresh-answer.ensures
-    ∙ c.eval_at.ensures) c.in-Val.is
-    (rw (plain64 _ fits, c.number_of-number.ensures) at (c.write_cell.ensures output))))
+    (shows_value _ (c.fresh-answer.ensures ∙ valued c.new-view.result c.new-view.ensures _ c.eval.ensures) c.in-Val.is
+    (rw (plain64 _ fits, c.number_of.ensures) at (c.write_cell.ensures output))))
 
 pub returns-in_default-origin : goal.returns-in_default-origin
 unfolding assigned
 returns-in_default-origin c = λ output.
-    shows_place _ c.locate_at-found.ensures c.in-At.is
+    shows_place _ (seen c.new-view.result c.new-view.ensures _ c.locate-found.ensures) c.in-At.is
     (shows_no _ (rw (← c.is_single.ensures) c.if-is_single.false)
-    (shows_lost_place _ (c.fresh_place-origin.ensures
-    ∙ c.find_at.ensures)
+    (shows_lost_place _ (c.fresh_place-origin.ensures ∙ seen c.new-view.result c.new-view.ensures _ c.find.ensures)
     (opened c.in_default-origin.in_default-origin-own.keys2)
     c.lost_place-in_default-origin.ensures c.ended_by-in_default-origin.ensures))
 
 pub copy_object-requires : goal.copy_object-requires
 copy_object-requires c =
-    let stands = standing c.requires.0 c.requires.1 in (
+    let planned = c.args.loaded.now.ready.planned in
+    let low = c.requires.0.base in (
       c.requires.0,
       c.requires.1,
-      c.requires.2,
-      find_within stands _ _ (sym c.locate_at-found.ensures
-          ∙ c.in-At.is),
-      find_within stands _ _ (sym (c.fresh_place-origin.ensures ∙ c.find_at.ensures)
-          ∙ c.in-At-origin.is),
+      find_within planned low _ _ _ (sym (seen c.new-view.result c.new-view.ensures _ c.locate-found.ensures) ∙ c.in-At.is),
+      find_within planned low _ _ _ (sym (c.fresh_place-origin.ensures ∙ seen c.new-view.result c.new-view.ensures _ c.find.ensures) ∙ c.in-At-origin.is),
     )
 
 pub returns : goal.returns
 unfolding assigned
 returns c = λ output.
-    shows_place _ c.locate_at-found.ensures c.in-At.is
+    shows_place _ (seen c.new-view.result c.new-view.ensures _ c.locate-found.ensures) c.in-At.is
     (shows_no _ (rw (← c.is_single.ensures) c.if-is_single.false)
-    (shows_place _ (c.fresh_place-origin.ensures
-    ∙ c.find_at.ensures)
+    (shows_place _ (c.fresh_place-origin.ensures ∙ seen c.new-view.result c.new-view.ensures _ c.find.ensures)
     c.in-At-origin.is (c.copy_object.ensures output)))

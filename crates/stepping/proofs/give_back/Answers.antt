@@ -40,5 +40,5 @@ returns c = λ output.
     (shows_goes refl (record {
       row = omega (arith, c.in-Number.known_told-1-own.given);
       base = omega (arith, c.in-Number-mark_at.known_told-in-Number-mark_at-2-1-own.given);
-      top = omega (arith, below, c.requires.1.top);
+      top = omega (arith, below, c.requires.0.top);
     })))))

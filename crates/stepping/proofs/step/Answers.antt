@@ -20,114 +20,104 @@ use Rattle.stepping.proofs.Showing.{shows_by, shows_row}
 use Rattle.stepping.proofs.step.Goals as goal
 
 -- `stepping::step` meets its contract: the statement's row, then by its kind.
--- ---- what is known behind the statement's row
-module _ {image plan : List ℕ} (planned : Planned image plan) (input : List ℤ) (s : Registers) (store output : List ℤ)
-    (row : Row) (read : row ≡ row_at (program_of image).statements s.row) where
-  abbrev program : Program
-  program = program_of image
+-- ---- what is known of the statement's row
 
-  abbrev here : State ℤ
-  here = state_of s store output
+-- what a statement of a kind does
+does : (image : List ℕ) (input : List ℤ) (s : Registers) (store output : List ℤ) {row : Row}
+    → row ≡ row_at (program_of image).statements s.row → (k : ℕ) → row.kind ≡ k
+    → step_of bare (program_of image) input (state_of s store output)
+    ≡ perform bare (program_of image) input k row (state_of s store output)
+unfolding step_of
+does image input s store output {row} read k e =
+    rw (← read) (ap (λ (j : ℕ). perform bare (program_of image) input j row (state_of s store output)) e)
 
-  -- what a statement of a kind does
-  does : (k : ℕ) → row.kind ≡ k → step_of bare program input here ≡ perform bare program input k row here
-  unfolding step_of
-  does k e = rw (← read) (ap (λ (j : ℕ). perform bare program input j row here) e)
-
-  -- such a statement stands in its table
-  within : row.kind < 8 → s.row < rows_of program.statements
+module _ {image plan : List ℕ} (planned : Planned image plan) (r : ℕ) {row : Row}
+    (read : row ≡ row_at (program_of image).statements r) where
+  -- one of the eight kinds stands in its table
+  within : row.kind < 8 → r < rows_of (program_of image).statements
   within h =
       let low : row.kind < 255 = omega arith in
       row_there _ _ (rw read at low)
 
-  low : row.kind < 8 → s.row < 65536
+  low : row.kind < 8 → r < 65536
   low h = omega (arith, within h, statements_few planned)
 
   -- the procedure that it calls is there
-  called : row.kind ≡ 1 → row.a < rows_of program.procedures
+  called : row.kind ≡ 1 → row.a < rows_of (program_of image).procedures
   called e =
-      subst (λ (r : Row). r.a < rows_of program.procedures) (sym read)
-      (call_there planned s.row (sym (ap (λ (r : Row). r.kind) read) ∙ e))
+      subst (λ (x : Row). x.a < rows_of (program_of image).procedures) (sym read)
+      (call_there planned r (sym (ap (λ (x : Row). x.kind) read) ∙ e))
 
 pub assign-requires : goal.assign-requires
-assign-requires c =
-    let few : c.statement_at-statement.result.kind < 8 = omega (arith, c.in-0.is) in
-    (c.requires.0, c.requires.1, low c.requires.0.planned c.args.input.now c.args.s c.args.store.now c.args.output.now _ c.statement_at-statement.ensures few)
+assign-requires c = (c.requires, low c.args.loaded.now.ready.planned _ c.statement_at-statement.ensures (omega (arith, c.in-0.is)))
 
 pub call-requires : goal.call-requires
 call-requires c =
-    let few : c.statement_at-statement.result.kind < 8 = omega (arith, c.in-1.is) in
-    (c.requires.0, c.requires.1, called c.requires.0.planned c.args.input.now c.args.s c.args.store.now c.args.output.now _ c.statement_at-statement.ensures c.in-1.is, within c.requires.0.planned c.args.input.now c.args.s c.args.store.now c.args.output.now _ c.statement_at-statement.ensures few)
+    let planned = c.args.loaded.now.ready.planned in
+    let read = c.statement_at-statement.ensures in
+    (c.requires, called planned _ read c.in-1.is, within planned _ read (omega (arith, c.in-1.is)))
 
 pub jump-requires : goal.jump-requires
-jump-requires c =
-    let few : c.statement_at-statement.result.kind < 8 = omega (arith, c.in-2.is) in
-    (c.requires.0, c.requires.1, low c.requires.0.planned c.args.input.now c.args.s c.args.store.now c.args.output.now _ c.statement_at-statement.ensures few)
+jump-requires c = (c.requires, low c.args.loaded.now.ready.planned _ c.statement_at-statement.ensures (omega (arith, c.in-2.is)))
 
 pub give_back-requires : goal.give_back-requires
-give_back-requires c =
-    let few : c.statement_at-statement.result.kind < 8 = omega (arith, c.in-4.is) in
-    (c.requires.0, c.requires.1, within c.requires.0.planned c.args.input.now c.args.s c.args.store.now c.args.output.now _ c.statement_at-statement.ensures few)
+give_back-requires c = (c.requires, within c.args.loaded.now.ready.planned _ c.statement_at-statement.ensures (omega (arith, c.in-4.is)))
 
 pub receive-requires : goal.receive-requires
-receive-requires c =
-    let few : c.statement_at-statement.result.kind < 8 = omega (arith, c.in-5.is) in
-    (c.requires.0, c.requires.1, low c.requires.0.planned c.args.input.now c.args.s c.args.store.now c.args.output.now _ c.statement_at-statement.ensures few)
+receive-requires c = (c.requires, low c.args.loaded.now.ready.planned _ c.statement_at-statement.ensures (omega (arith, c.in-5.is)))
 
 pub send-requires : goal.send-requires
-send-requires c =
-    let few : c.statement_at-statement.result.kind < 8 = omega (arith, c.in-6.is) in
-    (c.requires.0, c.requires.1, low c.requires.0.planned c.args.input.now c.args.s c.args.store.now c.args.output.now _ c.statement_at-statement.ensures few)
+send-requires c = (c.requires, low c.args.loaded.now.ready.planned _ c.statement_at-statement.ensures (omega (arith, c.in-6.is)))
 
 pub returns-in-0 : goal.returns-in-0
 unfolding perform choose
 returns-in-0 c =
-    shows_by (does c.requires.0.planned c.args.input.now c.args.s c.args.store.now c.args.output.now _ c.statement_at-statement.ensures 0 c.in-0.is)
+    shows_by (does _ _ _ _ _ c.statement_at-statement.ensures 0 c.in-0.is)
     (c.assign.ensures _)
 
 pub returns-in-1 : goal.returns-in-1
 unfolding perform choose
 returns-in-1 c =
-    shows_by (does c.requires.0.planned c.args.input.now c.args.s c.args.store.now c.args.output.now _ c.statement_at-statement.ensures 1 c.in-1.is)
+    shows_by (does _ _ _ _ _ c.statement_at-statement.ensures 1 c.in-1.is)
     (c.call.ensures _)
 
 pub returns-in-2 : goal.returns-in-2
 unfolding perform choose
 returns-in-2 c =
-    shows_by (does c.requires.0.planned c.args.input.now c.args.s c.args.store.now c.args.output.now _ c.statement_at-statement.ensures 2 c.in-2.is) (c.jump.ensures _)
+    shows_by (does _ _ _ _ _ c.statement_at-statement.ensures 2 c.in-2.is) (c.jump.ensures _)
 
 pub returns-in-3 : goal.returns-in-3
 unfolding perform choose
 returns-in-3 c =
     let target : c.statement_at-statement.result.b ≤ 65536 = omega arith in
-    shows_by (does c.requires.0.planned c.args.input.now c.args.s c.args.store.now c.args.output.now _ c.statement_at-statement.ensures 3 c.in-3.is)
-    (shows_row refl c.at_row.ensures target c.requires.1.base c.requires.1.top)
+    shows_by (does _ _ _ _ _ c.statement_at-statement.ensures 3 c.in-3.is)
+    (shows_row refl c.at_row.ensures target c.requires.base c.requires.top)
 
 pub returns-in-4 : goal.returns-in-4
 unfolding perform choose
 returns-in-4 c =
-    shows_by (does c.requires.0.planned c.args.input.now c.args.s c.args.store.now c.args.output.now _ c.statement_at-statement.ensures 4 c.in-4.is) (c.give_back.ensures _)
+    shows_by (does _ _ _ _ _ c.statement_at-statement.ensures 4 c.in-4.is) (c.give_back.ensures _)
 
 pub returns-in-5 : goal.returns-in-5
 unfolding perform choose
 returns-in-5 c =
-    shows_by (does c.requires.0.planned c.args.input.now c.args.s c.args.store.now c.args.output.now _ c.statement_at-statement.ensures 5 c.in-5.is)
+    shows_by (does _ _ _ _ _ c.statement_at-statement.ensures 5 c.in-5.is)
     (c.receive.ensures _)
 
 pub returns-in-6 : goal.returns-in-6
 unfolding perform choose
 returns-in-6 c =
-    shows_by (does c.requires.0.planned c.args.input.now c.args.s c.args.store.now c.args.output.now _ c.statement_at-statement.ensures 6 c.in-6.is)
+    shows_by (does _ _ _ _ _ c.statement_at-statement.ensures 6 c.in-6.is)
     c.send.ensures
 
 pub returns-in-7 : goal.returns-in-7
 unfolding perform choose
 returns-in-7 c =
-    shows_by (does c.requires.0.planned c.args.input.now c.args.s c.args.store.now c.args.output.now _ c.statement_at-statement.ensures 7 c.in-7.is) (c.halt.ensures _)
+    shows_by (does _ _ _ _ _ c.statement_at-statement.ensures 7 c.in-7.is) (c.halt.ensures _)
 
 pub returns-in_default : goal.returns-in_default
 unfolding perform choose
-returns-in_default c = shows_by (does c.requires.0.planned c.args.input.now c.args.s c.args.store.now c.args.output.now _ c.statement_at-statement.ensures _ refl ∙ rw (
+returns-in_default c = shows_by (does _ _ _ _ _ c.statement_at-statement.ensures _ refl ∙ rw (
   ne_eqb _ 0 c.in_default.in_default-own.rest.0.0.0.0.0.0.0.1,
   ne_eqb _ 1 c.in_default.in_default-own.rest.0.0.0.0.0.0.1,
   ne_eqb _ 2 c.in_default.in_default-own.rest.0.0.0.0.0.1,

@@ -35,7 +35,7 @@ use Rattle.finding.proofs.Missed.{reach_object, content_object, reach_other, con
 use Rattle.finding.proofs.Missed.{index_handed, index_none, index_value, array_stuck, array_none, array_index}
 use Rattle.finding.proofs.Laws.{lower, find_row, eval_row, find_lower, eval_lower, not_lower, find_other}
 use Rattle.finding.proofs.Low.{find_within, variable_there, field_there, element_there, guard_there}
-use Rattle.finding.proofs.+eval_find.Goals as goal
+use Rattle.finding.proofs.View.+eval_find.Goals as goal
 
 -- ---- what a node is worth and what it designates, by what is known of it
 
@@ -200,11 +200,8 @@ eval-returns-in_default-variable t c =
 
 pub eval-load-requires : goal.eval-load-requires
 eval-load-requires t c =
-    let s = c.requires in (
-      s.planned,
-      variable_there s.planned c.in-At.is _ _ _ s.low _ c.variable_place-variable.ensures,
-      s.stored,
-    )
+    let s = c.args.self.now in
+    variable_there s.loaded.ready.planned c.in-At.is _ _ _ s.low _ c.variable_place-variable.ensures
 
 pub eval-returns-in-At : goal.eval-returns-in-At
 eval-returns-in-At t c =
@@ -222,14 +219,13 @@ eval-returns-in_default-whole t c =
     c.no_value-in_default-whole.ensures
     ∙ sym (at_whole _ _ _ _ _ _ c.node_at-node.ensures c.in-2.is c.if-r-first.false
     (c.fresh_place-whole.ensures ∙ c.find.ensures)
-    ∙ ap (held (program_of c.args.image.now.now) c.args.base c.args.top c.args.store.now.now c.args.r _ c.node_at-node.ensures) (reach_other _ c.in_default-whole.not-At _)
+    ∙ ap (held (program_of c.args.self.now.loaded.image.now) c.args.self.now.base c.args.self.now.top c.args.self.now.store.now c.args.r _ c.node_at-node.ensures) (reach_other _ c.in_default-whole.not-At _)
     ∙ content_other _ c.in_default-whole.not-At _)
 
 pub eval-field_place-requires : goal.eval-field_place-requires
 eval-field_place-requires t c =
-    let s = c.requires in (
-      s.planned,
-      find_within s _ _ (sym (c.fresh_place-whole.ensures ∙ c.find.ensures) ∙ c.in-At-whole.is),
+    let s = c.args.self.now in (
+      find_within s.loaded.ready.planned s.low _ _ _ (sym (c.fresh_place-whole.ensures ∙ c.find.ensures) ∙ c.in-At-whole.is),
       rw (← c.node_at-node.ensures) c.in-2.is,
     )
 
@@ -243,11 +239,8 @@ eval-returns-in_default-part t c =
 
 pub eval-load-requires-in-2 : goal.eval-load-requires-in-2
 eval-load-requires-in-2 t c =
-    let s = c.requires in (
-      s.planned,
-      field_there s.planned c.in-At-part.is _ _ _ (c.fresh_place-part.ensures ∙ c.field_place.ensures),
-      s.stored,
-    )
+    let s = c.args.self.now in
+    field_there s.loaded.ready.planned c.in-At-part.is _ _ _ (c.fresh_place-part.ensures ∙ c.field_place.ensures)
 
 pub eval-returns-in-At-part : goal.eval-returns-in-At-part
 eval-returns-in-At-part t c =
@@ -267,7 +260,7 @@ eval-returns-in_default-list t c =
     c.no_value-in_default-list.ensures
     ∙ sym (at_list _ _ _ _ _ _ c.node_at-node.ensures c.in-3.is c.if-r-first-2.false
     (c.fresh_place-list.ensures ∙ c.find-in-3.ensures)
-    ∙ ap (held (program_of c.args.image.now.now) c.args.base c.args.top c.args.store.now.now c.args.r _ c.node_at-node.ensures) (reach_other _ c.in_default-list.not-At _)
+    ∙ ap (held (program_of c.args.self.now.loaded.image.now) c.args.self.now.base c.args.self.now.top c.args.self.now.store.now c.args.r _ c.node_at-node.ensures) (reach_other _ c.in_default-list.not-At _)
     ∙ content_other _ c.in_default-list.not-At _)
 
 pub eval-returns-then-row-ne3 : goal.eval-returns-then-row-ne3
@@ -275,7 +268,7 @@ unfolding content
 eval-returns-then-row-ne3 t c =
     sym (at_array _ _ _ _ _ _ c.node_at-node.ensures c.in-3.is c.if-r-first-2.false
     (c.fresh_place-list.ensures ∙ c.find-in-3.ensures) c.in-At-list.is
-    ∙ ap (held (program_of c.args.image.now.now) c.args.base c.args.top c.args.store.now.now c.args.r _ c.node_at-node.ensures)
+    ∙ ap (held (program_of c.args.self.now.loaded.image.now) c.args.self.now.base c.args.self.now.top c.args.self.now.store.now c.args.r _ c.node_at-node.ensures)
     (array_none _ _ _ (λ e. c.if-row-ne3.true (ap (λ (x : Row). x.kind) c.type_at-row.ensures ∙ e))))
 
 pub eval-returns-then-r-second : goal.eval-returns-then-r-second
@@ -298,13 +291,12 @@ eval-returns-in_default-value t c =
     sym (at_index _ _ _ _ _ _ c.node_at-node.ensures c.in-3.is c.if-r-first-2.false
     (c.fresh_place-list.ensures ∙ c.find-in-3.ensures) c.in-At-list.is _ c.type_at-row.ensures c.if-row-ne3.false
     c.if-r-second.false (c.fresh-index.ensures ∙ c.eval.ensures)
-    ∙ ap (held (program_of c.args.image.now.now) c.args.base c.args.top c.args.store.now.now c.args.r _ c.node_at-node.ensures) (index_none _ c.in-Val.is c.in_default-value.not-Int _))
+    ∙ ap (held (program_of c.args.self.now.loaded.image.now) c.args.self.now.base c.args.self.now.top c.args.self.now.store.now c.args.r _ c.node_at-node.ensures) (index_none _ c.in-Val.is c.in_default-value.not-Int _))
 
 pub eval-element_place-requires : goal.eval-element_place-requires
 eval-element_place-requires t c =
-    let s = c.requires in (
-      s.planned,
-      find_within s _ _ (sym (c.fresh_place-list.ensures ∙ c.find-in-3.ensures) ∙ c.in-At-list.is),
+    let s = c.args.self.now in (
+      find_within s.loaded.ready.planned s.low _ _ _ (sym (c.fresh_place-list.ensures ∙ c.find-in-3.ensures) ∙ c.in-At-list.is),
       c.type_at-row.ensures,
       c.if-row-ne3.false,
     )
@@ -320,12 +312,9 @@ eval-returns-in_default-element t c =
 
 pub eval-load-requires-in-3 : goal.eval-load-requires-in-3
 eval-load-requires-in-3 t c =
-    let s = c.requires in (
-      s.planned,
-      element_there s.planned c.in-At-element.is _ _ c.type_at-row.ensures c.if-row-ne3.false
-          (c.fresh_place-element.ensures ∙ c.element_place.ensures),
-      s.stored,
-    )
+    let s = c.args.self.now in
+    element_there s.loaded.ready.planned c.in-At-element.is _ _ c.type_at-row.ensures c.if-row-ne3.false
+    (c.fresh_place-element.ensures ∙ c.element_place.ensures)
 
 pub eval-returns-in-At-element : goal.eval-returns-in-At-element
 eval-returns-in-At-element t c =
@@ -340,7 +329,7 @@ pub eval-returns-in_default-guarded : goal.eval-returns-in_default-guarded
 eval-returns-in_default-guarded t c =
     c.no_value-in_default-guarded.ensures
     ∙ sym (at_guarded _ _ _ _ _ _ c.node_at-node.ensures c.in-4.is c.variable_place-guarded.ensures
-    ∙ ap (held (program_of c.args.image.now.now) c.args.base c.args.top c.args.store.now.now c.args.r _ c.node_at-node.ensures) (reach_other _ c.in_default-guarded.not-At _)
+    ∙ ap (held (program_of c.args.self.now.loaded.image.now) c.args.self.now.base c.args.self.now.top c.args.self.now.store.now c.args.r _ c.node_at-node.ensures) (reach_other _ c.in_default-guarded.not-At _)
     ∙ content_other _ c.in_default-guarded.not-At _)
 
 pub eval-returns-in_default-narrowed : goal.eval-returns-in_default-narrowed
@@ -352,11 +341,8 @@ eval-returns-in_default-narrowed t c =
 
 pub eval-load-requires-in-4 : goal.eval-load-requires-in-4
 eval-load-requires-in-4 t c =
-    let s = c.requires in (
-      s.planned,
-      guard_there s.planned c.in-At-narrowed.is _ _ c.node_at-node.ensures c.in-4.is c.guard_place-narrowed.ensures,
-      s.stored,
-    )
+    let s = c.args.self.now in
+    guard_there s.loaded.ready.planned c.in-At-narrowed.is _ _ c.node_at-node.ensures c.in-4.is c.guard_place-narrowed.ensures
 
 pub eval-returns-in-At-narrowed : goal.eval-returns-in-At-narrowed
 eval-returns-in-At-narrowed t c =
@@ -460,23 +446,23 @@ eval-returns-then-r-first-4 t c =
     sym (⊎_elim (λ e. at_row _ _ _ _ _ _ node 6 e ∙ rw (not_lower _ _ _ _ _ _ _ c.if-r-first-4.true))
     (λ e. at_row _ _ _ _ _ _ node 8 e ∙ rw (not_lower _ _ _ _ _ _ _ c.if-r-first-4.true)) c.in-6.is)
 
-pub eval-returns-then-kind-eq8 : goal.eval-returns-then-kind-eq8
+pub eval-returns-then-node-eq8 : goal.eval-returns-then-node-eq8
 unfolding meaning_by choose
-eval-returns-then-kind-eq8 t c =
+eval-returns-then-node-eq8 t c =
     sym
-    (at_row _ _ _ _ _ _ c.node_at-node.ensures 8 c.if-kind-eq8.true
+    (at_row _ _ _ _ _ _ c.node_at-node.ensures 8 c.if-node-eq8.true
     ∙ eval_lower _ _ _ _ _ _ _ c.if-r-first-4.false (c.fresh-operand.ensures ∙ c.eval-in-6.ensures))
 
 pub eval-returns-in_default-operand : goal.eval-returns-in_default-operand
 eval-returns-in_default-operand t c =
-    sym (at_operand _ _ _ _ _ _ c.node_at-node.ensures c.in-6.is c.if-kind-eq8.false c.if-r-first-4.false
+    sym (at_operand _ _ _ _ _ _ c.node_at-node.ensures c.in-6.is c.if-node-eq8.false c.if-r-first-4.false
     (c.fresh-operand.ensures ∙ c.eval-in-6.ensures)
     ∙ bind_other _ (opened c.in_default-operand.in_default-operand-own.keys2) _)
 
 pub eval-returns-in-Val-operand : goal.eval-returns-in-Val-operand
 eval-returns-in-Val-operand t c =
     c.fresh-in-6.ensures ∙ c.monadic.ensures
-    ∙ sym (at_operand _ _ _ _ _ _ c.node_at-node.ensures c.in-6.is c.if-kind-eq8.false c.if-r-first-4.false
+    ∙ sym (at_operand _ _ _ _ _ _ c.node_at-node.ensures c.in-6.is c.if-node-eq8.false c.if-r-first-4.false
     (c.fresh-operand.ensures ∙ c.eval-in-6.ensures)
     ∙ bind_value c.in-Val-operand.is _)
 
@@ -530,16 +516,15 @@ find-returns-in_default-whole t c =
 
 pub find-field_place-requires : goal.find-field_place-requires
 find-field_place-requires t c =
-    let s = c.requires in (
-      s.planned,
-      find_within s _ _ (sym (c.fresh_place-whole.ensures ∙ c.find.ensures) ∙ c.in-At.is),
+    let s = c.args.self.now in (
+      find_within s.loaded.ready.planned s.low _ _ _ (sym (c.fresh_place-whole.ensures ∙ c.find.ensures) ∙ c.in-At.is),
       rw (← c.node_at-node.ensures) c.in-2.is,
     )
 
 pub find-returns-in-At : goal.find-returns-in-At
 find-returns-in-At t c =
     c.fresh_place.ensures ∙ c.field_place.ensures
-    ∙ named (program_of c.args.image.now.now) c.args.base c.args.top c.args.store.now.now c.args.r _ c.node_at-node.ensures _
+    ∙ named (program_of c.args.self.now.loaded.image.now) c.args.self.now.base c.args.self.now.top c.args.self.now.store.now c.args.r _ c.node_at-node.ensures _
     ∙ sym (f_record _ _ _ _ _ _ c.node_at-node.ensures c.in-2.is c.if-r-first.false
     (c.fresh_place-whole.ensures ∙ c.find.ensures) c.in-At.is)
 
@@ -583,9 +568,8 @@ find-returns-in_default-value t c =
 
 pub find-element_place-requires : goal.find-element_place-requires
 find-element_place-requires t c =
-    let s = c.requires in (
-      s.planned,
-      find_within s _ _ (sym (c.fresh_place-list.ensures ∙ c.find-in-3.ensures) ∙ c.in-At-list.is),
+    let s = c.args.self.now in (
+      find_within s.loaded.ready.planned s.low _ _ _ (sym (c.fresh_place-list.ensures ∙ c.find-in-3.ensures) ∙ c.in-At-list.is),
       c.type_at-row.ensures,
       c.if-row-ne3.false,
     )

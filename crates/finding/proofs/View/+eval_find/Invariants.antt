@@ -1,4 +1,4 @@
-use Rattle.finding.proofs.+eval_find.Given as goal
+use Rattle.finding.proofs.View.+eval_find.Given as goal
 
 abbrev pub decreases-eval : goal.decreases-eval
 decreases-eval l = l.r

@@ -1,8 +1,8 @@
 use mathlib.Core.Path.{◌∙◌}
 use Rattle.semantics.specs.Memory.{bare, value_at}
 use Rattle.access.proofs.Bounds.{kind_read}
-use Rattle.finding.proofs.load.Goals as goal
+use Rattle.finding.proofs.View.load.Goals as goal
 
 pub returns : goal.returns
 unfolding value_at bare
-returns c = c.value_at.ensures ∙ rw (kind_read c.requires.0 _ c.requires.1 _)
+returns c = c.value_at.ensures ∙ rw (kind_read c.args.self.now.loaded.ready.planned _ c.requires _)

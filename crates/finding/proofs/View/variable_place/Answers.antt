@@ -8,56 +8,56 @@ use Rattle.image.proofs.Bytes.{row_there}
 use Rattle.semantics.specs.Running.{program_of}
 use Rattle.semantics.specs.Finding.{variable_place}
 use Rattle.access.proofs.Bounds.{place_low}
-use Rattle.finding.proofs.variable_place.Goals as goal
-use Rattle.finding.proofs.variable_place.Goals.{Else-kind-gt3, Else-kind-eq0}
+use Rattle.finding.proofs.View.variable_place.Goals as goal
+use Rattle.finding.proofs.View.variable_place.Goals.{Else-row-gt3, Else-row-eq0}
 
 -- the variable's row is there
-variable_there : (c : Else-kind-gt3) → c.args.a < rows_of (program_of c.args.image.now.now).variables
+variable_there : (c : Else-row-gt3) → c.args.a < rows_of (program_of c.args.self.now.loaded.image.now).variables
 variable_there c =
     let h : c.variable_at-row.result.kind < 255 = omega arith in
     row_there _ _ (rw c.variable_at-row.ensures at h)
 
 -- and its place is low
-place-small : (c : Else-kind-eq0) → c.args.a < rows_of (program_of c.args.image.now.now).variables
+place-small : (c : Else-row-eq0) → c.args.a < rows_of (program_of c.args.self.now.loaded.image.now).variables
     → c.place_of-place.result ≤ 1048579
 place-small c l =
     rw c.place_of-place.ensures
-    (place_low c.requires.planned c.args.a l)
+    (place_low c.args.self.now.loaded.ready.planned c.args.a l)
 
-pub returns-then-kind-gt3 : goal.returns-then-kind-gt3
+pub returns-then-row-gt3 : goal.returns-then-row-gt3
 unfolding variable_place choose
-returns-then-kind-gt3 c =
+returns-then-row-gt3 c =
     let row = c.variable_at-row in
     let k : ℕ = row.result.kind in
-    let h : 3 < k = c.if-kind-gt3.true in
+    let h : 3 < k = c.if-row-gt3.true in
     rw (← row.ensures, ne_eqb k 0 (omega arith), lt-leb k 2 (omega arith), ne_eqb k 3 (omega arith))
 
 pub place_of-place-requires : goal.place_of-place-requires
-place_of-place-requires c = (c.requires.planned, variable_there (goal.at.place_of-place-requires c).Else-kind-gt3)
+place_of-place-requires c = variable_there (goal.at.place_of-place-requires c).Else-row-gt3
 
-pub returns-then-kind-eq0 : goal.returns-then-kind-eq0
+pub returns-then-row-eq0 : goal.returns-then-row-eq0
 unfolding variable_place choose
-returns-then-kind-eq0 c =
+returns-then-row-eq0 c =
     c.plain.ensures
-    ∙ rw (c.place_of-place.ensures, ← c.variable_at-row.ensures, c.if-kind-eq0.true)
+    ∙ rw (c.place_of-place.ensures, ← c.variable_at-row.ensures, c.if-row-eq0.true)
 
 pub overflow_add-at : goal.overflow_add-at
 overflow_add-at c =
-    let l = place-small (goal.at.overflow_add-at c).Else-kind-eq0 (variable_there (goal.at.overflow_add-at c).Else-kind-gt3) in
-    record { fits = omega (arith, c.requires.low) }
+    let l = place-small (goal.at.overflow_add-at c).Else-row-eq0 (variable_there (goal.at.overflow_add-at c).Else-row-gt3) in
+    record { fits = omega (arith, c.args.self.now.low) }
 
-pub returns-then-kind-lt3 : goal.returns-then-kind-lt3
+pub returns-then-row-lt3 : goal.returns-then-row-lt3
 unfolding variable_place choose
-returns-then-kind-lt3 c =
+returns-then-row-lt3 c =
     let row = c.variable_at-row in
     let k : ℕ = row.result.kind in
-    c.plain-then-kind-lt3.ensures
-    ∙ rw (c.place_of-place.ensures, ← row.ensures, ne_eqb k 0 c.if-kind-eq0.false, le-leb k 2 (omega arith))
+    c.plain-then-row-lt3.ensures
+    ∙ rw (c.place_of-place.ensures, ← row.ensures, ne_eqb k 0 c.if-row-eq0.false, le-leb k 2 (omega arith))
 
 pub parameter_place-requires : goal.parameter_place-requires
 parameter_place-requires c =
-    let l = place-small (goal.at.parameter_place-requires c).Else-kind-eq0 (variable_there (goal.at.parameter_place-requires c).Else-kind-gt3) in
-    (c.requires.stored, omega (arith, c.requires.low))
+    let l = place-small (goal.at.parameter_place-requires c).Else-row-eq0 (variable_there (goal.at.parameter_place-requires c).Else-row-gt3) in
+    omega (arith, c.args.self.now.low)
 
 pub returns : goal.returns
 unfolding variable_place choose
@@ -68,7 +68,7 @@ returns c =
     ∙ rw (
       c.place_of-place.ensures,
       ← row.ensures,
-      ne_eqb k 0 c.if-kind-eq0.false,
+      ne_eqb k 0 c.if-row-eq0.false,
       lt-leb k 2 (omega arith),
       eq-eqb k 3 (omega arith),
     )

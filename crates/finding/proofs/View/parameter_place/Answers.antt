@@ -1,6 +1,6 @@
 use Rattle.semantics.specs.Memory.{ADDRESS, TYPE}
 use Rattle.semantics.specs.Finding.{with_mark, parameter_place}
-use Rattle.finding.proofs.parameter_place.Goals as goal
+use Rattle.finding.proofs.View.parameter_place.Goals as goal
 
 pub returns-in_default : goal.returns-in_default
 unfolding parameter_place with_mark
