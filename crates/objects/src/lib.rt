@@ -24,6 +24,13 @@ pub const ROWS: usize = 64;
 // What begins at an edge of each type, in words: bit w of word r is of type w at that edge of type row r's objects.
 pub type Words = [u64; ROWS];
 
+// The table of starts, and that of ends.
+#[derive(Clone, Copy)]
+struct Tables<'a> {
+    starts: &'a Words,
+    ends: &'a Words,
+}
+
 // The words of one row.
 #[derive(Clone, Copy)]
 pub struct EdgeWords {
@@ -78,10 +85,10 @@ fn among_first(f: &[u8], plan: &[u32], starts: &Words, w: u16, k: usize) -> bool
 }
 
 // A look o cells into the fields from row k on, between their edges.
-fn among(f: &[u8], plan: &[u32], starts: &Words, ends: &Words, w: u16, k: usize, o: u32) -> Look
+fn among(f: &[u8], plan: &[u32], tables: Tables, w: u16, k: usize, o: u32) -> Look
     requires { Ahead f.now plan.now k o × (w < ROWS) × (0 < o) }
     ensures by_index { (deeper : ℕ → ℕ → Bool) (e m : ℕ)
-        → Edges deeper (held plan.now) w m starts.now ends.now
+        → Edges deeper (held plan.now) w m tables.entry.starts.now tables.entry.ends.now
         → Fields f.now plan.now k e m o
         → settled deeper result ≡ among_of deeper (held plan.now) (own_types f.now k (e - k)) o }
     ensures lower { (e m : ℕ) → Fields f.now plan.now k e m o
@@ -97,7 +104,7 @@ fn among(f: &[u8], plan: &[u32], starts: &Words, ends: &Words, w: u16, k: usize,
             return Look::Inside(u as usize, rest);
         }
         if rest == size {
-            return told(marked(ends, w, u) || among_first(f, plan, starts, w, j + 1));
+            return told(marked(tables.ends, w, u) || among_first(f, plan, tables.starts, w, j + 1));
         }
         j += 1;
         rest -= size;
@@ -121,8 +128,7 @@ fn fields(
     t: &[u8],
     f: &[u8],
     plan: &[u32],
-    starts: &Words,
-    ends: &Words,
+    tables: Tables,
     w: u16,
     r: usize,
     o: u32,
@@ -130,7 +136,7 @@ fn fields(
     requires { Typed t.now f.now plan.now × (w < ROWS) × (r < rows_of t.now)
         × ((row_at t.now r).kind ≡ 4) × (0 < o) × (o < held plan.now r) }
     ensures result_value { Edges (begins_at t.now f.now w) (held plan.now) w r
-        starts.now ends.now
+        tables.entry.starts.now tables.entry.ends.now
         → settled (begins_at t.now f.now w) result
         ≡ among_of (begins_at t.now f.now w) (held plan.now)
         (fields_of t.now f.now r) o }
@@ -140,20 +146,20 @@ fn fields(
     let first = row.b as usize;
     let before = base_cells(plan, row.a);
     if before < o {
-        return among(f, plan, starts, ends, w, first, o - before);
+        return among(f, plan, tables, w, first, o - before);
     }
     let base = row.a - 1;
     if o < before {
         return Look::Inside(base as usize, o);
     }
-    told(marked(ends, w, base) || among_first(f, plan, starts, w, first))
+    told(marked(tables.ends, w, base) || among_first(f, plan, tables.starts, w, first))
 }
 
 // A look o cells into elements of type row e, which have more: where one ends the next starts.
-fn elements(plan: &[u32], starts: &Words, ends: &Words, w: u16, e: u16, o: u32) -> Look
+fn elements(plan: &[u32], tables: Tables, w: u16, e: u16, o: u32) -> Look
     requires { (w < ROWS) × (e < ROWS) × (0 < held plan.now e) × (0 < o) }
     ensures by_index { (deeper : ℕ → ℕ → Bool) (m n : ℕ)
-        → Edges deeper (held plan.now) w m starts.now ends.now → e < m
+        → Edges deeper (held plan.now) w m tables.entry.starts.now tables.entry.ends.now → e < m
         → o < n * held plan.now e
         → settled deeper result ≡ among_of deeper (held plan.now) (replicate n e) o }
     ensures lower { (m : ℕ) → e < m → Below (held plan.now) m result }
@@ -163,7 +169,7 @@ fn elements(plan: &[u32], starts: &Words, ends: &Words, w: u16, e: u16, o: u32) 
     if 0 < inside {
         return Look::Inside(e as usize, inside);
     }
-    told(marked(starts, w, e) || marked(ends, w, e))
+    told(marked(tables.starts, w, e) || marked(tables.ends, w, e))
 }
 
 // A look o cells into the parts of type row r, between its edges: it is an array or a record.
@@ -171,8 +177,7 @@ fn parts(
     t: &[u8],
     f: &[u8],
     plan: &[u32],
-    starts: &Words,
-    ends: &Words,
+    tables: Tables,
     w: u16,
     r: usize,
     o: u32,
@@ -180,7 +185,7 @@ fn parts(
     requires { Typed t.now f.now plan.now × (w < ROWS) × (r < rows_of t.now) × (0 < o)
         × (o < held plan.now r) }
     ensures result_value { Edges (begins_at t.now f.now w) (held plan.now) w r
-        starts.now ends.now
+        tables.entry.starts.now tables.entry.ends.now
         → settled (begins_at t.now f.now w) result
         ≡ among_of (begins_at t.now f.now w) (held plan.now)
         (parts_of t.now f.now r) o }
@@ -188,9 +193,9 @@ fn parts(
 {
     let row = image::row_at(t, r);
     if row.kind == 3 {
-        return elements(plan, starts, ends, w, row.a, o);
+        return elements(plan, tables, w, row.a, o);
     }
-    fields(t, f, plan, starts, ends, w, r, o)
+    fields(t, f, plan, tables, w, r, o)
 }
 
 // Whether one begins o cells into the parts of type row r, between its edges, at any depth.
@@ -198,23 +203,21 @@ fn reached(
     t: &[u8],
     f: &[u8],
     plan: &[u32],
-    starts: &Words,
-    ends: &Words,
+    tables: Tables,
     w: u16,
     r: u16,
     o: u32,
 ) -> bool
     requires { Typed t.now f.now plan.now × (w < ROWS) × (r < rows_of t.now) × (0 < o)
         × (o < held plan.now r) }
-    ensures { Edges (begins_at t.now f.now w) (held plan.now) w r
-        starts.now ends.now
+    ensures { Edges (begins_at t.now f.now w) (held plan.now) w r tables.entry.starts.now tables.entry.ends.now
         → result ≡ among_of (begins_at t.now f.now w) (held plan.now)
         (parts_of t.now f.now r) o }
 {
     let mut at = r as usize;
     let mut into = o;
     loop {
-        match parts(t, f, plan, starts, ends, w, at, into) {
+        match parts(t, f, plan, tables, w, at, into) {
             Look::Yes => return true,
             Look::No => return false,
             Look::Inside(u, x) => {
@@ -235,17 +238,17 @@ fn without(word: u64, i: u16) -> u64
 }
 
 // What begins at the edges of a record's base, whose row plus 1 is a: the base's part is no object.
-fn base_edges(starts: &Words, ends: &Words, a: u16) -> EdgeWords
+fn base_edges(tables: Tables, a: u16) -> EdgeWords
     requires { a ≤ ROWS }
-    ensures { (w : ℕ) → (bit_of result.starts w ≡ said_of_base starts.now w a)
-        × (bit_of result.ends w ≡ said_of_base ends.now w a) }
+    ensures { (w : ℕ) → (bit_of result.starts w ≡ said_of_base tables.entry.starts.now w a)
+        × (bit_of result.ends w ≡ said_of_base tables.entry.ends.now w a) }
 {
     let Some(base) = a.checked_sub(1) else {
         return EdgeWords { starts: 0, ends: 0 };
     };
     EdgeWords {
-        starts: without(starts[base as usize], base),
-        ends: without(ends[base as usize], base),
+        starts: without(tables.starts[base as usize], base),
+        ends: without(tables.ends[base as usize], base),
     }
 }
 
@@ -260,8 +263,7 @@ fn across(word: u64, n: usize, other: u64) -> u64
 fn field_edges(
     f: &[u8],
     plan: &[u32],
-    starts: &Words,
-    ends: &Words,
+    tables: Tables,
     base: EdgeWords,
     before: u32,
     k: u16,
@@ -269,7 +271,7 @@ fn field_edges(
 ) -> EdgeWords
     requires { LowTypes f.now k (k + n) ROWS }
     ensures { (deeper : ℕ → ℕ → Bool) (w m : ℕ) (l : List ℕ)
-        → Edges deeper (held plan.now) w m starts.now ends.now
+        → Edges deeper (held plan.now) w m tables.entry.starts.now tables.entry.ends.now
         → LowTypes f.now k (k + n) m → sum (map (held plan.now) l) ≡ before
         → AtEdges (among_of deeper (held plan.now) l) before w base.starts base.ends
         → AtEdges (among_of deeper (held plan.now) (l ++ own_types f.now k n))
@@ -281,8 +283,8 @@ fn field_edges(
     for j in k as usize..k as usize + n as usize {
         let u = image::a_at(f, j) as usize;
         let own = sizes::cell(plan, u) as usize;
-        first = across(first, size, starts[u]);
-        last = across(ends[u], own, last);
+        first = across(first, size, tables.starts[u]);
+        last = across(tables.ends[u], own, last);
         size += own;
     }
     EdgeWords {
@@ -292,37 +294,37 @@ fn field_edges(
 }
 
 // What begins at the edges of the parts of type row r: an array's are its element's.
-fn part_edges(t: &[u8], f: &[u8], plan: &[u32], starts: &Words, ends: &Words, r: usize) -> EdgeWords
+fn part_edges(t: &[u8], f: &[u8], plan: &[u32], tables: Tables, r: usize) -> EdgeWords
     requires { Typed t.now f.now plan.now × (r < rows_of t.now) }
     ensures { (w : ℕ) → Edges (begins_at t.now f.now w) (held plan.now) w r
-        starts.now ends.now
+        tables.entry.starts.now tables.entry.ends.now
         → AtEdges (among_of (begins_at t.now f.now w) (held plan.now)
         (parts_of t.now f.now r)) (held plan.now r) w result.starts result.ends }
 {
     let row = image::row_at(t, r);
     match row.kind {
         3 => EdgeWords {
-            starts: starts[row.a as usize],
-            ends: ends[row.a as usize],
+            starts: tables.starts[row.a as usize],
+            ends: tables.ends[row.a as usize],
         },
         4 => {
-            let base = base_edges(starts, ends, row.a);
+            let base = base_edges(tables, row.a);
             let before = base_cells(plan, row.a);
-            field_edges(f, plan, starts, ends, base, before, row.b, row.c)
+            field_edges(f, plan, tables, base, before, row.b, row.c)
         }
         _ => EdgeWords { starts: 0, ends: 0 },
     }
 }
 
 // What begins at the edges of type row r: an object begins at its own start, which is its end where it has no cells.
-fn edges(t: &[u8], f: &[u8], plan: &[u32], starts: &Words, ends: &Words, r: usize) -> EdgeWords
+fn edges(t: &[u8], f: &[u8], plan: &[u32], tables: Tables, r: usize) -> EdgeWords
     requires { Typed t.now f.now plan.now × (r < rows_of t.now) }
     ensures { (w : ℕ) → Edges (begins_at t.now f.now w) (held plan.now) w r
-        starts.now ends.now
+        tables.entry.starts.now tables.entry.ends.now
         → AtEdges (begins_at t.now f.now w r) (held plan.now r) w result.starts
         result.ends }
 {
-    let inner = part_edges(t, f, plan, starts, ends, r);
+    let inner = part_edges(t, f, plan, tables, r);
     let own = 1u64 << (r as u64);
     let size = sizes::cell(plan, r) as usize;
     EdgeWords {
@@ -340,7 +342,7 @@ pub fn fill(t: &[u8], f: &[u8], plan: &[u32], starts: &mut Words, ends: &mut Wor
     ensures ends { Beyond (rows_of t.now) ends.old ends.new }
 {
     for r in 0..image::rows_of(t) {
-        let x = edges(t, f, plan, starts, ends, r);
+        let x = edges(t, f, plan, Tables { starts, ends }, r);
         starts[r] = x.starts;
         ends[r] = x.ends;
     }
@@ -368,5 +370,5 @@ pub fn holds(
     if o == size {
         return marked(ends, w, r);
     }
-    o < size && reached(t, f, plan, starts, ends, w, r, o)
+    o < size && reached(t, f, plan, Tables { starts, ends }, w, r, o)
 }

@@ -11,7 +11,7 @@ use Rattle.objects.proofs.field_edges.Given as goal
 
 abbrev pub invariant-loop-j : goal.invariant-loop-j
 invariant-loop-j l = (l.size ≤ (l.j - l.k + 1) * 4294967295)
-    × ((deeper : ℕ → ℕ → Bool) (w m : ℕ) (parts : List ℕ) → Edges deeper (held l.plan) w m l.starts l.ends
+    × ((deeper : ℕ → ℕ → Bool) (w m : ℕ) (parts : List ℕ) → Edges deeper (held l.plan) w m l.tables.starts.now l.tables.ends.now
     → LowTypes l.f l.k (l.k + l.n) m → sum (map (held l.plan) parts) ≡ l.before
     → AtEdges (among deeper (held l.plan) parts) l.before w l.initial.first l.initial.last
     → Joined deeper (held l.plan) w (parts ++ own_types l.f l.k l.n) (own_types l.f l.j (l.k + l.n - l.j)) l.size l.first l.last)

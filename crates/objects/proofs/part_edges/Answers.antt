@@ -7,11 +7,11 @@ use Rattle.objects.proofs.Deciding.{element_few}
 use Rattle.objects.proofs.Filling.{at_none, at_array, at_base, at_record}
 use Rattle.objects.proofs.part_edges.Goals as goal
 
-pub bounds-starts-row : goal.bounds-starts-row
-bounds-starts-row c = element_few c.requires.0 c.args.r c.requires.1 c.row_at-row.ensures c.in-3.is
+pub bounds-tables-row : goal.bounds-tables-row
+bounds-tables-row c = element_few c.requires.0 c.args.r c.requires.1 c.row_at-row.ensures c.in-3.is
 
-pub bounds-ends-row : goal.bounds-ends-row
-bounds-ends-row c = element_few c.requires.0 c.args.r c.requires.1 c.row_at-row.ensures c.in-3.is
+pub bounds-tables-row-in-3 : goal.bounds-tables-row-in-3
+bounds-tables-row-in-3 c = element_few c.requires.0 c.args.r c.requires.1 c.row_at-row.ensures c.in-3.is
 
 pub returns-in-3 : goal.returns-in-3
 returns-in-3 c = λ w edges.
