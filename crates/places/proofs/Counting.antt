@@ -10,7 +10,6 @@ use Rattle.image.specs.Rows.{row_at, rows_of}
 use Rattle.frames.specs.Variables.{globals_of}
 use Rattle.frames.specs.Procedures.{claimed_by, first_from, first_variable}
 use Rattle.frames.proofs.Claiming.{globals_within}
-use Rattle.places.specs.Places.{Firsts}
 use Rattle.prelude.specs.Cells.{Filled}
 use Rattle.prelude.proofs.Cells.{filled_none, filled_next}
 
@@ -69,14 +68,4 @@ module _ (v p old firsts : List ℕ) (first q : ℕ) (c : Counted v p old firsts
         next = rw one (rw (c.next, this_row) (sym (first_next v p q)));
         small = omega (arith, c.small, few);
         filled = rw one filled_more;
-      }
-
-  pub counted_end : rows_of p ≤ q → Firsts v p old (set firsts q first)
-  counted_end done =
-      let w = c.within in
-      let f = filled_more in
-      record {
-        cells = f.cells;
-        first = λ i h. let e : 0 + i ≡ i = omega arith in rw e at (f.cell i (omega arith));
-        rest = λ i h. f.above i (omega arith);
       }

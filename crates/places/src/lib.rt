@@ -16,31 +16,26 @@ pub fn first_variables(v: &[u8], p: &[u8], firsts: &mut [u32])
     ensures { Firsts v.now p.now firsts.old firsts.new }
 {
     let n = image::rows_of(p);
-    let globals = frames::globals(v);
-    let mut first = globals as u32;
-    let mut q: usize = 0;
-    while q < n {
+    let mut first = frames::globals(v) as u32;
+    for q in 0..n {
         let row = image::row_at(p, q);
-        let b = row.b as u32;
-        let c = row.c as u32;
         firsts[q] = first;
-        first = first + (b + c);
-        q = q + 1;
+        first += row.b as u32 + row.c as u32;
     }
-    firsts[q] = first;
+    firsts[n] = first;
 }
 
 // How many cells variable row k has, by the plan's sizes.
+#[tactic(auto, unfolding(crate::specs::Places::width_by, prelude::specs::Choice::choose))]
 fn width_at(v: &[u8], plan: &[u32], k: usize) -> u32
     ensures { result ≡ width_by (held plan.now) v.now k }
 {
     let row = image::row_at(v, k);
-    let kind = row.kind;
-    let a = row.a as usize;
-    if kind == 3 {
-        return 2;
+    if row.kind == 3 {
+        2
+    } else {
+        sizes::cell(plan, row.a as usize)
     }
-    sizes::cell(plan, a)
 }
 
 // Writes the places of n variables from row k on, the first at `at`, and gives the place behind them.
@@ -50,14 +45,11 @@ fn place_run(v: &[u8], plan: &mut [u32], k: usize, n: usize, at: u32) -> u32
     ensures places { Filled (PLACES + k) n (λ j. at + room_by (held plan.old) v.now k j)
         plan.old plan.new }
 {
-    let mut j: usize = 0;
     let mut place = at;
-    while j < n {
-        let i = k + j;
+    for i in k..k + n {
         let width = width_at(v, plan, i);
         plan[PLACES + i] = place;
-        place = place + width;
-        j = j + 1;
+        place += width;
     }
     place
 }
@@ -69,15 +61,11 @@ fn place_frames(v: &[u8], p: &[u8], plan: &mut [u32])
         plan.old plan.new }
 {
     let n = image::rows_of(p);
-    let mut q: usize = 0;
-    while q < n {
+    for q in 0..n {
         let row = image::row_at(p, q);
-        let b = row.b as usize;
-        let c = row.c as usize;
         let first = sizes::cell(plan, FIRSTS + q) as usize;
-        let size = place_run(v, plan, first, b + c, 3);
+        let size = place_run(v, plan, first, row.b as usize + row.c as usize, 3);
         plan[FRAMES + q] = size;
-        q = q + 1;
     }
 }
 

@@ -141,10 +141,6 @@ written_next n old runs i j run x w at room e = record {
     go k (yes l) low high = get_or-set_other runs j k x 0 (omega arith) ∙ w.filled k (omega arith) high
     go k (no l) low high = let q : j ≡ k = omega arith in rw (← q) (get_or-set_same runs j x 0 room ∙ here)
 
-pub written_all : (n old runs : List ℕ) (i run : ℕ) → Written n old runs i run → i ≤ 0 → RunsIn n old runs
-written_all n old runs i run w h =
-    record { cells = w.cells; run = λ k high. w.filled k (omega arith) high; above = w.above }
-
 -- as far as there are rows, it is the table
 pub runs_all : (n old runs : List ℕ) → RunsIn n old runs → rows_of n ≤ length old → Runs n (take (rows_of n) runs)
 runs_all n old runs f room = record { each = λ k. go k (dec_lt k (rows_of n)) }

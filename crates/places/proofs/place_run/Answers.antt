@@ -1,50 +1,28 @@
 use mathlib.Core.Path.{◌≡◌}
+use Prim.Native.Nat.{◌+◌, ◌-◌, ◌<◌}
 use native.Mathlib.Omega.{arith}
-use Rattle.places.proofs.Running.{run_none, run_room, run_next, run_small}
+use Rattle.places.proofs.Running.{run_none, run_next, run_small}
 use Rattle.places.proofs.place_run.Goals as goal
 
-pub loop-j-init : goal.loop-j-init
-loop-j-init c = run_none _ _ _ _ _
-
-pub overflow_add-i : goal.overflow_add-i
-overflow_add-i c = let s = c.requires in omega (arith, s.0.few, s.1)
-
-pub overflow_add-plan : goal.overflow_add-plan
-overflow_add-plan c = let s = c.requires in omega (arith, s.0.few, s.1)
-
-pub bounds-plan-i : goal.bounds-plan-i
-bounds-plan-i c =
-    let l = c.loop-j in
-    let s = c.requires in
-    run_room _ _ _ _ _ _ _ _ s.0 s.1 l.invariant c.loop-j-test.true
+pub loop-i-init : goal.loop-i-init
+loop-i-init c = let s = c.args in
+    let none : s.k - s.k ≡ 0 = omega arith in
+    rw none (run_none _ _ _ _ _)
 
 pub overflow_add-place : goal.overflow_add-place
 overflow_add-place c =
-    let l = c.loop-j in
+    let l = c.loop-i in
     let s = c.requires in
-    let more = c.loop-j-test.true in
-    let small = run_small _ _ _ _ _ _ _ _ s.0 s.1 l.invariant more _ c.width_at-width.ensures s.2 in
+    let here : c.args.k + (l.i - c.args.k) ≡ l.i = omega arith in
+    let more : l.i - c.args.k < c.args.n = omega arith in
+    let small = run_small _ _ _ _ _ _ _ _ s.0 s.1 l.invariant more c.width_at-width.result (rw here c.width_at-width.ensures) s.2 in
     record { fits = omega (arith, small) }
 
-pub overflow_add-j : goal.overflow_add-j
-overflow_add-j c = omega arith
-
-pub loop-j-smaller : goal.loop-j-smaller
-loop-j-smaller c = omega arith
-
-pub loop-j-preserved : goal.loop-j-preserved
-loop-j-preserved c =
-    let l = c.loop-j in
+pub loop-i-preserved : goal.loop-i-preserved
+loop-i-preserved c =
+    let l = c.loop-i in
     let s = c.requires in
-    let more = c.loop-j-test.true in
-    run_next _ _ _ _ _ _ _ _ s.0 s.1 l.invariant more _ c.width_at-width.ensures
-
-pub shape_of-plan : goal.shape_of-plan
-shape_of-plan c = c.loop-j.invariant.filled.cells
-
-pub returns : goal.returns
-returns c = let l = c.loop-j in
-    let n = c.args.n in
-    let w = l.invariant.within in
-    let all : l.j ≡ n = omega arith in
-    record { value = rw all at l.invariant.next; places = rw all at l.invariant.filled }
+    let here : c.args.k + (l.i - c.args.k) ≡ l.i = omega arith in
+    let one : l.i - c.args.k + 1 ≡ l.i + 1 - c.args.k = omega arith in
+    let more : l.i - c.args.k < c.args.n = omega arith in
+    rw (here, one) at (run_next _ _ _ _ _ _ _ _ s.0 s.1 l.invariant more c.width_at-width.result (rw here c.width_at-width.ensures))
