@@ -3,7 +3,7 @@ use Rattle.checker.proofs.Chain.{asked_fault, chain_next, chain_stop}
 use Rattle.checker.specs.Check.{table_question}
 use Rattle.prelude.specs.Choice.{choose}
 use mathlib.Core.Path.{sym, ◌∙◌}
-use Rattle.checker.proofs.check_rows.Goals as goal
+use Rattle.checker.proofs.Parts.check_rows.Goals as goal
 
 pub returns-in_default : goal.returns-in_default
 unfolding table_question choose

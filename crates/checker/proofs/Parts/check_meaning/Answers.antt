@@ -3,7 +3,7 @@ use Rattle.checker.proofs.Chain.{asked_fault, chain_next, chain_stop, chain_last
 use Rattle.checker.specs.Check.{table_question}
 use Rattle.prelude.specs.Choice.{choose}
 use mathlib.Core.Path.{refl, sym, ◌∙◌}
-use Rattle.checker.proofs.check_meaning.Goals as goal
+use Rattle.checker.proofs.Parts.check_meaning.Goals as goal
 
 pub returns-in_default : goal.returns-in_default
 unfolding table_question choose
@@ -15,7 +15,7 @@ unfolding table_question choose
 returns c = let nodes = c.rows_of-nodes in
     let k = c.check_typing-typed.ensures in
     let kept = c.in-Ok.is in
-    let all = rules_all _ _ _ _ _ _ _ k.types c.requires.4 c.args.p.now c.args.s.now kept in record {
+    let all = rules_all _ _ _ _ _ _ _ k.types c.requires.4 c.args.self.now.p.now c.args.self.now.s.now kept in record {
       by_index = λ version. c.answer_of-2.ensures
           ∙ sym (chain_next _ 10 1 k.value kept ∙ chain_last _ 11 0 (c.check_rules-ruled.ensures ∙ rw nodes.ensures all) refl);
       types = types_left _ _ _ _ _ _ _ k.types k.value;
