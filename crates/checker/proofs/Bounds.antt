@@ -1,14 +1,16 @@
 -- Laws of the cells that hold where the tables stand.
 use mathlib.Core.Path.{◌≡◌, refl}
 use mathlib.Core.Bool.{Bool, true, false}
-use mathlib.Core.List.{List}
-use Prim.Native.Nat.{ℕ, suc, ◌+◌, ◌≤◌, ◌<◌}
+use mathlib.Core.List.{List, [], ◌∷◌}
+use Prim.Native.Nat.{ℕ, zero, suc, ◌+◌, ◌*◌, ◌≤◌, ◌<◌}
 use native.Mathlib.Omega.{arith}
 use lib.Dec.{eqb}
-use lib.ListN.{length, set}
+use lib.ListN.{length, get_or, set, length-set}
 use Rattle.prelude.specs.Choice.{choose}
 use Rattle.prelude.specs.Cells.{Filled}
-use Rattle.prelude.proofs.Cells.{filled_none, filled_next}
+use Rattle.prelude.proofs.Cells.{filled_next}
+use Rattle.std.proofs.Math.Numerals.{add-one}
+use Rattle.header.specs.declared.Table.{Table}
 use Rattle.header.specs.declared.Tables.{Tables}
 use Rattle.header.proofs.Fitting.{Fits}
 use Rattle.sizes.specs.Cells.{BOUNDS, CHECK_PLAN}
@@ -44,30 +46,41 @@ bounds_fit image ts fits =
           (small (eqb j 10) (omega (arith, s.start)) (omega arith)))))))))));
     }
 
--- the first n of the twelve numbers are written
-pub record Bounded (ts : Tables) (old : List ℕ) (n : ℕ) (plan : List ℕ) : Type 0 where
-  pub fit : BoundsFit ts
-  pub room : CHECK_PLAN ≤ length old
-  pub filled : Filled BOUNDS n (bound_of ts) old plan
+-- ---- they are written one after the other
 
-pub bounded_none : (ts : Tables) (old : List ℕ) → BoundsFit ts → CHECK_PLAN ≤ length old → Bounded ts old 0 old
-bounded_none ts old fit room = record { fit = fit; room = room; filled = filled_none BOUNDS (bound_of ts) old }
+-- table k of the six
+abbrev pub table_at : Tables → ℕ → Table
+table_at ts k =
+    get_or (ts.types ∷ (ts.fields ∷ (ts.variables ∷ (ts.procedures ∷ (ts.nodes ∷ (ts.statements ∷ [])))))) k
+    (record { start = 0; end = 0 })
 
-module _ {ts : Tables} {old : List ℕ} (n : ℕ) {plan : List ℕ} (b : Bounded ts old n plan) (more : n ≤ 10) where
-  -- two more may be written ..
-  pub bounded_fits : (BOUNDS + n + 1 < length plan) × (bound_of ts n ≤ 65536) × (bound_of ts (suc n) ≤ 65536)
-  bounded_fits =
-      let room = b.room in
-      let same = b.filled.cells in
-      (omega arith, b.fit.each n, b.fit.each (suc n))
+-- it has the numbers 2k and 2k + 1
+stands : (ts : Tables) (k : ℕ) → k < 6
+    → ((table_at ts k).start ≡ bound_of ts (2 * k)) × ((table_at ts k).end ≡ bound_of ts (2 * k + 1))
+unfolding bound_of choose
+stands ts zero h = (refl, refl)
+stands ts (suc zero) h = (refl, refl)
+stands ts (suc (suc zero)) h = (refl, refl)
+stands ts (suc (suc (suc zero))) h = (refl, refl)
+stands ts (suc (suc (suc (suc zero)))) h = (refl, refl)
+stands ts (suc (suc (suc (suc (suc zero))))) h = (refl, refl)
+stands ts (suc (suc (suc (suc (suc (suc k)))))) h = absurd (omega arith)
 
-  -- .. and are
-  pub bounded_more : (new : List ℕ) (x y : ℕ) → new ≡ set (set plan (BOUNDS + n) x) (BOUNDS + n + 1) y
-      → x ≡ bound_of ts n → y ≡ bound_of ts (suc n) → Bounded ts old (suc (suc n)) new
-  bounded_more new x y e h k =
-      let room = b.room in
-      let same = b.filled.cells in
-      let one = filled_next BOUNDS n (bound_of ts) old plan (BOUNDS + n) x b.filled refl (omega arith) h in
-      let cells = one.cells in
-      let two = filled_next BOUNDS (suc n) (bound_of ts) old _ (BOUNDS + n + 1) y one (omega arith) (omega arith) k in
-      record { fit = b.fit; room = b.room; filled = rw e two }
+module _ (ts : Tables) (fit : BoundsFit ts) (k : ℕ) (more : k < 6) where
+  pub start_fits : (table_at ts k).start ≤ 65536
+  start_fits = rw (stands ts k more).0 (fit.each (2 * k))
+
+  pub end_fits : (table_at ts k).end ≤ 65536
+  end_fits = rw (stands ts k more).1 (fit.each (2 * k + 1))
+
+  pub bounds_next : (old plan : List ℕ) → CHECK_PLAN ≤ length plan → Filled BOUNDS (2 * k) (bound_of ts) old plan
+      → Filled BOUNDS (2 * (k + 1)) (bound_of ts) old
+      (set (set plan (BOUNDS + 2 * k) (table_at ts k).start) (BOUNDS + 2 * k + 1) (table_at ts k).end)
+  bounds_next old plan room filled =
+      let (start, end) = stands ts k more in
+      let cells = length-set plan (BOUNDS + 2 * k) (table_at ts k).start in
+      let one = filled_next BOUNDS (2 * k) (bound_of ts) old plan (BOUNDS + 2 * k) _ filled refl (omega arith) start in
+      let last = rw add-one at end in
+      let two = filled_next BOUNDS (suc (2 * k)) (bound_of ts) old _ (BOUNDS + 2 * k + 1) _ one (omega arith) (omega arith) last in
+      let twice : suc (suc (2 * k)) ≡ 2 * (k + 1) = omega arith in
+      rw twice at two

@@ -20,7 +20,26 @@ pub asked_fault : (q : ℕ) (x : Verdict) (later : CheckAnswer) {row : ℕ} → 
 unfolding asked
 asked_fault q x later e = rw e
 
+-- a question's answer by itself: yes, or the refusal whatever comes later
+yes_alone : (q : ℕ) (x : Verdict) {u : Unit {0}} → asked q x (Ok tt) ≡ Ok u → x ≡ Ok tt
+unfolding asked
+yes_alone q (Ok _) e = refl
+yes_alone q (Err row) e = cc
+
+no_alone : (q : ℕ) (x : Verdict) (later : CheckAnswer) {r : Refusal} → asked q x (Ok tt) ≡ Err r → asked q x later ≡ Err r
+unfolding asked
+no_alone q (Ok _) later e = cc
+no_alone q (Err row) later e = e
+
 module _ (question : ℕ → Verdict) (q n : ℕ) {x : Verdict} (here : x ≡ question q) where
+  pub chain_yes : {u : Unit {0}} → Ok u ≡ asked q x (Ok tt) → first_no question q (suc n) ≡ first_no question (q + 1) n
+  unfolding first_no
+  chain_yes e = asked_kept q (question q) (first_no question (q + 1) n) (sym here ∙ yes_alone q x (sym e))
+
+  pub chain_no : {r : Refusal} → Err r ≡ asked q x (Ok tt) → first_no question q (suc n) ≡ Err r
+  unfolding first_no
+  chain_no e = rw (← here) (no_alone q x (first_no question (q + 1) n) (sym e))
+
   pub chain_next : x ≡ Ok tt → first_no question q (suc n) ≡ first_no question (q + 1) n
   unfolding first_no
   chain_next e = asked_kept q (question q) (first_no question (q + 1) n) (sym here ∙ e)

@@ -13,6 +13,7 @@ use Rattle.statements.specs.Statements.{question8}
 use Rattle.names.specs.Names.{question9}
 use Rattle.typing.specs.Typing.{question10}
 use Rattle.rules.specs.Rules.{question11}
+use Rattle.checker.specs.declared.Parts.{Parts}
 
 -- ---- the parts of an image that its tables are; no rows where questions 1 to 3 find none
 
@@ -51,6 +52,10 @@ table_question version t f v p n s q =
     (choose (eqb q 8) (question8 n p s)
     (choose (eqb q 9) (question9 n p s)
     (choose (eqb q 10) (question10 t f v n) (question11 t f v p n s)))))))
+
+-- .. whose parts these are
+abbrev pub question_in : ℕ → Parts → ℕ → Verdict
+question_in version x = table_question version x.t.now x.f.now x.v.now x.p.now x.n.now x.s.now
 
 -- "Questions of the check": what question q says of an image
 unfoldable pub question_of : List ℕ → ℕ → Verdict

@@ -7,12 +7,22 @@ use Rattle.prelude.specs.Choice.{choose}
 use Rattle.prelude.specs.Cells.{Filled}
 use Rattle.image.specs.Rows.{rows_of}
 use Rattle.header.specs.declared.Tables.{Tables}
-use Rattle.header.specs.Header.{version_of, header_of, tables_in}
+use Rattle.header.specs.Header.{version_of, header_of, tables_in, part_of}
 use Rattle.sizes.specs.Cells.{BOUNDS}
 use Rattle.types.specs.Plan.{Plan, Rest, passed}
 use Rattle.types.specs.Question.{question4}
 use Rattle.places.specs.Places.{Places}
+use Rattle.checker.specs.declared.Parts.{Parts}
 use Rattle.checker.specs.Check.{types_in, fields_in, variables_in, procedures_in}
+
+-- the parts that the tables are
+pub record PartsOf (image : List ℕ) (ts : Tables) (x : Parts) : Type 0 where
+  pub t : x.t.now ≡ part_of image ts.types
+  pub f : x.f.now ≡ part_of image ts.fields
+  pub v : x.v.now ≡ part_of image ts.variables
+  pub p : x.p.now ≡ part_of image ts.procedures
+  pub n : x.n.now ≡ part_of image ts.nodes
+  pub s : x.s.now ≡ part_of image ts.statements
 
 -- six tables whose counts are in range
 pub record CountsFit (t f v p n s : List ℕ) : Type 0 where
@@ -23,6 +33,10 @@ pub record CountsFit (t f v p n s : List ℕ) : Type 0 where
   pub procedures : rows_of p ≤ 64
   pub nodes : rows_of n ≤ 2048
   pub statements : rows_of s ≤ 1024
+
+-- .. which are these parts
+abbrev pub CountsIn : Parts → Type 0
+CountsIn x = CountsFit x.t.now x.f.now x.v.now x.p.now x.n.now x.s.now
 
 -- the plan behind accepted tables: sizes and offsets, then places and frame sizes, and every other cell as it was
 pub record Whole (t f v p old plan : List ℕ) : Type 0 where

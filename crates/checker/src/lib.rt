@@ -1,7 +1,7 @@
 // The check of an image: questions 1 to 11.
 #![tactic(auto)]
 
-ghost use Rattle.std.specs.Prelude.{◌≡◌, ℕ, ◌+◌, ◌*◌, ◌≤◌, ◌<◌, length, set};
+ghost use Rattle.std.specs.Prelude.{◌≡◌, ℕ, ◌≤◌, length};
 ghost use Rattle.image.specs.Rows.{rows_of};
 ghost use Rattle.sizes.specs.Cells.{BOUNDS, CHECK_PLAN};
 ghost use Rattle.types.specs.Question.{TypesAccepted};
@@ -9,11 +9,11 @@ ghost use Rattle.types.specs.Plan.{Plan};
 ghost use Rattle.frames.specs.Variables.{question5};
 ghost use Rattle.frames.specs.Procedures.{question6};
 ghost use Rattle.typing.specs.Typing.{question10, type_of, passed, Typed};
-ghost use Rattle.checker.specs.Check.{table_question, asked, first_no, check_of};
+ghost use Rattle.checker.specs.Check.{asked, question_in, first_no, check_of};
 ghost use Rattle.prelude.specs.Cells.{Filled};
-ghost use Rattle.checker.specs.Prepared.{CountsFit, BoundsFit, Leaves, bound_of, Prepared};
+ghost use Rattle.checker.specs.Prepared.{PartsOf, CountsIn, BoundsFit, Leaves, bound_of, Prepared};
 
-use header::{Table, Tables};
+use header::Tables;
 use sizes::{BOUNDS, CHECK_PLAN};
 
 // Why an image is refused: the question that fails, by its number, and the lowest row at fault.
@@ -33,134 +33,97 @@ fn answer_of(q: u8, v: Result<(), u16>) -> Result<(), Refusal>
     }
 }
 
-// Questions 10 and 11. The types that question 10 finds go into a lent table, one number a node.
-fn check_meaning(
-    t: &[u8],
-    f: &[u8],
-    v: &[u8],
-    p: &[u8],
-    n: &[u8],
-    s: &[u8],
-    plan: &[u32],
-    types: &mut [u16],
-) -> Result<(), Refusal>
-    requires { CountsFit t.now f.now v.now p.now n.now s.now × TypesAccepted t.now f.now ×
-        (question6 v.now p.now s.now ≡ Ok tt) × Plan t.now f.now (rows_of t.now) plan.now ×
-        (rows_of n.now ≤ length types.old) }
-    ensures by_index { (version : ℕ) → result ≡ first_no (table_question version t.now f.now
-        v.now p.now n.now s.now) 10 2 }
-    ensures types { Typed (type_of t.now f.now v.now n.now)
-        (passed n.now (question10 t.now f.now v.now n.now))
-        types.old types.new }
-{
-    let nodes = image::rows_of(n);
-    let typed = typing::check_typing(t, f, plan, v, n, types);
-    let Ok(()) = typed else {
-        return answer_of(10, typed);
-    };
-    let ruled = rules::check_rules(t, v, p, n, s, &types[..nodes]);
-    answer_of(11, ruled)
+// The six tables of an image: types, fields, variables, procedures, nodes, statements.
+#[derive(Clone, Copy)]
+struct Parts<'a> {
+    t: &'a [u8],
+    f: &'a [u8],
+    v: &'a [u8],
+    p: &'a [u8],
+    n: &'a [u8],
+    s: &'a [u8],
 }
 
-// Questions 5 to 9 of an image of a version, and then 10 and 11.
-fn check_rows(
-    version: u8,
-    t: &[u8],
-    f: &[u8],
-    v: &[u8],
-    p: &[u8],
-    n: &[u8],
-    s: &[u8],
-    plan: &[u32],
-) -> Result<(), Refusal>
-    requires { CountsFit t.now f.now v.now p.now n.now s.now × TypesAccepted t.now f.now
-        × Plan t.now f.now (rows_of t.now) plan.now }
-    ensures { result ≡ first_no (table_question version t.now f.now v.now
-        p.now n.now s.now) 5 7 }
-{
-    let variables = frames::check_variables(t, v);
-    let Ok(()) = variables else {
-        return answer_of(5, variables);
-    };
-    let procedures = frames::check_procedures(v, p, s);
-    let Ok(()) = procedures else {
-        return answer_of(6, procedures);
-    };
-    let nodes = nodes::check_nodes(version, t, v, n);
-    let Ok(()) = nodes else {
-        return answer_of(7, nodes);
-    };
-    // A number for each node: question 8's runs of arguments, then the types that questions 10 and 11 need.
-    let mut table = [0u16; 2048];
-    let statements = statements::check_statements(n, p, s, &mut table);
-    let Ok(()) = statements else {
-        return answer_of(8, statements);
-    };
-    let names = names::check_names(n, p, s);
-    let Ok(()) = names else {
-        return answer_of(9, names);
-    };
-    check_meaning(t, f, v, p, n, s, plan, &mut table)
+impl<'a> Parts<'a> {
+    fn of(image: &'a [u8], tables: Tables) -> Parts<'a>
+        ensures { PartsOf image.now tables result }
+    {
+        Parts {
+            t: header::part(image, tables.types),
+            f: header::part(image, tables.fields),
+            v: header::part(image, tables.variables),
+            p: header::part(image, tables.procedures),
+            n: header::part(image, tables.nodes),
+            s: header::part(image, tables.statements),
+        }
+    }
+
+    // Questions 10 and 11. The types that question 10 finds go into a lent table, one number a node.
+    fn check_meaning(&self, plan: &[u32], types: &mut [u16]) -> Result<(), Refusal>
+        requires { CountsIn self.now × TypesAccepted self.now.t.now self.now.f.now ×
+            (question6 self.now.v.now self.now.p.now self.now.s.now ≡ Ok tt) ×
+            Plan self.now.t.now self.now.f.now (rows_of self.now.t.now) plan.now ×
+            (rows_of self.now.n.now ≤ length types.old) }
+        ensures by_index { (version : ℕ) → result ≡ first_no (question_in version self.now) 10 2 }
+        ensures types { Typed (type_of self.now.t.now self.now.f.now self.now.v.now self.now.n.now)
+            (passed self.now.n.now (question10 self.now.t.now self.now.f.now self.now.v.now self.now.n.now))
+            types.old types.new }
+    {
+        let typed = typing::check_typing(self.t, self.f, plan, self.v, self.n, types);
+        answer_of(10, typed)?;
+        let nodes = image::rows_of(self.n);
+        let ruled = rules::check_rules(self.t, self.v, self.p, self.n, self.s, &types[..nodes]);
+        answer_of(11, ruled)
+    }
+
+    // Questions 5 to 9 of an image of a version, and then 10 and 11.
+    fn check_rows(&self, version: u8, plan: &[u32]) -> Result<(), Refusal>
+        requires { CountsIn self.now × TypesAccepted self.now.t.now self.now.f.now ×
+            Plan self.now.t.now self.now.f.now (rows_of self.now.t.now) plan.now }
+        ensures { result ≡ first_no (question_in version self.now) 5 7 }
+    {
+        answer_of(5, frames::check_variables(self.t, self.v))?;
+        answer_of(6, frames::check_procedures(self.v, self.p, self.s))?;
+        answer_of(7, nodes::check_nodes(version, self.t, self.v, self.n))?;
+        // A number for each node: question 8's runs of arguments, then the types that questions 10 and 11 need.
+        let mut table = [0u16; 2048];
+        let statements = statements::check_statements(self.n, self.p, self.s, &mut table);
+        answer_of(8, statements)?;
+        answer_of(9, names::check_names(self.n, self.p, self.s))?;
+        self.check_meaning(plan, &mut table)
+    }
+
+    // Questions 4 to 11. What question 4 finds goes into the plan, and with acceptance the places and frame sizes too.
+    fn check_tables(&self, version: u8, plan: &mut [u32]) -> Result<(), Refusal>
+        requires { CountsIn self.now × (BOUNDS ≤ length plan.old) }
+        ensures value { result ≡ first_no (question_in version self.now) 4 8 }
+        ensures plan { Leaves version self.now.t.now self.now.f.now self.now.v.now self.now.p.now
+            plan.old result plan.new }
+    {
+        answer_of(4, types::check_types(version, self.t, self.f, plan))?;
+        self.check_rows(version, plan)?;
+        places::fill_places(self.t, self.f, self.v, self.p, plan);
+        Ok(())
+    }
 }
 
-// Questions 4 to 11. What question 4 finds goes into the plan, and with acceptance the places and frame sizes too.
-fn check_tables(
-    version: u8,
-    t: &[u8],
-    f: &[u8],
-    v: &[u8],
-    p: &[u8],
-    n: &[u8],
-    s: &[u8],
-    plan: &mut [u32],
-) -> Result<(), Refusal>
-    requires { CountsFit t.now f.now v.now p.now n.now s.now × (BOUNDS ≤ length plan.old) }
-    ensures value { result ≡ first_no (table_question version t.now f.now v.now
-        p.now n.now s.now) 4 8 }
-    ensures plan { Leaves version t.now f.now v.now p.now plan.old result plan.new }
-{
-    let types = types::check_types(version, t, f, plan);
-    let Ok(()) = types else {
-        return answer_of(4, types);
-    };
-    let answer = check_rows(version, t, f, v, p, n, s, plan);
-    let Ok(()) = answer else {
-        return answer;
-    };
-    places::fill_places(t, f, v, p, plan);
-    Ok(())
-}
-
-// Writes where table k of the six stands: its start, and its end behind it.
-fn put_bounds(plan: &mut [u32], k: usize, table: Table)
-    requires { (BOUNDS + 2 * k + 1 < length plan.old) × (table.start ≤ 65536) × (table.end ≤ 65536) }
-    ensures { plan.new ≡ set (set plan.old (BOUNDS + 2 * k) table.start)
-        (BOUNDS + 2 * k + 1) table.end }
-{
-    let at = BOUNDS + 2 * k;
-    let start = table.start;
-    let end = table.end;
-    plan[at] = start as u32;
-    plan[at + 1] = end as u32;
-}
-
-// Writes where the six tables stand.
+// Writes where the six tables stand: each one's start, and its end behind it.
 fn fill_bounds(tables: Tables, plan: &mut [u32])
     requires { BoundsFit tables × (CHECK_PLAN ≤ length plan.old) }
     ensures { Filled BOUNDS 12 (bound_of tables) plan.old plan.new }
 {
-    let types = tables.types;
-    let fields = tables.fields;
-    let variables = tables.variables;
-    let procedures = tables.procedures;
-    let nodes = tables.nodes;
-    let statements = tables.statements;
-    put_bounds(plan, 0, types);
-    put_bounds(plan, 1, fields);
-    put_bounds(plan, 2, variables);
-    put_bounds(plan, 3, procedures);
-    put_bounds(plan, 4, nodes);
-    put_bounds(plan, 5, statements);
+    let six = [
+        tables.types,
+        tables.fields,
+        tables.variables,
+        tables.procedures,
+        tables.nodes,
+        tables.statements,
+    ];
+    for (k, table) in six.iter().enumerate() {
+        plan[BOUNDS + 2 * k] = table.start as u32;
+        plan[BOUNDS + 2 * k + 1] = table.end as u32;
+    }
 }
 
 // The check, which leaves sizes, offsets, places and frame sizes in a lent plan, and where the tables stand.
@@ -172,23 +135,7 @@ pub fn prepare(image: &[u8], plan: &mut [u32]) -> Result<(), Refusal>
     match header::header(image) {
         Err(question) => Err(Refusal { question, row: 0 }),
         Ok(tables) => {
-            let version = image[0];
-            let types = tables.types;
-            let fields = tables.fields;
-            let variables = tables.variables;
-            let procedures = tables.procedures;
-            let nodes = tables.nodes;
-            let statements = tables.statements;
-            let t = header::part(image, types);
-            let f = header::part(image, fields);
-            let v = header::part(image, variables);
-            let p = header::part(image, procedures);
-            let n = header::part(image, nodes);
-            let s = header::part(image, statements);
-            let answer = check_tables(version, t, f, v, p, n, s, plan);
-            let Ok(()) = answer else {
-                return answer;
-            };
+            Parts::of(image, tables).check_tables(image[0], plan)?;
             fill_bounds(tables, plan);
             Ok(())
         }
