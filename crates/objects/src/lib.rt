@@ -56,10 +56,12 @@ pub fn marked(s: &Words, w: u16, i: u16) -> bool
 }
 
 // A look that leads nowhere.
-fn told(b: bool) -> Look
-    ensures { result ≡ told_by b }
-{
-    if b { Look::Yes } else { Look::No }
+impl From<bool> for Look {
+    fn from(b: bool) -> Look
+        ensures { result ≡ told_by b }
+    {
+        if b { Look::Yes } else { Look::No }
+    }
 }
 
 // Whether one begins where the fields from row k on start, which have cells.
@@ -104,7 +106,9 @@ fn among(f: &[u8], plan: &[u32], tables: Tables, w: u16, k: usize, o: u32) -> Lo
             return Look::Inside(u as usize, rest);
         }
         if rest == size {
-            return told(marked(tables.ends, w, u) || among_first(f, plan, tables.starts, w, j + 1));
+            return Look::from(
+                marked(tables.ends, w, u) || among_first(f, plan, tables.starts, w, j + 1),
+            );
         }
         j += 1;
         rest -= size;
@@ -124,15 +128,7 @@ fn base_cells(plan: &[u32], a: u16) -> u32
 
 // A look o cells into the fields of the record in row r, between its edges: what is behind a base's start begins in the
 // base as in a field.
-fn fields(
-    t: &[u8],
-    f: &[u8],
-    plan: &[u32],
-    tables: Tables,
-    w: u16,
-    r: usize,
-    o: u32,
-) -> Look
+fn fields(t: &[u8], f: &[u8], plan: &[u32], tables: Tables, w: u16, r: usize, o: u32) -> Look
     requires { Typed t.now f.now plan.now × (w < ROWS) × (r < rows_of t.now)
         × ((row_at t.now r).kind ≡ 4) × (0 < o) × (o < held plan.now r) }
     ensures result_value { Edges (begins_at t.now f.now w) (held plan.now) w r
@@ -152,7 +148,7 @@ fn fields(
     if o < before {
         return Look::Inside(base as usize, o);
     }
-    told(marked(tables.ends, w, base) || among_first(f, plan, tables.starts, w, first))
+    Look::from(marked(tables.ends, w, base) || among_first(f, plan, tables.starts, w, first))
 }
 
 // A look o cells into elements of type row e, which have more: where one ends the next starts.
@@ -169,19 +165,11 @@ fn elements(plan: &[u32], tables: Tables, w: u16, e: u16, o: u32) -> Look
     if 0 < inside {
         return Look::Inside(e as usize, inside);
     }
-    told(marked(tables.starts, w, e) || marked(tables.ends, w, e))
+    Look::from(marked(tables.starts, w, e) || marked(tables.ends, w, e))
 }
 
 // A look o cells into the parts of type row r, between its edges: it is an array or a record.
-fn parts(
-    t: &[u8],
-    f: &[u8],
-    plan: &[u32],
-    tables: Tables,
-    w: u16,
-    r: usize,
-    o: u32,
-) -> Look
+fn parts(t: &[u8], f: &[u8], plan: &[u32], tables: Tables, w: u16, r: usize, o: u32) -> Look
     requires { Typed t.now f.now plan.now × (w < ROWS) × (r < rows_of t.now) × (0 < o)
         × (o < held plan.now r) }
     ensures result_value { Edges (begins_at t.now f.now w) (held plan.now) w r
@@ -199,15 +187,7 @@ fn parts(
 }
 
 // Whether one begins o cells into the parts of type row r, between its edges, at any depth.
-fn reached(
-    t: &[u8],
-    f: &[u8],
-    plan: &[u32],
-    tables: Tables,
-    w: u16,
-    r: u16,
-    o: u32,
-) -> bool
+fn reached(t: &[u8], f: &[u8], plan: &[u32], tables: Tables, w: u16, r: u16, o: u32) -> bool
     requires { Typed t.now f.now plan.now × (w < ROWS) × (r < rows_of t.now) × (0 < o)
         × (o < held plan.now r) }
     ensures { Edges (begins_at t.now f.now w) (held plan.now) w r tables.entry.starts.now tables.entry.ends.now

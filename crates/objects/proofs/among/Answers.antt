@@ -43,13 +43,13 @@ returns-then-rest-size-2 c = let l = c.loop-rest in
       by_index = λ deeper e m edges fields.
           let here = l.invariant.2 e m fields in
           let whole = sym (l.invariant.3 deeper e m edges fields) in
-          looks_told deeper c.told.ensures (elim c.if-marked.branch [
-            | then-marked w ↦ w.told-is ∙ w.if-marked.true ∙ sym (turn_yes edges here this refl (omega arith) c.marked.ensures w.if-marked.true) ∙ whole
+          looks_told deeper c.from.ensures (elim c.if-marked.branch [
+            | then-marked w ↦ w.from-is ∙ w.if-marked.true ∙ sym (turn_yes edges here this refl (omega arith) c.marked.ensures w.if-marked.true) ∙ whole
             | else-marked w ↦
-                w.told-is ∙ w.among_first.ensures deeper e m _ edges (fields_next here this refl (omega arith))
+                w.from-is ∙ w.among_first.ensures deeper e m _ edges (fields_next here this refl (omega arith))
                 ∙ sym (turn_end edges here this refl (omega arith) c.marked.ensures w.if-marked.false) ∙ whole
           ]);
-      lower = λ e m fields. below_told _ c.told.ensures;
+      lower = λ e m fields. below_told _ c.from.ensures;
     }
 
 pub overflow_add-j-in-loop-rest : goal.overflow_add-j-in-loop-rest

@@ -24,11 +24,11 @@ returns c = let o = c.args.o in
     let size = c.cell-size.result in
     let is = c.cell-size.ensures in record {
       by_index = λ deeper m many edges low within.
-          looks_told deeper c.told.ensures (elim c.if-marked.branch [
-            | then-marked w ↦ w.told-is ∙ w.if-marked.true ∙ sym (parted_yes edges low many is (o / size) (o % size) (div-add-mod' o size) within
+          looks_told deeper c.from.ensures (elim c.if-marked.branch [
+            | then-marked w ↦ w.from-is ∙ w.if-marked.true ∙ sym (parted_yes edges low many is (o / size) (o % size) (div-add-mod' o size) within
                 (omega arith) c.marked.ensures w.if-marked.true)
-            | else-marked w ↦ w.told-is ∙ parted_both edges low many is (o / size) (o % size) (div-add-mod' o size) within
+            | else-marked w ↦ w.from-is ∙ parted_both edges low many is (o / size) (o % size) (div-add-mod' o size) within
                 (omega arith) c.marked.ensures w.if-marked.false (omega (arith, is, c.requires.2)) c.requires.3 w.marked-else-marked.ensures
           ]);
-      lower = λ m low. below_told _ c.told.ensures;
+      lower = λ m low. below_told _ c.from.ensures;
     }

@@ -76,13 +76,13 @@ returns c = let row = c.row_at-row.ensures in
           let own = own_fields c.requires.0 c.args.r c.requires.2 c.requires.3 row size place c.requires.5 in
           let end = sym (base_end c.requires.0 c.args.w c.args.r c.requires.2 c.requires.3 row c.args.o edges
           (base_some _ _ size (omega arith)) c.requires.4 (last ∙ size)) ∙ sym c.marked.ensures in
-          looks_told _ c.told.ensures (elim c.if-marked.branch [
+          looks_told _ c.from.ensures (elim c.if-marked.branch [
             | then-marked w ↦
-                w.told-is ∙ w.if-marked.true
+                w.from-is ∙ w.if-marked.true
                 ∙ sym (record_yes c.requires.0 c.args.r c.requires.2 c.requires.3 row _ size c.args.o (end ∙ w.if-marked.true))
             | else-marked w ↦
-                w.told-is ∙ w.among_first.ensures _ _ c.args.r _ edges own
+                w.from-is ∙ w.among_first.ensures _ _ c.args.r _ edges own
                 ∙ record_no c.requires.0 c.args.r c.requires.2 c.requires.3 row _ size c.args.o (end ∙ w.if-marked.false) last
           ]);
-      lower = below_told _ c.told.ensures;
+      lower = below_told _ c.from.ensures;
     }

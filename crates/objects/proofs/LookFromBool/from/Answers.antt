@@ -1,5 +1,5 @@
 use Rattle.objects.specs.Looking.{told_by}
-use Rattle.objects.proofs.told.Goals as goal
+use Rattle.objects.proofs.LookFromBool.from.Goals as goal
 
 pub returns-then-b : goal.returns-then-b
 unfolding told_by
