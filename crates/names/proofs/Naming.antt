@@ -2,15 +2,16 @@
 use mathlib.Core.Path.{◌≡◌, refl, sym, ◌∙◌, ap}
 use mathlib.Core.List.{List, [], ◌∷◌, ◌++◌, append_assoc, append-nil}
 use mathlib.Core.Bool.{Bool, true, false}
-use Prim.Native.Nat.{ℕ, zero, suc, ◌+◌, ◌-◌, ◌≤◌, ◌<◌}
+use Prim.Native.Nat.{ℕ, zero, suc, ◌+◌, ◌-◌, ◌≤◌, ◌<◌, min}
 use native.Mathlib.Omega.{arith}
 use native.Mathlib.Decide.{dec_lt, ℕ_discrete}
 use native.Mathlib.Nat.{add-zero}
 use native.Mathlib.Numerals.{add-one}
-use borrow.Author.Tests.{lt-ltb, le-ltb, eq-eqb, ne_eqb}
-use lib.Dec.{ltb, eqb}
-use lib.ListN.{length, get_or, set, replicate, length-set}
-use lib.Seq.{get_or-set_same, get_or-set_other}
+use borrow.Author.Tests.{eq-eqb, ne_eqb}
+use lib.Dec.{eqb}
+use lib.ListN.{length, get_or, set, replicate, take, drop, length-set, length-append, length-drop, get_or-append}
+use lib.Seq.{get_or-set_same, get_or-set_other, get_or-take, get_or-drop, length-take-le}
+use Rattle.std.proofs.lemmas.List.{get_or-append_right}
 use Rattle.prelude.specs.Choice.{choose}
 use Rattle.image.specs.declared.Row.{Row}
 use Rattle.image.specs.Rows.{row_at, rows_of}
@@ -35,15 +36,6 @@ names_snoc f i (suc n) =
 names_next : (f : ℕ → List ℕ) (n : ℕ) → names_from f 0 (n + 1) ≡ names_from f 0 n ++ f n
 names_next f n = let q : 0 + n ≡ n = omega arith in rw (add-one n) (rw q at (names_snoc f 0 n))
 
--- rows from b on, and then more of them
-rows_both : (b m n : ℕ) → rows_from b (m + n) ≡ rows_from b m ++ rows_from (b + m) n
-unfolding rows_from
-rows_both b zero n = let q : 0 + n ≡ n = omega arith in rw (q, add-zero b) refl
-rows_both b (suc m) n =
-    let q : b + 1 + m ≡ b + suc m = omega arith in
-    let more : suc m + n ≡ suc (m + n) = omega arith in
-    rw more (ap (λ (l : List ℕ). b ∷ l) (rw q at (rows_both (b + 1) m n)))
-
 count_both : (k : ℕ) (xs ys : List ℕ) → count_in k (xs ++ ys) ≡ count_in k xs + count_in k ys
 unfolding count_in
 count_both k [] ys = omega arith
@@ -55,6 +47,24 @@ unfolding count_in rows_from choose
 count_below k b zero h = refl
 count_below k b (suc n) h =
     let rest = count_below k (b + 1) n (omega arith) in
+    rw (ne_eqb b k (omega arith)) (omega arith)
+
+-- above it and below b + n each is once, and none is past them
+count_within : (k b n : ℕ) → b ≤ k → k < b + n → count_in k (rows_from b n) ≡ 1
+unfolding count_in rows_from choose
+count_within k b zero low high = absurd (omega arith)
+count_within k b (suc n) low high = go (ℕ_discrete b k) (λ h. count_within k (b + 1) n h (omega arith))
+  where
+    go : Dec (b ≡ k) → (b + 1 ≤ k → count_in k (rows_from (b + 1) n) ≡ 1)
+        → choose (eqb b k) 1 0 + count_in k (rows_from (b + 1) n) ≡ 1
+    go (yes q) rest = let none = count_below k (b + 1) n (omega arith) in rw (eq-eqb b k q) (omega arith)
+    go (no q) rest = let one = rest (omega arith) in rw (ne_eqb b k q) (omega arith)
+
+count_past : (k b n : ℕ) → b + n ≤ k → count_in k (rows_from b n) ≡ 0
+unfolding count_in rows_from choose
+count_past k b zero h = refl
+count_past k b (suc n) h =
+    let rest = count_past k (b + 1) n (omega arith) in
     rw (ne_eqb b k (omega arith)) (omega arith)
 
 -- ---- a byte
@@ -205,57 +215,70 @@ module _ (p : List ℕ) (row : Row) where
 
 -- ---- the loops
 
--- the lesser of two numbers
-pub lesser_most : (x y : ℕ) → (choose (ltb x y) x y ≤ x) × (choose (ltb x y) x y ≤ y)
-unfolding choose
-lesser_most x y = go (dec_lt x y)
-  where
-    go : Dec (x < y) → (choose (ltb x y) x y ≤ x) × (choose (ltb x y) x y ≤ y)
-    go (yes h) = rw (lt-ltb x y h) (omega arith, omega arith)
-    go (no h) = rw (le-ltb x y (omega arith)) (omega arith, omega arith)
-
-lesser_least : (x y z : ℕ) → choose (ltb x y) x y ≤ z → z < y → x ≤ z
-unfolding choose
-lesser_least x y z low high = go (dec_lt x y) low
-  where
-    go : Dec (x < y) → choose (ltb x y) x y ≤ z → x ≤ z
-    go (yes h) l = let m = rw (lt-ltb x y h) at l in omega arith
-    go (no h) l = let m = rw (le-ltb x y (omega arith)) at l in omega arith
-
 -- a row of a table more
 pub named_next : (f : ℕ → List ℕ) (i : ℕ) {xs old bytes bytes' : List ℕ} → Named (names_from f 0 i) old bytes
     → Named xs bytes bytes' → xs ≡ f i → Named (names_from f 0 (i + 1)) old bytes'
 named_next f i so_far row e = rw (names_next f i) (named_both so_far (rw e at row))
 
--- none of the rows from `from` on
-pub span_none : (from : ℕ) (bytes : List ℕ) → Named (rows_from from (from - from)) bytes bytes
-unfolding rows_from
-span_none from bytes = let q : from - from ≡ 0 = omega arith in rw q (named_none bytes)
+-- a part of the table, from the first of the rows on that are named: each of its bytes is named once more
+module _ (from rows first end : ℕ) (old part : List ℕ)
+    (low : first ≡ min (length old) from) (high : end ≡ min (length old) (from + rows))
+    (same : length part ≡ length (take (end - first) (drop first old)))
+    (named : (j : ℕ) → j < length part
+    → get_or part j NEVER ≡ more (get_or (take (end - first) (drop first old)) j NEVER)) where
+  abbrev rest : List ℕ
+  rest = drop (end - first) (drop first old)
 
-module _ (from k : ℕ) (old bytes : List ℕ) (so_far : Named (rows_from from (k - from)) old bytes) where
-  -- one of the rows more
-  pub span_next : {byte : ℕ} → from ≤ k → k < length bytes → byte ≡ more (get_or bytes k NEVER)
-      → Named (rows_from from (k + 1 - from)) old (set bytes k byte)
-  unfolding rows_from
-  span_next low room e =
-      let q : k + 1 - from ≡ k - from + 1 = omega arith in
-      let here : from + (k - from) ≡ k = omega arith in
-      rw (q, rows_both from (k - from) 1, here) (named_both so_far (named_one bytes k room e))
+  front : length (take first old) ≡ first
+  front = length-take-le first old (omega arith)
 
-  -- those that are left have no byte
-  pub span_end : (rows : ℕ) → from ≤ k → k ≤ from + rows
-      → choose (ltb (length old) (from + rows)) (length old) (from + rows) ≤ k
-      → Named (rows_from from rows) old bytes
-  span_end rows low high done = go (ℕ_discrete k (from + rows))
+  left : length (drop first old) ≡ length old - first
+  left = length-drop first old
+
+  long : length part ≡ end - first
+  long = same ∙ length-take-le (end - first) (drop first old) (omega (arith, left))
+
+  cell : (k : ℕ) → first ≤ k → get_or (drop first old) (k - first) NEVER ≡ get_or old k NEVER
+  cell k h = let here : first + (k - first) ≡ k = omega arith in rw here at (get_or-drop first old (k - first) NEVER)
+
+  pub rows_named : Named (rows_from from rows) old (take first old ++ (part ++ rest))
+  unfolding after
+  rows_named = record {
+    rows = omega (
+      arith,
+      length-append (take first old) (part ++ rest),
+      length-append part rest,
+      front,
+      long,
+      left,
+      length-drop (end - first) (drop first old),
+    );
+    each = λ k h. go k h (dec_lt k first) (dec_lt k end);
+  }
     where
-      go : Dec (k ≡ from + rows) → Named (rows_from from rows) old bytes
-      go (yes q) = let all : k - from ≡ rows = omega arith in rw all at so_far
-      go (no q) =
-          let parts : rows ≡ k - from + (from + rows - k) = omega arith in
-          let here : from + (k - from) ≡ k = omega arith in
-          let past = lesser_least (length old) (from + rows) k done (omega arith) in
-          rw (parts, rows_both from (k - from) (from + rows - k), here)
-          (named_both so_far (named_past _ bytes (λ j h. count_below j k _ (omega (arith, so_far.rows)))))
+      behind : (k : ℕ) → first ≤ k
+          → get_or (take first old ++ (part ++ rest)) k NEVER ≡ get_or (part ++ rest) (k - first) NEVER
+      behind k h = get_or-append_right (take first old) (part ++ rest) first k NEVER front h
+
+      go : (k : ℕ) → k < length old → Dec (k < first) → Dec (k < end)
+          → get_or (take first old ++ (part ++ rest)) k NEVER
+          ≡ after (count_in k (rows_from from rows)) (get_or old k NEVER)
+      go k h (yes l) e =
+          rw (count_below k from rows (omega arith))
+          (get_or-append (take first old) (part ++ rest) NEVER k (rw front l) ∙ get_or-take first old k NEVER l)
+      go k h (no l) (yes e) =
+          rw (count_within k from rows (omega arith) (omega arith))
+          (behind k (omega arith)
+          ∙ get_or-append part rest NEVER (k - first) (omega (arith, long))
+          ∙ named (k - first) (omega (arith, long))
+          ∙ ap more (get_or-take (end - first) (drop first old) (k - first) NEVER (omega arith) ∙ cell k (omega arith)))
+      go k h (no l) (no e) =
+          let at : end - first + (k - first - (end - first)) ≡ k - first = omega arith in
+          rw (count_past k from rows (omega arith))
+          (behind k (omega arith)
+          ∙ get_or-append_right part rest (end - first) (k - first) NEVER long (omega arith)
+          ∙ rw at at (get_or-drop (end - first) (drop first old) (k - first - (end - first)) NEVER)
+          ∙ cell k (omega arith))
 
 -- ---- the verdict
 

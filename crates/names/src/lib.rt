@@ -20,6 +20,7 @@ const ONCE: u8 = 1;
 const MORE: u8 = 2;
 
 // After one name more.
+#[tactic(auto, unfolding(crate::specs::Often::more, prelude::specs::Choice::choose))]
 fn more(byte: u8) -> u8
     ensures { result ≡ more_of byte }
 {
@@ -32,84 +33,53 @@ fn more(byte: u8) -> u8
 fn name(often: &mut [u8], named: bool, k: u16)
     ensures { Named (choose named (k ∷ []) []) often.old often.new }
 {
-    if !named {
-        return;
-    }
     let row = k as usize;
-    if row < often.len() {
-        let byte = often[row];
-        often[row] = more(byte);
+    if named && row < often.len() {
+        often[row] = more(often[row]);
     }
-}
-
-fn lesser(x: usize, y: usize) -> usize
-    ensures { result ≡ choose (ltb x y) x y }
-{
-    if x < y { x } else { y }
 }
 
 // So many rows from `from` on. The loop stores each byte, without a test, so that the compiler takes many at a time.
 fn name_rows(often: &mut [u8], from: u16, rows: u16)
     ensures { Named (rows_from from rows) often.old often.new }
 {
+    let length = often.len();
     let first = from as usize;
-    let past = first + rows as usize;
-    let end = lesser(often.len(), past);
-    let mut k = first;
-    while k < end {
-        let byte = often[k];
-        often[k] = more(byte);
-        k = k + 1;
+    let end = length.min(first + rows as usize);
+    for byte in &mut often[length.min(first)..end] {
+        *byte = more(*byte);
     }
 }
 
 // Whether a, or b, is a name in a node of that kind. They are asked apart: one match for both is a jump to many places,
 // which the processor foresees less often.
+#[tactic(auto, unfolding(crate::specs::Often::node_names_a))]
 fn node_names_a(kind: u8) -> bool
     ensures { result ≡ node_names_a kind }
 {
-    match kind {
-        2 => true,
-        3 => true,
-        5 => true,
-        6 => true,
-        8 => true,
-        _ => false,
-    }
+    matches!(kind, 2 | 3 | 5 | 6 | 8)
 }
 
+#[tactic(auto, unfolding(crate::specs::Often::node_names_b))]
 fn node_names_b(kind: u8) -> bool
     ensures { result ≡ node_names_b kind }
 {
-    match kind {
-        3 => true,
-        5 => true,
-        _ => false,
-    }
+    matches!(kind, 3 | 5)
 }
 
 // What a node names.
 fn name_node(often: &mut [u8], row: Row)
     ensures { Named (names_of_node row) often.old often.new }
 {
-    let kind = row.kind;
-    let a = row.a;
-    let b = row.b;
-    name(often, node_names_a(kind), a);
-    name(often, node_names_b(kind), b);
+    name(often, node_names_a(row.kind), row.a);
+    name(often, node_names_b(row.kind), row.b);
 }
 
+#[tactic(auto, unfolding(crate::specs::Often::statement_names_a))]
 fn statement_names_a(kind: u8) -> bool
     ensures { result ≡ statement_names_a kind }
 {
-    match kind {
-        0 => true,
-        2 => true,
-        5 => true,
-        6 => true,
-        7 => true,
-        _ => false,
-    }
+    matches!(kind, 0 | 2 | 5 | 6 | 7)
 }
 
 // The arguments of a call.
@@ -117,23 +87,16 @@ fn name_arguments(p: &[u8], often: &mut [u8], row: Row)
     ensures { Named (rows_from row.b (row_at p.now row.a).b) often.old
         often.new }
 {
-    let a = row.a as usize;
-    let b = row.b;
-    let called = image::row_at(p, a);
-    let parameters = called.b;
-    name_rows(often, b, parameters);
+    name_rows(often, row.b, image::row_at(p, row.a as usize).b);
 }
 
 // What a statement names.
 fn name_statement(p: &[u8], often: &mut [u8], row: Row)
     ensures { Named (names_of_statement p.now row) often.old often.new }
 {
-    let kind = row.kind;
-    let a = row.a;
-    let b = row.b;
-    name(often, statement_names_a(kind), a);
-    name(often, kind == 0, b);
-    if kind == 1 {
+    name(often, statement_names_a(row.kind), row.a);
+    name(often, row.kind == 0, row.b);
+    if row.kind == 1 {
         name_arguments(p, often, row);
     }
 }
@@ -142,12 +105,8 @@ fn name_nodes(n: &[u8], often: &mut [u8])
     ensures { Named (names_from (λ i. names_of_node (row_at n.now i)) 0 (rows_of n.now))
         often.old often.new }
 {
-    let nodes = image::rows_of(n);
-    let mut i: usize = 0;
-    while i < nodes {
-        let row = image::row_at(n, i);
-        name_node(often, row);
-        i = i + 1;
+    for i in 0..image::rows_of(n) {
+        name_node(often, image::row_at(n, i));
     }
 }
 
@@ -155,12 +114,8 @@ fn name_statements(p: &[u8], s: &[u8], often: &mut [u8])
     ensures { Named (names_from (λ i. names_of_statement p.now (row_at s.now i)) 0
         (rows_of s.now)) often.old often.new }
 {
-    let statements = image::rows_of(s);
-    let mut i: usize = 0;
-    while i < statements {
-        let row = image::row_at(s, i);
-        name_statement(p, often, row);
-        i = i + 1;
+    for i in 0..image::rows_of(s) {
+        name_statement(p, often, image::row_at(s, i));
     }
 }
 
@@ -180,14 +135,10 @@ fn each_once(often: &[u8], rows: usize) -> Result<(), u16>
     requires { (rows ≤ 2048) × (rows ≤ length often.now) }
     ensures { result ≡ lowest_fault (λ k. eqb (get_or often.now k NEVER) ONCE) rows }
 {
-    let mut k: usize = 0;
-    while k < rows {
-        let byte = often[k];
-        if byte != ONCE {
-            let bad = k as u16;
-            return Err(bad);
+    for k in 0..rows {
+        if often[k] != ONCE {
+            return Err(k as u16);
         }
-        k = k + 1;
     }
     Ok(())
 }

@@ -1,12 +1,13 @@
 use Rattle.names.proofs.Naming.{name_there, name_beyond, no_name}
 use Rattle.names.proofs.name.Goals as goal
-
-pub returns-then-not-named : goal.returns-then-not-named
-returns-then-not-named c = no_name _ _ _ c.if-not-named.true
+use Rattle.names.proofs.name.Goals.{else-named-via-then-named+else-row-often, else-named-via-else-named}
 
 pub returns-then-row-often : goal.returns-then-row-often
 returns-then-row-often c =
-    name_there _ _ _ c.if-not-named.false c.if-row-often.true c.more.ensures
+    name_there _ _ _ c.if-named.true c.if-row-often.true c.more.ensures
 
-pub returns-else-row-often : goal.returns-else-row-often
-returns-else-row-often c = name_beyond _ _ _ c.if-not-named.false c.if-row-often.false
+pub returns-else-named : goal.returns-else-named
+returns-else-named c = elim c.else-named.branch [
+  | else-named-via-then-named+else-row-often w ↦ name_beyond _ _ _ w.if-named.true w.if-row-often.false
+  | else-named-via-else-named w ↦ no_name _ _ _ w.if-named.false
+]

@@ -7,22 +7,15 @@ use Rattle.names.proofs.name_nodes.Goals as goal
 
 pub loop-i-init : goal.loop-i-init
 unfolding names_from
-loop-i-init c = (omega arith, named_none _)
-
-pub loop-i-smaller : goal.loop-i-smaller
-loop-i-smaller c = omega arith
+loop-i-init c = named_none _
 
 pub loop-i-preserved : goal.loop-i-preserved
 loop-i-preserved c =
-    let this = c.row_at-row.ensures in
-    (omega arith, named_next _ _ c.loop-i.invariant.1 c.name_node.ensures (rw this))
-
-pub shape_of-often : goal.shape_of-often
-shape_of-often c = c.loop-i.invariant.1.rows
+    named_next _ _ c.loop-i.invariant c.name_node.ensures (rw c.row_at.ensures)
 
 pub returns : goal.returns
 returns c =
     let l = c.loop-i in
-    let rows = c.rows_of-nodes.ensures in
+    let rows = c.rows_of-i-end.ensures in
     let all : l.i ≡ rows_of c.args.n.now = omega arith in
-    rw all at l.invariant.1
+    rw all at l.invariant
