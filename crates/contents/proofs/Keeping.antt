@@ -7,8 +7,8 @@ use native.Mathlib.Numerals.{add-one}
 use native.Mathlib.Omega.{arith}
 use borrow.Author.Tests.{ltb-true, ltb-false, ne_eqb}
 use lib.IntN.{ℤ, pos, negsuc}
-use lib.ListN.{length, get_or, drop, replicate}
-use lib.Seq.{drop-cons, drop-drop}
+use lib.ListN.{length, get_or, take, drop, replicate, length-drop}
+use lib.Seq.{drop-cons, drop-drop, length-take-le, get_or-take, get_or-drop}
 use lib.Signed.{lt_z}
 use mir.Syntax.{w64}
 use mir.Val.{SFits, to_z, of_z}
@@ -88,3 +88,15 @@ kept_append (k ∷ a) b (z ∷ l) = rw (kept_append a b l) (sym (also_assoc (is_
 pub kept_then : (a b : List ℕ) (store : List ℤ) (at size : ℕ) → length a ≡ size
     → values_kept (a ++ b) (drop at store) ≡ (values_kept a (drop at store) also values_kept b (drop (at + size) store))
 kept_then a b store at size e = kept_append a b (drop at store) ∙ rw (e, drop-drop size at store)
+
+-- ---- the part of a store from a on
+
+module _ (store : List ℤ) (a n : ℕ) where
+  pub part_size : a + n ≤ length store → length (take (a + n - a) (drop a store)) ≡ n
+  part_size room =
+      let same : a + n - a ≡ n = omega arith in
+      rw same (length-take-le n (drop a store) (omega (arith, length-drop a store)))
+
+  pub part_cell : (i : ℕ) → i < n → get_or (take (a + n - a) (drop a store)) i (pos 0) ≡ get_or store (a + i) (pos 0)
+  part_cell i h =
+      get_or-take (a + n - a) (drop a store) i (pos 0) (omega arith) ∙ get_or-drop a store i (pos 0)

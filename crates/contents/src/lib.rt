@@ -50,39 +50,32 @@ fn joint(k: u8, j: u8) -> u8
     if j == EMPTY {
         return k;
     }
-    if k != j {
+    if k != j || EMPTY <= k {
         return MIXED;
     }
-    if k < EMPTY {
-        return k;
-    }
-    MIXED
+    k
 }
 
 // A record's base.
 fn base_kind(even: &[u8], a: u16) -> u8
     ensures { result ≡ of_base NONE (λ u. get_or even.now u 0) a }
 {
-    if a == 0 {
+    let Some(base) = a.checked_sub(1) else {
         return EMPTY;
-    }
-    let base = (a as usize) - 1;
-    kind_at(even, base)
+    };
+    kind_at(even, base as usize)
 }
 
 // Cells `before` and then n fields from row k on.
 fn own_kind(f: &[u8], even: &[u8], before: u8, k: u16, n: u16) -> u8
     ensures { result ≡ joint_from before (map (λ u. get_or even.now u 0) (own_types f.now k n)) }
 {
-    let end = (k as usize) + (n as usize);
-    let mut j = k as usize;
+    let first = k as usize;
     let mut kind = before;
-    while j < end {
+    for j in first..first + n as usize {
         let row = image::row_at(f, j);
-        let u = row.a as usize;
-        let next = kind_at(even, u);
+        let next = kind_at(even, row.a as usize);
         kind = joint(kind, next);
-        j = j + 1;
     }
     kind
 }
@@ -92,10 +85,7 @@ fn repeated(r: u8, n: u16, k: u8) -> u8
     requires { r < 64 }
     ensures { result ≡ repeated_of r n k }
 {
-    if n == 1 {
-        return k;
-    }
-    if k < PARTS {
+    if n == 1 || k < PARTS {
         return k;
     }
     PARTS + r
@@ -106,10 +96,7 @@ fn owned(r: u8, k: u8) -> u8
     requires { r < 64 }
     ensures { result ≡ owned_of r k }
 {
-    if k == MIXED {
-        return PARTS + r;
-    }
-    k
+    if k == MIXED { PARTS + r } else { k }
 }
 
 // Type row r, by what the table says of lower rows.
@@ -117,19 +104,15 @@ fn type_kind(f: &[u8], even: &[u8], r: u8, row: Row) -> u8
     requires { r < 64 }
     ensures { result ≡ even_by f.now (λ u. get_or even.now u 0) r (form_of row) }
 {
-    let kind = row.kind;
-    let a = row.a;
-    let b = row.b;
-    let c = row.c;
-    match kind {
-        0..=2 => kind,
+    match row.kind {
+        0..=2 => row.kind,
         3 => {
-            let element = kind_at(even, a as usize);
-            repeated(r, b, element)
+            let element = kind_at(even, row.a as usize);
+            repeated(r, row.b, element)
         }
         4 => {
-            let base = base_kind(even, a);
-            let all = own_kind(f, even, base, b, c);
+            let base = base_kind(even, row.a);
+            let all = own_kind(f, even, base, row.b, row.c);
             owned(r, all)
         }
         _ => EMPTY,
@@ -143,12 +126,9 @@ pub fn fill_even(t: &[u8], f: &[u8], even: &mut [u8])
         even.old even.new }
 {
     let rows = image::rows_of(t);
-    let mut r: usize = 0;
-    while r < rows {
+    for r in 0..rows {
         let row = image::row_at(t, r);
-        let kind = type_kind(f, even, r as u8, row);
-        even[r] = kind;
-        r = r + 1;
+        even[r] = type_kind(f, even, r as u8, row);
     }
 }
 
@@ -176,23 +156,17 @@ fn highest(kind: u8) -> i64
 }
 
 // Whether n cells from address a on hold values of this kind.
-fn run(store: &&[i64], kind: u8, a: u32, n: u32) -> bool
-    requires { (length store.now.now ≤ 65536) × (kind < NONE) × (a + n ≤ length store.now.now) }
-    ensures { result ≡ values_kept (replicate n kind) (drop a store.now.now) }
+fn run(store: &[i64], kind: u8, a: u32, n: u32) -> bool
+    requires { (length store.now ≤ 65536) × (kind < NONE) × (a + n ≤ length store.now) }
+    ensures { result ≡ values_kept (replicate n kind) (drop a store.now) }
 {
     let low = lowest(kind);
     let high = highest(kind);
-    let end = a + n;
-    let mut at = a;
-    while at < end {
-        let z = (*store)[at as usize];
-        if z < low {
+    let start = a as usize;
+    for z in &store[start..start + n as usize] {
+        if *z < low || high < *z {
             return false;
         }
-        if high < z {
-            return false;
-        }
-        at = at + 1;
     }
     true
 }
@@ -226,7 +200,7 @@ fn object(t: &&[u8], f: &&[u8], plan: &&[u32], even: &&[u8], store: &&[i64], r: 
     let kind = told(*even, r);
     if kind < EMPTY {
         let size = size_of(*plan, r);
-        return run(store, kind, a, size);
+        return run(*store, kind, a, size);
     }
     if kind == EMPTY {
         return true;
@@ -259,14 +233,12 @@ fn parted(t: &&[u8], f: &&[u8], plan: &&[u32], even: &&[u8], store: &&[i64], r: 
     let size = size_of(*plan, first);
     let kind = told(*even, first);
     let core = (kind - PARTS) as u16;
-    let mut left = second;
     let mut at = a;
-    while 0 < left {
+    for _ in 0..second {
         if !parted(t, f, plan, even, store, core, at) {
             return false;
         }
-        at = at + size;
-        left = left - 1;
+        at += size;
     }
     true
 }
@@ -280,10 +252,9 @@ fn based(t: &&[u8], f: &&[u8], plan: &&[u32], even: &&[u8], store: &&[i64], b: u
     ensures { result ≡ values_kept (of_base [] (layout_of t.now.now f.now.now) b)
         (drop a store.now.now) }
 {
-    if b == 0 {
+    let Some(base) = b.checked_sub(1) else {
         return true;
-    }
-    let base = b - 1;
+    };
     object(t, f, plan, even, store, base, a)
 }
 
@@ -308,20 +279,17 @@ fn fields(
         (joined (map (layout_of t.now.now f.now.now) (own_types f.now.now k n)))
         (drop a store.now.now) }
 {
-    let end = (k as usize) + (n as usize);
-    let mut j = k as usize;
+    let first = k as usize;
     let mut at = a;
-    while j < end {
+    for j in first..first + n as usize {
         let u = image::a_at(*f, j);
-        j = j + 1;
         if told(*even, u) == EMPTY {
             continue;
         }
         if !object(t, f, plan, even, store, u, at) {
             return false;
         }
-        let size = size_of(*plan, u);
-        at = at + size;
+        at += size_of(*plan, u);
     }
     true
 }

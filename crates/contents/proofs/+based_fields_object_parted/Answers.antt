@@ -1,3 +1,5 @@
+use mathlib.Core.Path.{◌≡◌}
+use Prim.Native.Nat.{◌+◌, ◌-◌}
 use native.Mathlib.Omega.{arith}
 use Rattle.contents.proofs.Parting.{in_even, in_plan, run_room, held_run, held_none, held_core, stands}
 use Rattle.contents.proofs.Parting.{element_there, element_parts, elements_first, element_inside, element_fails}
@@ -6,25 +8,24 @@ use Rattle.contents.proofs.Parting.{base_some, fields_first, field_below, field_
 use Rattle.contents.proofs.Parting.{fields_skip, fields_end, record_fails, record_holds}
 use Rattle.contents.proofs.+based_fields_object_parted.Goals as goal
 
-pub based-returns-then-b-eq0 : goal.based-returns-then-b-eq0
-based-returns-then-b-eq0 t c = base_none c.requires.0 c.args.a c.if-b-eq0.true
+pub based-returns-in_default : goal.based-returns-in_default
+based-returns-in_default t c = base_none c.requires.0 c.args.a (omega (arith, c.in_default.ensures))
 
 pub based-object-requires : goal.based-object-requires
 based-object-requires t c =
     let p = c.requires in
-    (omega (arith, c.decreases), (p.0, base_inside p.0 (omega arith) p.1 p.2))
+    let some = c.in-Some.ensures in
+    (omega (arith, c.decreases, some.1), (p.0, rw some.1 (base_inside p.0 (omega arith) p.1 p.2)))
 
 pub based-returns : goal.based-returns
-based-returns t c = base_some c.requires.0 c.args.a (omega arith) c.object.ensures
+based-returns t c = let some = c.in-Some.ensures in
+    base_some c.requires.0 c.args.a (omega arith) (rw some.1 at c.object.ensures)
 
 pub fields-loop-j-init : goal.fields-loop-j-init
 fields-loop-j-init t c = fields_first c.requires.0 c.args.k c.args.n c.args.a c.requires.4
 
 pub fields-a_at-u-requires : goal.fields-a_at-u-requires
 fields-a_at-u-requires t c = omega (arith, c.requires.2)
-
-pub fields-overflow_add-j : goal.fields-overflow_add-j
-fields-overflow_add-j t c = omega (arith, c.requires.2)
 
 pub fields-told-requires : goal.fields-told-requires
 fields-told-requires t c =
@@ -60,8 +61,8 @@ fields-returns-then-not-object t c =
     field_fails p.0 p.1 p.3 l.invariant more c.a_at-u.ensures
     c.object.ensures c.if-not-object.true
 
-pub fields-size_of-size-requires : goal.fields-size_of-size-requires
-fields-size_of-size-requires t c =
+pub fields-size_of-at-requires : goal.fields-size_of-at-requires
+fields-size_of-at-requires t c =
     let p = c.requires in
     let l = c.loop-j in
     let more = c.loop-j-test.true in
@@ -75,7 +76,7 @@ fields-overflow_add-at t c =
     let l = c.loop-j in
     let more = c.loop-j-test.true in
     let this = c.a_at-u.ensures in
-    let room = run_room p.0 (field_inside p.0 p.1 p.3 l.invariant more this) c.size_of-size.ensures in
+    let room = run_room p.0 (field_inside p.0 p.1 p.3 l.invariant more this) c.size_of-at.ensures in
     omega (arith, p.0.most)
 
 pub fields-loop-j-preserved : goal.fields-loop-j-preserved
@@ -84,7 +85,7 @@ fields-loop-j-preserved t c =
     let l = c.loop-j in
     let more = c.loop-j-test.true in
     fields_next p.0 p.1 p.3 l.invariant more
-    c.a_at-u.ensures c.size_of-size.ensures
+    c.a_at-u.ensures c.size_of-at.ensures
     c.object.ensures c.if-not-object.false
 
 pub fields-returns : goal.fields-returns
@@ -181,39 +182,43 @@ parted-overflow_sub-core t c =
     element_parts p.0 p.1 p.2 c.row_at-row.ensures
     c.if-row-eq4.false c.told-kind.ensures
 
-pub parted-loop-left-init : goal.parted-loop-left-init
-parted-loop-left-init t c =
+pub parted-loop-init : goal.parted-loop-init
+parted-loop-init t c =
     let p = c.requires in
-    elements_first p.0 p.1 p.2 c.row_at-row.ensures
-    c.if-row-eq4.false c.size_of-size.ensures c.told-kind.ensures
+    let second = c.row_at-row.result.b in
+    let all : second - 0 ≡ second = omega arith in
+    rw all
+    (elements_first p.0 p.1 p.2 c.row_at-row.ensures
+    c.if-row-eq4.false c.size_of-size.ensures c.told-kind.ensures)
 
 pub parted-parted-requires : goal.parted-parted-requires
 parted-parted-requires t c =
     let p = c.requires in
-    let l = c.loop-left.invariant in
+    let l = c.loop.invariant in
     let low = l.low in
-    (omega (arith, c.decreases), (p.0, element_inside p.0 p.1 l c.loop-left-test.true, l.own))
+    (omega (arith, c.decreases), (p.0, element_inside p.0 p.1 l (omega arith), l.own))
 
 pub parted-returns-then-not-parted : goal.parted-returns-then-not-parted
 parted-returns-then-not-parted t c =
     let p = c.requires in
-    element_fails p.0 p.1 c.loop-left.invariant c.loop-left-test.true
-    c.parted.ensures c.if-not-parted.true
+    element_fails p.0 p.1 c.loop.invariant (omega arith) c.parted.ensures c.if-not-parted.true
 
 pub parted-overflow_add-at : goal.parted-overflow_add-at
 parted-overflow_add-at t c =
     let p = c.requires in
-    let l = c.loop-left.invariant in
-    let room = (element_inside p.0 p.1 l c.loop-left-test.true).room in
+    let l = c.loop.invariant in
+    let room = (element_inside p.0 p.1 l (omega arith)).room in
     omega (arith, p.0.most, l.sized)
 
-pub parted-loop-left-preserved : goal.parted-loop-left-preserved
-parted-loop-left-preserved t c =
+pub parted-loop-preserved : goal.parted-loop-preserved
+parted-loop-preserved t c =
     let p = c.requires in
-    elements_next p.0 p.1 c.loop-left.invariant c.loop-left-test.true
-    c.parted.ensures c.if-not-parted.false
+    let second = c.row_at-row.result.b in
+    let one : second - c.loop.counter - 1 ≡ second - (c.loop.counter + 1) = omega arith in
+    rw one at
+    (elements_next p.0 p.1 c.loop.invariant (omega arith) c.parted.ensures c.if-not-parted.false)
 
 pub parted-returns : goal.parted-returns
 parted-returns t c =
     let p = c.requires in
-    elements_end p.0 p.1 c.loop-left.invariant c.loop-left-test.false
+    elements_end p.0 p.1 c.loop.invariant (omega arith)

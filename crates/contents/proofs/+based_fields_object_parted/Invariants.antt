@@ -17,12 +17,5 @@ decreases-parted l = 3 * l.r + 1
 abbrev pub invariant-fields-loop-j : goal.invariant-fields-loop-j
 invariant-fields-loop-j l = Fields l.t.now l.f.now l.store.now l.k l.n l.a l.j l.at
 
-abbrev pub decreases-fields-loop-j : goal.decreases-fields-loop-j
-decreases-fields-loop-j l = l.end - l.j
-
-abbrev pub invariant-parted-loop-left : goal.invariant-parted-loop-left
-invariant-parted-loop-left l =
-    Elements l.t.now l.f.now l.store.now l.r l.a l.core l.size l.left l.at
-
-abbrev pub decreases-parted-loop-left : goal.decreases-parted-loop-left
-decreases-parted-loop-left l = l.left
+abbrev pub invariant-parted-loop : goal.invariant-parted-loop
+invariant-parted-loop l = Elements l.t.now l.f.now l.store.now l.r l.a l.core l.size (l.second - l.counter) l.at

@@ -1,12 +1,13 @@
-use borrow.Author.Tests.{eq-eqb, ne_eqb}
 use Rattle.prelude.specs.Choice.{choose}
+use Rattle.prelude.proofs.Choice.{tests}
 use Rattle.contents.specs.Kinds.{owned}
 use Rattle.contents.proofs.owned.Goals as goal
 
+-- `contents::owned` meets its contract: the tests are those of the definition.
 pub returns-then-k-eq-MIXED : goal.returns-then-k-eq-MIXED
 unfolding owned choose
-returns-then-k-eq-MIXED c = rw (eq-eqb _ 255 c.if-k-eq-MIXED.true)
+returns-then-k-eq-MIXED c = search tests
 
-pub returns : goal.returns
+pub returns-else-k-eq-MIXED : goal.returns-else-k-eq-MIXED
 unfolding owned choose
-returns c = rw (ne_eqb _ 255 c.if-k-eq-MIXED.false)
+returns-else-k-eq-MIXED c = search tests

@@ -1,66 +1,66 @@
-use mathlib.Core.Path.{sym, ◌∙◌}
+use mathlib.Core.Path.{◌≡◌, sym, ◌∙◌}
+use mathlib.Core.List.{List}
+use Prim.Native.Nat.{◌+◌, ◌≤◌, ◌<◌}
 use native.Mathlib.Nat.{add-sub_cancel_left}
 use native.Mathlib.Omega.{arith}
-use lib.IntN.{pos}
+use borrow.Author.Rules.{rules}
+use lib.IntN.{ℤ, pos}
 use lib.ListN.{get_or}
 use mir.Syntax.{w64}
 use mir.Val.{SFits}
 use Rattle.prelude.proofs.Choice.{also_left, also_pass}
-use Rattle.contents.proofs.Keeping.{compared, too_low, too_high, in_range, run_step, run_end}
+use Rattle.contents.proofs.Keeping.{compared, too_low, too_high, in_range, run_step, run_end, part_size, part_cell}
+use Rattle.contents.proofs.run.Goals.{then-z-low-via-then-z-low, then-z-low-via-else-z-low+then-high-z}
 use Rattle.contents.proofs.run.Goals as goal
 
-pub overflow_add-end : goal.overflow_add-end
-overflow_add-end c = let p = c.requires in omega (arith, p.0, p.2)
-
-pub loop-at-init : goal.loop-at-init
-loop-at-init c = let a = c.args in
-    (omega arith, omega arith, rw (add-sub_cancel_left a.a a.n))
-
-pub offset_bounds-store-at : goal.offset_bounds-store-at
-offset_bounds-store-at c = let p = c.requires in omega (arith, p.0, p.2)
+pub loop-z-init : goal.loop-z-init
+loop-z-init c = let none : c.args.a + 0 ≡ c.args.a = omega arith in
+    rw (none, add-sub_cancel_left c.args.a c.args.n)
 
 pub returns-then-z-low : goal.returns-then-z-low
 returns-then-z-low c =
-    let l = c.loop-at in
-    let low = c.lowest-low in
-    let z = get_or c.args.store.now.now l.at (pos 0) in
-    let less = compared z low.result (record { sfits = c.z-1.given }) (record { sfits = low.type_inv }) c.if-z-low.true in
-    sym (l.invariant.2 ∙ run_step _ _ l.at _ c.loop-at-test.true c.requires.2
-    ∙ also_left _ (too_low _ z c.requires.1 (rw low.ensures at less)))
-
-pub returns-then-high-z : goal.returns-then-high-z
-returns-then-high-z c =
-    let l = c.loop-at in
+    let a = c.args in
+    let l = c.loop-z in
+    let at = a.a + l.z-index in
+    let store : List ℤ = a.store.now in
+    let more : l.z-index < a.n = omega (arith, part_size store a.a a.n c.requires.2) in
+    let here = part_cell store a.a a.n l.z-index more in
     let low = c.lowest-low in
     let high = c.highest-high in
-    let z = get_or c.args.store.now.now l.at (pos 0) in
-    let fits : SFits w64 z = record { sfits = c.z-1.given } in
-    let less = compared z low.result fits (record { sfits = low.type_inv }) c.if-z-low.false in
-    let more = compared high.result z (record { sfits = high.type_inv }) fits c.if-high-z.true in
-    sym (l.invariant.2 ∙ run_step _ _ l.at _ c.loop-at-test.true c.requires.2
-    ∙ also_left _ (too_high _ z c.requires.1 (rw low.ensures at less) (rw high.ensures at more)))
+    let z = get_or store at (pos 0) in
+    let fits : SFits w64 z = rw (← here) (search rules) in
+    let step = l.invariant ∙ run_step a.kind store at (a.a + a.n) (omega arith) c.requires.2 in
+    elim c.then-z-low.branch [
+        then-z-low-via-then-z-low w ↦
+          let less = compared z low.result fits (record { sfits = low.type_inv }) (rw here at w.if-z-low.true) in
+          sym (step ∙ also_left _ (too_low _ z c.requires.1 (rw low.ensures at less)))
+      | then-z-low-via-else-z-low+then-high-z w ↦
+          let less = compared z low.result fits (record { sfits = low.type_inv }) (rw here at w.if-z-low.false) in
+          let more = compared high.result z (record { sfits = high.type_inv }) fits (rw here at w.if-high-z.true) in
+          sym (step ∙ also_left _ (too_high _ z c.requires.1 (rw low.ensures at less) (rw high.ensures at more)))
+    ]
 
-pub overflow_add-at : goal.overflow_add-at
-overflow_add-at c = omega arith
-
-pub loop-at-smaller : goal.loop-at-smaller
-loop-at-smaller c = omega arith
-
-pub loop-at-preserved : goal.loop-at-preserved
-loop-at-preserved c =
-    let l = c.loop-at in
+pub loop-z-preserved : goal.loop-z-preserved
+loop-z-preserved c =
+    let a = c.args in
+    let l = c.loop-z in
+    let at = a.a + l.z-index in
+    let store : List ℤ = a.store.now in
+    let more : l.z-index < a.n = omega (arith, part_size store a.a a.n c.requires.2) in
+    let here = part_cell store a.a a.n l.z-index more in
     let low = c.lowest-low in
     let high = c.highest-high in
-    let z = get_or c.args.store.now.now l.at (pos 0) in
-    let fits : SFits w64 z = record { sfits = c.z-1.given } in
-    let less = compared z low.result fits (record { sfits = low.type_inv }) c.if-z-low.false in
-    let more = compared high.result z (record { sfits = high.type_inv }) fits c.if-high-z.false in (
-      omega arith,
-      omega arith,
-      l.invariant.2
-          ∙ run_step _ _ l.at _ c.loop-at-test.true c.requires.2
-          ∙ also_pass _ (in_range _ z c.requires.1 (rw low.ensures at less) (rw high.ensures at more)),
-    )
+    let z = get_or store at (pos 0) in
+    let fits : SFits w64 z = rw (← here) (search rules) in
+    let step = l.invariant ∙ run_step a.kind store at (a.a + a.n) (omega arith) c.requires.2 in
+    let less = compared z low.result fits (record { sfits = low.type_inv }) (rw here at c.if-z-low.false) in
+    let most = compared high.result z (record { sfits = high.type_inv }) fits (rw here at c.if-high-z.false) in
+    let next : a.a + (l.z-index + 1) ≡ at + 1 = omega arith in
+    rw next (step ∙ also_pass _ (in_range _ z c.requires.1 (rw low.ensures at less) (rw high.ensures at most)))
 
 pub returns : goal.returns
-returns c = let l = c.loop-at in sym (l.invariant.2 ∙ run_end _ _ l.at _ c.loop-at-test.false)
+returns c =
+    let a = c.args in
+    let l = c.loop-z in
+    let end : a.a + a.n ≤ a.a + l.z-index = omega (arith, part_size a.store.now a.a a.n c.requires.2) in
+    sym (l.invariant ∙ run_end a.kind a.store.now (a.a + l.z-index) (a.a + a.n) end)
