@@ -1,5 +1,6 @@
 -- What the check leaves of an image that it accepts is the plan that a machine needs.
 use Rattle.std.specs.Prelude.{Ok, Err}
+use Rattle.checker.specs.declared.Refusal.{Refusal}
 use Rattle.checker.specs.Check.{refused_at}
 use Rattle.checker.specs.Check.{CheckAnswer}
 use mathlib.Core.Path.{◌≡◌, refl, sym, ◌∙◌}
@@ -178,7 +179,7 @@ opened_ready image old plan x room e check
 -- ---- what `open_image` leaves
 
 -- of a refused image
-pub opened_no : (image old plan : List ℕ) (x : CheckAnswer) {q row : ℕ} → x ≡ Err (refused_at q row) → Prepared image old x plan
+pub opened_no : (image old plan : List ℕ) (x : CheckAnswer) {r : Refusal} → x ≡ Err r → Prepared image old x plan
     → Opened image old x plan
 opened_no image old plan x e p = rw e (closed (rw e at p))
 

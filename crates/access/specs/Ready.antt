@@ -2,6 +2,7 @@
 -- To the cells that `checker` fills, OWNERS + r adds the procedure whose body has statement row r, NODES + r what node
 -- row r designates, and LOWER + r and UPPER + r which of the rows 0 to 31 and 32 to 63 type row r extends.
 use Rattle.std.specs.Prelude.{Ok, Err}
+use Rattle.checker.specs.declared.Refusal.{Refusal}
 use Rattle.checker.specs.Check.{refused_at}
 use Rattle.checker.specs.Check.{CheckAnswer}
 use Rattle.std.specs.Prelude.{ℕ, ◌+◌, ◌≤◌, ◌<◌, ◌≡◌, List, eqb, length, get_or}
@@ -69,7 +70,7 @@ pub record Ready (image plan : List ℕ) : Type 0 where
 -- what the check leaves in a lent plan, and behind acceptance the procedure of each statement, what each node
 -- designates and what each type extends
 pub data Opened (image old : List ℕ) : CheckAnswer → List ℕ → Type 0 where
-  closed : {q row : ℕ} {plan : List ℕ} → Prepared image old (Err (refused_at q row)) plan → Opened image old (Err (refused_at q row)) plan
+  closed : {x : Refusal} {plan : List ℕ} → Prepared image old (Err x) plan → Opened image old (Err x) plan
   opened : {between owned designated half plan : List ℕ} → Prepared image old (Ok tt) between
       → Filled OWNERS (rows_of (program_of image).statements) (procedure_at (program_of image).procedures) between owned
       → Filled NODES (rows_of (program_of image).nodes) (node_cell (program_of image)) owned designated

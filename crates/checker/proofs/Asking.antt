@@ -1,6 +1,7 @@
 -- Laws of the functions that ask the questions.
 use Rattle.std.specs.Prelude.{Result}
 use Rattle.std.specs.Prelude.{Err}
+use Rattle.checker.specs.declared.Refusal.{Refusal}
 use Rattle.checker.specs.Check.{refused_at}
 use Rattle.checker.specs.Check.{CheckAnswer}
 use Rattle.std.specs.Prelude.{Ok}
@@ -89,7 +90,7 @@ module _ (version : ℕ) (t f old plan : List ℕ) (y : Verdict) (four : y ≡ q
   unfolding passed_types
   rest_all kept = rw kept at rest
 
-  pub leaves_some : (v p : List ℕ) (x : CheckAnswer) {q row : ℕ} → x ≡ Err (refused_at q row) → Leaves version t f v p old x plan
+  pub leaves_some : (v p : List ℕ) (x : CheckAnswer) {r : Refusal} → x ≡ Err r → Leaves version t f v p old x plan
   leaves_some v p x e = rw e (some (rw four at planned) (rw four at rest))
 
   pub leaves_whole : (v p new : List ℕ) → y ≡ Ok tt → Places t f v p plan new → Leaves version t f v p old (Ok tt) new
@@ -172,12 +173,12 @@ module _ (image : List ℕ) where
     header_yes = let (same, a, b, c) = yes_case (header_case image) yes in rw (← same) (tables_left a b c)
 
     -- where a table's question refuses
-    pub prepared_no : (old plan : List ℕ) (x : CheckAnswer) {q row : ℕ} → x ≡ Err (refused_at q row)
+    pub prepared_no : (old plan : List ℕ) (x : CheckAnswer) {r : Refusal} → x ≡ Err r
         → Leaves (version_of image) (part_of image ts.types) (part_of image ts.fields) (part_of image ts.variables)
         (part_of image ts.procedures) old x plan
         → Prepared image old x plan
-    prepared_no old plan x {q} {row} e left =
-        rw e (refused {q = q} {row = row} {plan = plan} (rw (header_tables, ← e) left))
+    prepared_no old plan x {r} e left =
+        rw e (refused {x = r} {plan = plan} (rw (header_tables, ← e) left))
 
     -- with acceptance
     pub prepared_yes : (old between plan : List ℕ) (x : CheckAnswer) → x ≡ Ok tt
@@ -193,6 +194,6 @@ pub number_accepted : (x : CheckAnswer) → x ≡ Ok tt → number_of x ≡ 0
 unfolding number_of refusal_of row_of
 number_accepted x e = rw e
 
-pub number_refused : (x : CheckAnswer) {q row : ℕ} → x ≡ Err (refused_at q row) → number_of x ≡ q * 65536 + row
+pub number_refused : (x : CheckAnswer) {r : Refusal} → x ≡ Err r → number_of x ≡ r.question * 65536 + r.row
 unfolding number_of refusal_of row_of
 number_refused x e = rw e

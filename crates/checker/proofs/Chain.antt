@@ -21,7 +21,7 @@ unfolding asked
 asked_fault q x later e = rw e
 
 -- a question's answer by itself: yes, or the refusal whatever comes later
-yes_alone : (q : ℕ) (x : Verdict) {u : Unit {0}} → asked q x (Ok tt) ≡ Ok u → x ≡ Ok tt
+pub yes_alone : (q : ℕ) (x : Verdict) {u : Unit {0}} → asked q x (Ok tt) ≡ Ok u → x ≡ Ok tt
 unfolding asked
 yes_alone q (Ok _) e = refl
 yes_alone q (Err row) e = cc
@@ -66,7 +66,7 @@ pub record FirstFault (question : ℕ → Verdict) (q n j row : ℕ) : Type 0 wh
   pub fault : question j ≡ Err row
   pub before : (i : ℕ) → q ≤ i → i < j → question i ≡ Ok tt
 
-accepted_refused : {q row : ℕ} {C : Type 0} → ◌≡◌ {A = CheckAnswer} (Ok tt) (Err (refused_at q row)) → C
+accepted_refused : {r : Refusal} {C : Type 0} → ◌≡◌ {A = CheckAnswer} (Ok tt) (Err r) → C
 accepted_refused e = let z : ◌≡◌ {A = ℕ} 0 1 = cc in absurd (omega arith)
 
 module _ (question : ℕ → Verdict) where

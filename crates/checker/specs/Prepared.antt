@@ -1,5 +1,6 @@
 -- What the check leaves in a lent plan.
 use Rattle.std.specs.Prelude.{Ok, Err}
+use Rattle.checker.specs.declared.Refusal.{Refusal}
 use Rattle.checker.specs.Check.{refused_at}
 use Rattle.checker.specs.Check.{CheckAnswer}
 use Rattle.std.specs.Prelude.{ℕ, ◌≤◌, ◌≡◌, List, eqb}
@@ -48,8 +49,8 @@ pub record Whole (t f v p old plan : List ℕ) : Type 0 where
 -- what the check leaves of six tables: where they are refused, what question 4 found of the type rows it passed
 pub data Leaves (version : ℕ) (t f v p old : List ℕ) : CheckAnswer → List ℕ → Type 0 where
   whole : {plan : List ℕ} → Whole t f v p old plan → Leaves version t f v p old (Ok tt) plan
-  some : {q row : ℕ} {plan : List ℕ} → Plan t f (passed t (question4 version t f)) plan
-      → Rest t (passed t (question4 version t f)) old plan → Leaves version t f v p old (Err (refused_at q row)) plan
+  some : {x : Refusal} {plan : List ℕ} → Plan t f (passed t (question4 version t f)) plan
+      → Rest t (passed t (question4 version t f)) old plan → Leaves version t f v p old (Err x) plan
 
 -- where the six tables stand: number j of twelve, a start and an end for each, in the tables' order
 unfoldable pub bound_of : Tables → ℕ → ℕ
@@ -73,10 +74,10 @@ pub record BoundsFit (t : Tables) : Type 0 where
 -- .. and of an image: nothing without tables; with acceptance also where they stand, from cell BOUNDS on
 pub data Prepared (image old : List ℕ) : CheckAnswer → List ℕ → Type 0 where
   untouched : {q : ℕ} → header_of image ≡ Err q → Prepared image old (Err (refused_at q 0)) old
-  refused : {q row : ℕ} {plan : List ℕ}
+  refused : {x : Refusal} {plan : List ℕ}
       → Leaves (version_of image) (types_in image) (fields_in image) (variables_in image) (procedures_in image) old
-      (Err (refused_at q row)) plan
-      → Prepared image old (Err (refused_at q row)) plan
+      (Err x) plan
+      → Prepared image old (Err x) plan
   prepared : {between plan : List ℕ}
       → Leaves (version_of image) (types_in image) (fields_in image) (variables_in image) (procedures_in image) old (Ok tt)
       between

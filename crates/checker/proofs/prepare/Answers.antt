@@ -1,6 +1,7 @@
 use Rattle.std.specs.Prelude.{Ok}
 use Rattle.checker.specs.Check.{CheckAnswer}
-use mathlib.Core.Path.{◌≡◌, sym, ◌∙◌}
+use mathlib.Core.Path.{◌≡◌, refl, sym, ◌∙◌}
+use Rattle.std.proofs.lemmas.Result.{err_from_is_err_and}
 use mathlib.Core.List.{List}
 use Prim.Native.Nat.{ℕ}
 use native.Mathlib.Omega.{arith}
@@ -33,23 +34,29 @@ bounds-image-0 c =
     let types = (header_fits _ _ (sym c.header.ensures ∙ c.in-Ok.is)).types in
     omega (arith, types.start, types.end, types.within)
 
-pub check_tables-answer-requires : goal.check_tables-answer-requires
-check_tables-answer-requires c = (fit _ (sym c.header.ensures ∙ c.in-Ok.is) _ c.of.ensures, omega (arith, c.requires))
+pub check_tables-requires : goal.check_tables-requires
+check_tables-requires c = (fit _ (sym c.header.ensures ∙ c.in-Ok.is) _ c.of.ensures, omega (arith, c.requires))
 
-pub returns-in_default : goal.returns-in_default
+pub returns-in_err-check_tables-in-Ok-clause-value : goal.returns-in_err-check_tables-in-Ok-clause-value
 unfolding version_of
-returns-in_default c =
+returns-in_err-check_tables-in-Ok-clause-value c =
+    let p = err_from_is_err_and c.from_residual.result c.from_residual.ensures.1 in
+    rw (p.1, p.2)
+    (told c.args.image.now (sym c.header.ensures ∙ c.in-Ok.is) _ c.of.ensures _
+    c.in_err-check_tables-in-Ok.ensures.value)
+
+pub returns-in_err-check_tables-in-Ok-clause-plan : goal.returns-in_err-check_tables-in-Ok-clause-plan
+unfolding version_of
+returns-in_err-check_tables-in-Ok-clause-plan c =
     let yes = sym c.header.ensures ∙ c.in-Ok.is in
-    let k = c.check_tables-answer.ensures in
-    record {
-      value = told c.args.image.now yes _ c.of.ensures _ k.value;
-      plan = prepared_no _ yes _ _ _ c.in_default.is (leaves c.args.image.now yes _ c.of.ensures _ _ _ k.plan);
-    }
+    let p = err_from_is_err_and c.from_residual.result c.from_residual.ensures.1 in
+    let left = leaves c.args.image.now yes _ c.of.ensures _ _ _ c.in_err-check_tables-in-Ok.ensures.plan in
+    rw (p.1, p.2) (prepared_no _ yes _ _ _ refl left)
 
 pub fill_bounds-requires : goal.fill_bounds-requires
 fill_bounds-requires c = (
   bounds_fit _ _ (header_fits _ _ (sym c.header.ensures ∙ c.in-Ok.is)),
-  omega (arith, c.requires, c.check_tables-answer.auto.plan),
+  omega (arith, c.requires, c.check_tables.auto.plan),
 )
 
 pub returns-in-Err : goal.returns-in-Err
@@ -57,14 +64,15 @@ returns-in-Err c =
     let no = sym c.header.ensures ∙ c.in-Err.is in
     record { value = sym (header_no _ no); plan = untouched no }
 
-pub returns-in-Ok-answer : goal.returns-in-Ok-answer
+pub returns-in_ok-check_tables-in-Ok-clause-value : goal.returns-in_ok-check_tables-in-Ok-clause-value
 unfolding version_of
-returns-in-Ok-answer c =
+returns-in_ok-check_tables-in-Ok-clause-value c =
+    told c.args.image.now (sym c.header.ensures ∙ c.in-Ok.is) _ c.of.ensures _
+    c.in_ok-check_tables-in-Ok.ensures.value
+
+pub returns-in_ok-check_tables-in-Ok-clause-plan : goal.returns-in_ok-check_tables-in-Ok-clause-plan
+unfolding version_of
+returns-in_ok-check_tables-in-Ok-clause-plan c =
     let yes = sym c.header.ensures ∙ c.in-Ok.is in
-    let k = c.check_tables-answer.ensures in
-    let accepted = c.in-Ok.is in
-    record {
-      value = sym accepted ∙ told c.args.image.now yes _ c.of.ensures _ k.value;
-      plan =
-          prepared_yes _ yes _ _ _ _ accepted (leaves c.args.image.now yes _ c.of.ensures _ _ _ k.plan) c.fill_bounds.ensures;
-    }
+    let left = leaves c.args.image.now yes _ c.of.ensures _ _ _ c.in_ok-check_tables-in-Ok.ensures.plan in
+    prepared_yes _ yes _ _ _ _ refl left c.fill_bounds.ensures
