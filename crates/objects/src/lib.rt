@@ -24,19 +24,18 @@ pub const ROWS: usize = 64;
 // What begins at an edge of each type, in words: bit w of word r is of type w at that edge of type row r's objects.
 pub type Words = [u64; ROWS];
 
-// The table of starts, and that of ends.
+// What is said of starts, and of ends.
 #[derive(Clone, Copy)]
-struct Tables<'a> {
-    starts: &'a Words,
-    ends: &'a Words,
+struct Edged<T> {
+    starts: T,
+    ends: T,
 }
 
 // The words of one row.
-#[derive(Clone, Copy)]
-pub struct EdgeWords {
-    pub starts: u64,
-    pub ends: u64,
-}
+type RowWords = Edged<u64>;
+
+// The two tables.
+type Tables<'a> = Edged<&'a Words>;
 
 // What a look at the parts of an object settles: one begins there, none does, or the answer is that of a part of this
 // type, so many cells into it.
@@ -115,7 +114,7 @@ fn among(f: &[u8], plan: &[u32], tables: Tables, w: u16, k: usize, o: u32) -> Lo
     }
 }
 
-// The size of a record's base, whose row plus 1 is a: the plan has that row.
+// The size of a record's base, whose row plus 1 is a: `sizes::base_size` without a test, as the plan has that row.
 fn base_cells(plan: &[u32], a: u16) -> u32
     requires { a ≤ length plan.now }
     ensures { result ≡ of_base 0 (held plan.now) a }
@@ -218,15 +217,15 @@ fn without(word: u64, i: u16) -> u64
 }
 
 // What begins at the edges of a record's base, whose row plus 1 is a: the base's part is no object.
-fn base_edges(tables: Tables, a: u16) -> EdgeWords
+fn base_edges(tables: Tables, a: u16) -> RowWords
     requires { a ≤ ROWS }
     ensures { (w : ℕ) → (bit_of result.starts w ≡ said_of_base tables.entry.starts.now w a)
         × (bit_of result.ends w ≡ said_of_base tables.entry.ends.now w a) }
 {
     let Some(base) = a.checked_sub(1) else {
-        return EdgeWords { starts: 0, ends: 0 };
+        return Edged { starts: 0, ends: 0 };
     };
-    EdgeWords {
+    Edged {
         starts: without(tables.starts[base as usize], base),
         ends: without(tables.ends[base as usize], base),
     }
@@ -244,11 +243,11 @@ fn field_edges(
     f: &[u8],
     plan: &[u32],
     tables: Tables,
-    base: EdgeWords,
+    base: RowWords,
     before: u32,
     k: u16,
     n: u16,
-) -> EdgeWords
+) -> RowWords
     requires { LowTypes f.now k (k + n) ROWS }
     ensures { (deeper : ℕ → ℕ → Bool) (w m : ℕ) (l : List ℕ)
         → Edges deeper (held plan.now) w m tables.entry.starts.now tables.entry.ends.now
@@ -267,14 +266,14 @@ fn field_edges(
         last = across(tables.ends[u], own, last);
         size += own;
     }
-    EdgeWords {
+    Edged {
         starts: first,
         ends: last,
     }
 }
 
 // What begins at the edges of the parts of type row r: an array's are its element's.
-fn part_edges(t: &[u8], f: &[u8], plan: &[u32], tables: Tables, r: usize) -> EdgeWords
+fn part_edges(t: &[u8], f: &[u8], plan: &[u32], tables: Tables, r: usize) -> RowWords
     requires { Typed t.now f.now plan.now × (r < rows_of t.now) }
     ensures { (w : ℕ) → Edges (begins_at t.now f.now w) (held plan.now) w r
         tables.entry.starts.now tables.entry.ends.now
@@ -283,7 +282,7 @@ fn part_edges(t: &[u8], f: &[u8], plan: &[u32], tables: Tables, r: usize) -> Edg
 {
     let row = image::row_at(t, r);
     match row.kind {
-        3 => EdgeWords {
+        3 => Edged {
             starts: tables.starts[row.a as usize],
             ends: tables.ends[row.a as usize],
         },
@@ -292,12 +291,12 @@ fn part_edges(t: &[u8], f: &[u8], plan: &[u32], tables: Tables, r: usize) -> Edg
             let before = base_cells(plan, row.a);
             field_edges(f, plan, tables, base, before, row.b, row.c)
         }
-        _ => EdgeWords { starts: 0, ends: 0 },
+        _ => Edged { starts: 0, ends: 0 },
     }
 }
 
 // What begins at the edges of type row r: an object begins at its own start, which is its end where it has no cells.
-fn edges(t: &[u8], f: &[u8], plan: &[u32], tables: Tables, r: usize) -> EdgeWords
+fn edges(t: &[u8], f: &[u8], plan: &[u32], tables: Tables, r: usize) -> RowWords
     requires { Typed t.now f.now plan.now × (r < rows_of t.now) }
     ensures { (w : ℕ) → Edges (begins_at t.now f.now w) (held plan.now) w r
         tables.entry.starts.now tables.entry.ends.now
@@ -307,7 +306,7 @@ fn edges(t: &[u8], f: &[u8], plan: &[u32], tables: Tables, r: usize) -> EdgeWord
     let inner = part_edges(t, f, plan, tables, r);
     let own = 1u64 << (r as u64);
     let size = sizes::cell(plan, r) as usize;
-    EdgeWords {
+    Edged {
         starts: inner.starts | own,
         ends: across(inner.ends, size, own),
     }
@@ -322,7 +321,7 @@ pub fn fill(t: &[u8], f: &[u8], plan: &[u32], starts: &mut Words, ends: &mut Wor
     ensures ends { Beyond (rows_of t.now) ends.old ends.new }
 {
     for r in 0..image::rows_of(t) {
-        let x = edges(t, f, plan, Tables { starts, ends }, r);
+        let x = edges(t, f, plan, Edged { starts, ends }, r);
         starts[r] = x.starts;
         ends[r] = x.ends;
     }
@@ -350,5 +349,5 @@ pub fn holds(
     if o == size {
         return marked(ends, w, r);
     }
-    o < size && reached(t, f, plan, Tables { starts, ends }, w, r, o)
+    o < size && reached(t, f, plan, Edged { starts, ends }, w, r, o)
 }
