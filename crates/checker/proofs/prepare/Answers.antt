@@ -66,5 +66,6 @@ returns-in-Ok c =
     record {
       value = sym accepted ∙ told c.args.image.now yes _ c.of.ensures _ k.value;
       plan =
-          prepared_yes _ yes _ _ _ _ accepted (leaves c.args.image.now yes _ c.of.ensures _ _ _ k.plan) c.fill_bounds.ensures;
+          prepared_yes _ yes _ _ _ _ accepted (leaves c.args.image.now yes _ c.of.ensures _ _ _ k.plan)
+          c.fill_bounds.ensures;
     }

@@ -9,7 +9,8 @@ returns-in_default c = sym (typed_none _ _ (sym c.type_at.ensures ∙ c.in_defau
 
 pub returns-in_default-type_at : goal.returns-in_default-type_at
 unfolding element_node
-returns-in_default-type_at c = sym (typed_known _ _ (sym c.type_at.ensures ∙ c.in-Some.is) ∙ typed_none _ _ (sym c.type_at-2.ensures ∙ c.in_default-type_at.is))
+returns-in_default-type_at c = sym (typed_known _ _ (sym c.type_at.ensures ∙ c.in-Some.is)
+    ∙ typed_none _ _ (sym c.type_at-2.ensures ∙ c.in_default-type_at.is))
 
 pub returns-then-index-eq1 : goal.returns-then-index-eq1
 unfolding element_node

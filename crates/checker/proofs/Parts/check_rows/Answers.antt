@@ -51,7 +51,8 @@ returns-in_default-names c = let no = c.in_default-names.is in
 
 pub check_meaning-requires : goal.check_meaning-requires
 check_meaning-requires c = let (fit, four, plan) = c.requires in
-    (fit, four, sym c.check_procedures-procedures.ensures ∙ c.in-Ok-procedures.is, plan, runs_room _ _ 2048 c.check_statements-statements.ensures.runs fit.nodes)
+    let six = sym c.check_procedures-procedures.ensures ∙ c.in-Ok-procedures.is in
+    (fit, four, six, plan, runs_room _ _ 2048 c.check_statements-statements.ensures.runs fit.nodes)
 
 pub returns : goal.returns
 unfolding table_question choose
