@@ -41,7 +41,8 @@ join_is x y least past low high = rw (low ∙ least_min x.least y.least, high �
 
 -- ---- the table
 
-module _ (span : ℕ → Span) (m : ℕ) (old spans : List Span) (table : Spans span m old spans) (room : m ≤ length spans) where
+module _ (span : ℕ → Span) (m : ℕ) (old spans : List Span) (table : Spans span m old spans)
+    (room : m ≤ length spans) where
   span_low : (k : ℕ) → k < m → span_in (take m spans) k ≡ span k
   unfolding span_in
   span_low k h = get_or-take m spans k no_span h ∙ table.holds k h
@@ -55,13 +56,15 @@ module _ (span : ℕ → Span) (m : ℕ) (old spans : List Span) (table : Spans 
     where
       go : (k : ℕ) → Dec (k < m) → span_in (take m spans) k ≡ below no_span m span k
       go k (yes h) = span_low k h ∙ sym (below_low no_span m span k h)
-      go k (no h) = let past_all : m ≤ k = omega arith in span_high k past_all ∙ sym (below_high no_span m span k past_all)
+      go k (no h) =
+          let past_all : m ≤ k = omega arith in
+          span_high k past_all ∙ sym (below_high no_span m span k past_all)
 
 pub spans_none : (span : ℕ → Span) (old : List Span) → Spans span 0 old old
 spans_none span old = record { cells = refl; holds = λ k h. absurd (omega arith); rest = λ k h. refl }
 
-module _ (v n : List ℕ) (old spans : List Span) (r : ℕ) (table : Spans (span_of v n) r old spans) (inside : r < length spans)
-    (row : Row) (this_row : row ≡ row_at n r) (x : Span)
+module _ (v n : List ℕ) (old spans : List Span) (r : ℕ) (table : Spans (span_of v n) r old spans)
+    (inside : r < length spans) (row : Row) (this_row : row ≡ row_at n r) (x : Span)
     (given : x ≡ gather no_span (variable_span v) join_span (span_in (take r spans)) row.kind row) where
   is : x ≡ span_of v n r
   unfolding span_of gathered
@@ -70,7 +73,8 @@ module _ (v n : List ℕ) (old spans : List Span) (r : ℕ) (table : Spans (span
       ∙ ap (λ (y : Row). gather no_span (variable_span v) join_span (span_in (take r spans)) y.kind y) this_row
       ∙ ap (λ (child : ℕ → Span). gather no_span (variable_span v) join_span child (row_at n r).kind (row_at n r))
       (table_below (span_of v n) r old spans table (omega arith))
-      ∙ sym (rec_eq no_span (λ child k. gather no_span (variable_span v) join_span child (row_at n k).kind (row_at n k)) r)
+      ∙ sym (rec_eq no_span
+      (λ child k. gather no_span (variable_span v) join_span child (row_at n k).kind (row_at n k)) r)
 
   -- one node more
   pub spans_next : Spans (span_of v n) (r + 1) old (set spans r x)
@@ -94,8 +98,8 @@ span_missing v n k h =
     rec_eq no_span (λ child r. gather no_span (variable_span v) join_span child (row_at n r).kind (row_at n r)) k
     ∙ rw (row_missing n k h)
 
-pub spans_known : (v n : List ℕ) (old spans : List Span) → Spans (span_of v n) (rows_of n) old spans → rows_of n ≤ length spans
-    → (k : ℕ) → span_in (take (rows_of n) spans) k ≡ span_of v n k
+pub spans_known : (v n : List ℕ) (old spans : List Span) → Spans (span_of v n) (rows_of n) old spans
+    → rows_of n ≤ length spans → (k : ℕ) → span_in (take (rows_of n) spans) k ≡ span_of v n k
 spans_known v n old spans table room k = go (dec_lt k (rows_of n))
   where
     go : Dec (k < rows_of n) → span_in (take (rows_of n) spans) k ≡ span_of v n k

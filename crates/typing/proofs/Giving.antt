@@ -31,9 +31,11 @@ field_type_lem a e = rw e
 module _ (t : List ℕ) (r index : ℕ) (row : Row) (this_row : row ≡ row_at t r) where
   pub no_element : ((row.kind ≡ 3) × (index ≡ 1 → ⊥)) ⊎ (row.kind ≡ 3 → ⊥) → element_type (row_at t r) index ≡ None
   unfolding element_type
-  no_element (inl (kind, h)) = rw (← this_row) (choose_yes _ _ _ (eq-eqb row.kind 3 kind) ∙ choose_no _ _ _ (ne_eqb index 1 h))
+  no_element (inl (kind, h)) =
+      rw (← this_row) (choose_yes _ _ _ (eq-eqb row.kind 3 kind) ∙ choose_no _ _ _ (ne_eqb index 1 h))
   no_element (inr h) = rw (← this_row) (choose_no _ _ _ (ne_eqb row.kind 3 h))
 
   pub element_type_lem : row.kind ≡ 3 → index ≡ 1 → element_type (row_at t r) index ≡ Some row.a
   unfolding element_type
-  element_type_lem kind h = rw (← this_row) (choose_yes _ _ _ (eq-eqb row.kind 3 kind) ∙ choose_yes _ _ _ (eq-eqb index 1 h))
+  element_type_lem kind h =
+      rw (← this_row) (choose_yes _ _ _ (eq-eqb row.kind 3 kind) ∙ choose_yes _ _ _ (eq-eqb index 1 h))

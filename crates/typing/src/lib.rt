@@ -92,7 +92,7 @@ fn variable_node(v: &[u8], row: Row) -> Option<u16>
     Some(image::row_at(v, row.a as usize).a)
 }
 
-// The type of a node from those of the lower rows.
+// The type of a node from those of the lower rows. Each kind reads other tables, so a struct of all would be no plainer.
 fn node_type(t: &[u8], f: &[u8], plan: &[u32], v: &[u8], types: &[u16], row: Row) -> Option<u16>
     requires { TypesAccepted t.now f.now × Plan t.now f.now (rows_of t.now) plan.now }
     ensures { result ≡ type_by t.now f.now v.now (type_in types.now)

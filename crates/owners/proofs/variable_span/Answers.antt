@@ -11,8 +11,12 @@ returns-then-row-eq0 c = rw (← c.row_at-row.ensures) (sym (choose_yes _ _ _ (e
 
 pub returns-then-a-rows_of : goal.returns-then-a-rows_of
 unfolding variable_span is_global
-returns-then-a-rows_of c = rw (← c.row_at-row.ensures, ← c.rows_of.ensures) (sym (choose_no _ _ _ (ne_eqb _ _ c.if-row-eq0.false) ∙ choose_no _ _ _ (le-ltb _ _ c.if-a-rows_of.true)))
+returns-then-a-rows_of c =
+    rw (← c.row_at-row.ensures, ← c.rows_of.ensures)
+    (sym (choose_no _ _ _ (ne_eqb _ _ c.if-row-eq0.false) ∙ choose_no _ _ _ (le-ltb _ _ c.if-a-rows_of.true)))
 
 pub returns : goal.returns
 unfolding variable_span is_global
-returns c = rw (← c.row_at-row.ensures, ← c.rows_of.ensures) (sym (choose_no _ _ _ (ne_eqb _ _ c.if-row-eq0.false) ∙ choose_yes _ _ _ (lt-ltb _ _ c.if-a-rows_of.false)))
+returns c =
+    rw (← c.row_at-row.ensures, ← c.rows_of.ensures)
+    (sym (choose_no _ _ _ (ne_eqb _ _ c.if-row-eq0.false) ∙ choose_yes _ _ _ (lt-ltb _ _ c.if-a-rows_of.false)))

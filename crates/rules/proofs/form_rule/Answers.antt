@@ -13,4 +13,5 @@ returns-then-kind-ne3 c =
 
 pub returns-else-kind-ne3 : goal.returns-else-kind-ne3
 unfolding form_rule
-returns-else-kind-ne3 c = rw (← c.row_at.ensures) (c.is_designator.ensures ∙ sym (choose_yes _ _ _ (eq-eqb _ _ c.if-kind-ne3.false)))
+returns-else-kind-ne3 c =
+    rw (← c.row_at.ensures) (c.is_designator.ensures ∙ sym (choose_yes _ _ _ (eq-eqb _ _ c.if-kind-ne3.false)))

@@ -13,7 +13,8 @@ unfolding passed
 returns-in_default c = let l = c.loop-r in
     let more = rw c.rows_of-r-end.ensures at c.loop-r-test.true in
     record {
-      value = untyped_bad _ _ _ _ _ _ _ l.invariant more (omega arith) _ c.row_at-row.ensures _ c.node_type.ensures c.in_default.is;
+      value = untyped_bad _ _ _ _ _ _ _ l.invariant more (omega arith) _ c.row_at-row.ensures _ c.node_type.ensures
+          c.in_default.is;
       types = l.invariant.table;
     }
 

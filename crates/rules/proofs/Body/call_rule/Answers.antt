@@ -11,7 +11,8 @@ returns-then-not-argument_rule c =
     let b = c.args.self.now in
     let call = call_is b.t.now b.v.now b.p.now b.n.now b.firsts.now (types_in b) (owned_in b) c.requires c.args.row _ _
     c.row_at-called.ensures c.cell-parameter.ensures in
-    rw (← call) (sym (not_all _ _ _ _ (omega arith) (omega arith) (sym c.argument_rule.ensures ∙ c.if-not-argument_rule.true)))
+    let no = sym c.argument_rule.ensures ∙ c.if-not-argument_rule.true in
+    rw (← call) (sym (not_all _ _ _ _ (omega arith) (omega arith) no))
 
 pub returns : goal.returns
 returns c =
