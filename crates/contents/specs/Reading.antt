@@ -4,6 +4,7 @@ use Rattle.image.specs.Rows.{rows_of}
 use Rattle.shapes.specs.Sizes.{size_of}
 use Rattle.objects.specs.Looking.{Typed}
 use Rattle.contents.specs.Kinds.{even_of}
+use Rattle.contents.specs.declared.Reader.{Reader}
 
 -- a table says of each type what its cells are
 pub record Even (t f even : List ℕ) : Type 0 where
@@ -20,3 +21,10 @@ pub record Readable (t f plan even : List ℕ) (store : List ℤ) : Type 0 where
 pub record Inside (t f : List ℕ) (store : List ℤ) (r a : ℕ) : Type 0 where
   pub row : r < rows_of t
   pub room : a + size_of t f r ≤ length store
+
+-- the same of what a Reader lends
+abbrev pub Reads : Reader → Type 0
+Reads x = Readable x.t.now x.f.now x.plan.now x.even.now x.store.now
+
+abbrev pub Holds : Reader → ℕ → ℕ → Type 0
+Holds x r a = Inside x.t.now x.f.now x.store.now r a

@@ -15,11 +15,12 @@ ghost use Rattle.asking.specs.State.{values_kept};
 ghost use Rattle.contents.specs.Kinds.{EMPTY as NONE, PARTS as SEVERAL, joint as joint_of, joint_from};
 ghost use Rattle.contents.specs.Kinds.{repeated as repeated_of, owned as owned_of, even_by, even_of};
 ghost use Rattle.contents.specs.Kinds.{lowest as lowest_of, highest as highest_of};
-ghost use Rattle.contents.specs.Reading.{Readable, Inside};
+ghost use Rattle.contents.specs.Reading.{Readable, Reads, Inside, Holds};
 
 use image::Row;
 
 // ---- what the cells of a type are: the kind of them all, or one of these numbers
+// They are numbers and no enum, since the table that is lent for them has bytes (`fill_even`, no heap).
 
 // No cells.
 const EMPTY: u8 = 3;
@@ -171,127 +172,127 @@ fn run(store: &[i64], kind: u8, a: u32, n: u32) -> bool
     true
 }
 
-// ---- cells of a type: tables are lent by references that are one number, since these functions call each other
+// ---- cells of a type
 
-// What the table says of a type row that it has.
-fn told(even: &[u8], u: u16) -> u8
-    requires { u < length even.now }
-    ensures { result ≡ get_or even.now u 0 }
-{
-    even[u as usize]
+// What tells it: the tables of types and fields, the sizes of types, what their cells are, and the store. It is lent by
+// a reference that is one number, since these functions call each other. `Reads` is no ghost field: such a fact has one
+// proof, and accepted types are of some version, perhaps of two.
+#[derive(Drop)]
+struct Reader<'a> {
+    t: &'a [u8],
+    f: &'a [u8],
+    plan: &'a [u32],
+    even: &'a [u8],
+    store: &'a [i64],
 }
 
-// The size of a type row that is there.
-fn size_of(plan: &[u32], r: u16) -> u32
-    requires { r < length plan.now }
-    ensures { result ≡ get_or plan.now r 0 }
-{
-    plan[r as usize]
-}
-
-// Whether the cells from address a on hold values of the layout of type row r.
-#[cycle(based_fields_object_parted)]
-fn object(t: &&[u8], f: &&[u8], plan: &&[u32], even: &&[u8], store: &&[i64], r: u16, a: u32) -> bool
-    requires { Readable t.now.now f.now.now plan.now.now even.now.now store.now.now
-        × Inside t.now.now f.now.now store.now.now r a }
-    ensures { result ≡ values_kept (layout_of t.now.now f.now.now r)
-        (drop a store.now.now) }
-{
-    let kind = told(*even, r);
-    if kind < EMPTY {
-        let size = size_of(*plan, r);
-        return run(*store, kind, a, size);
+impl Reader<'_> {
+    // What the table says of a type row that it has.
+    fn told(&self, u: u16) -> u8
+        requires { u < length self.now.even.now }
+        ensures { result ≡ get_or self.now.even.now u 0 }
+    {
+        self.even[u as usize]
     }
-    if kind == EMPTY {
-        return true;
-    }
-    let core = (kind - PARTS) as u16;
-    parted(t, f, plan, even, store, core, a)
-}
 
-// The same of a type in several parts: an array's elements, or a record's base and own fields.
-#[cycle(based_fields_object_parted)]
-fn parted(t: &&[u8], f: &&[u8], plan: &&[u32], even: &&[u8], store: &&[i64], r: u16, a: u32) -> bool
-    requires { Readable t.now.now f.now.now plan.now.now even.now.now store.now.now
-        × Inside t.now.now f.now.now store.now.now r a
-        × (even_of t.now.now f.now.now r ≡ SEVERAL + r) }
-    ensures { result ≡ values_kept (layout_of t.now.now f.now.now r)
-        (drop a store.now.now) }
-{
-    let row = image::row_at(*t, r as usize);
-    let first = row.a;
-    let second = row.b;
-    let third = row.c;
-    if row.kind == 4 {
-        if based(t, f, plan, even, store, first, a) {
-            let before = sizes::base_size(*plan, first);
-            let own = a + before;
-            return fields(t, f, plan, even, store, r, second, third, own);
+    // The size of a type row that is there.
+    fn size_of(&self, r: u16) -> u32
+        requires { r < length self.now.plan.now }
+        ensures { result ≡ get_or self.now.plan.now r 0 }
+    {
+        self.plan[r as usize]
+    }
+
+    // Whether the cells from address a on hold values of the layout of type row r.
+    #[cycle(based_fields_object_parted)]
+    fn object(&self, r: u16, a: u32) -> bool
+        requires { Reads self.now × Holds self.now r a }
+        ensures { result ≡ values_kept (layout_of self.now.t.now self.now.f.now r)
+            (drop a self.now.store.now) }
+    {
+        let kind = self.told(r);
+        if kind < EMPTY {
+            let size = self.size_of(r);
+            return run(self.store, kind, a, size);
         }
-        return false;
+        if kind == EMPTY {
+            return true;
+        }
+        let core = (kind - PARTS) as u16;
+        self.parted(core, a)
     }
-    let size = size_of(*plan, first);
-    let kind = told(*even, first);
-    let core = (kind - PARTS) as u16;
-    let mut at = a;
-    for _ in 0..second {
-        if !parted(t, f, plan, even, store, core, at) {
+
+    // The same of a type in several parts: an array's elements, or a record's base and own fields.
+    #[cycle(based_fields_object_parted)]
+    fn parted(&self, r: u16, a: u32) -> bool
+        requires { Reads self.now × Holds self.now r a
+            × (even_of self.now.t.now self.now.f.now r ≡ SEVERAL + r) }
+        ensures { result ≡ values_kept (layout_of self.now.t.now self.now.f.now r)
+            (drop a self.now.store.now) }
+    {
+        let row = image::row_at(self.t, r as usize);
+        if row.kind == 4 {
+            if self.based(row.a, a) {
+                let before = sizes::base_size(self.plan, row.a);
+                let own = a + before;
+                return self.fields(r, row.b, row.c, own);
+            }
             return false;
         }
-        at += size;
-    }
-    true
-}
-
-// The same of a record's base, whose row plus 1 is b.
-#[cycle(based_fields_object_parted)]
-fn based(t: &&[u8], f: &&[u8], plan: &&[u32], even: &&[u8], store: &&[i64], b: u16, a: u32) -> bool
-    requires { Readable t.now.now f.now.now plan.now.now even.now.now store.now.now
-        × (b ≤ rows_of t.now.now)
-        × (a + of_base 0 (size_of t.now.now f.now.now) b ≤ length store.now.now) }
-    ensures { result ≡ values_kept (of_base [] (layout_of t.now.now f.now.now) b)
-        (drop a store.now.now) }
-{
-    let Some(base) = b.checked_sub(1) else {
-        return true;
-    };
-    object(t, f, plan, even, store, base, a)
-}
-
-// The same of n own fields of the record in row r, from field row k on.
-#[cycle(based_fields_object_parted)]
-fn fields(
-    t: &&[u8],
-    f: &&[u8],
-    plan: &&[u32],
-    even: &&[u8],
-    store: &&[i64],
-    r: u16,
-    k: u16,
-    n: u16,
-    a: u32,
-) -> bool
-    requires { Readable t.now.now f.now.now plan.now.now even.now.now store.now.now
-        × (r < rows_of t.now.now) × (k + n ≤ rows_of f.now.now) × LowTypes f.now.now k (k + n) r
-        × (a + sum (map (size_of t.now.now f.now.now) (own_types f.now.now k n))
-        ≤ length store.now.now) }
-    ensures { result ≡ values_kept
-        (joined (map (layout_of t.now.now f.now.now) (own_types f.now.now k n)))
-        (drop a store.now.now) }
-{
-    let first = k as usize;
-    let mut at = a;
-    for j in first..first + n as usize {
-        let u = image::a_at(*f, j);
-        if told(*even, u) == EMPTY {
-            continue;
+        let size = self.size_of(row.a);
+        let kind = self.told(row.a);
+        let core = (kind - PARTS) as u16;
+        let mut at = a;
+        for _ in 0..row.b {
+            if !self.parted(core, at) {
+                return false;
+            }
+            at += size;
         }
-        if !object(t, f, plan, even, store, u, at) {
-            return false;
-        }
-        at += size_of(*plan, u);
+        true
     }
-    true
+
+    // The same of a record's base, whose row plus 1 is b.
+    #[cycle(based_fields_object_parted)]
+    fn based(&self, b: u16, a: u32) -> bool
+        requires { Reads self.now
+            × (b ≤ rows_of self.now.t.now)
+            × (a + of_base 0 (size_of self.now.t.now self.now.f.now) b ≤ length self.now.store.now) }
+        ensures { result ≡ values_kept (of_base [] (layout_of self.now.t.now self.now.f.now) b)
+            (drop a self.now.store.now) }
+    {
+        let Some(base) = b.checked_sub(1) else {
+            return true;
+        };
+        self.object(base, a)
+    }
+
+    // The same of n own fields of the record in row r, from field row k on.
+    #[cycle(based_fields_object_parted)]
+    fn fields(&self, r: u16, k: u16, n: u16, a: u32) -> bool
+        requires { Reads self.now
+            × (r < rows_of self.now.t.now) × (k + n ≤ rows_of self.now.f.now)
+            × LowTypes self.now.f.now k (k + n) r
+            × (a + sum (map (size_of self.now.t.now self.now.f.now) (own_types self.now.f.now k n))
+            ≤ length self.now.store.now) }
+        ensures { result ≡ values_kept
+            (joined (map (layout_of self.now.t.now self.now.f.now) (own_types self.now.f.now k n)))
+            (drop a self.now.store.now) }
+    {
+        let first = k as usize;
+        let mut at = a;
+        for j in first..first + n as usize {
+            let u = image::a_at(self.f, j);
+            if self.told(u) == EMPTY {
+                continue;
+            }
+            if !self.object(u, at) {
+                return false;
+            }
+            at += self.size_of(u);
+        }
+        true
+    }
 }
 
 // Whether the cells from address a on hold values of the layout of type row r.
@@ -307,5 +308,12 @@ pub fn holds_values(
     requires { Readable t.now f.now plan.now even.now store.now × Inside t.now f.now store.now r a }
     ensures { result ≡ values_kept (layout_of t.now f.now r) (drop a store.now) }
 {
-    object(&t, &f, &plan, &even, &store, r, a)
+    let reader = Reader {
+        t,
+        f,
+        plan,
+        even,
+        store,
+    };
+    reader.object(r, a)
 }

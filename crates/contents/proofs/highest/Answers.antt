@@ -1,5 +1,5 @@
-use borrow.Author.Tests.{ne_eqb}
 use Rattle.prelude.specs.Choice.{choose}
+use Rattle.prelude.proofs.Choice.{tests}
 use Rattle.contents.specs.Kinds.{highest}
 use Rattle.contents.proofs.highest.Goals as goal
 
@@ -14,4 +14,4 @@ returns-in-1 c = rw c.in-1.is
 
 pub returns-in_default : goal.returns-in_default
 unfolding highest choose
-returns-in_default c = rw (ne_eqb _ 0 c.in_default.in_default-own.rest.0.1, ne_eqb _ 1 c.in_default.in_default-own.rest.1)
+returns-in_default c = search tests

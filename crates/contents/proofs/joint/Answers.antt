@@ -17,7 +17,7 @@ pub returns-then-k-j : goal.returns-then-k-j
 unfolding joint choose
 returns-then-k-j c =
     elim c.then-k-j.branch [
-        then-k-j-via-then-k-j w ↦ search tests
+      | then-k-j-via-then-k-j w ↦ search tests
       | then-k-j-via-else-k-j+then-k-ge-EMPTY w ↦ search tests
     ]
 

@@ -9,7 +9,7 @@ pub returns-then-n-eq1 : goal.returns-then-n-eq1
 unfolding repeated choose
 returns-then-n-eq1 c =
     elim c.then-n-eq1.branch [
-        then-n-eq1-via-then-n-eq1 w ↦ search tests
+      | then-n-eq1-via-then-n-eq1 w ↦ search tests
       | then-n-eq1-via-else-n-eq1+then-k-lt-PARTS w ↦ search tests
     ]
 

@@ -31,7 +31,7 @@ returns-then-z-low c =
     let fits : SFits w64 z = rw (← here) (search rules) in
     let step = l.invariant ∙ run_step a.kind store at (a.a + a.n) (omega arith) c.requires.2 in
     elim c.then-z-low.branch [
-        then-z-low-via-then-z-low w ↦
+      | then-z-low-via-then-z-low w ↦
           let less = compared z low.result fits (record { sfits = low.type_inv }) (rw here at w.if-z-low.true) in
           sym (step ∙ also_left _ (too_low _ z c.requires.1 (rw low.ensures at less)))
       | then-z-low-via-else-z-low+then-high-z w ↦

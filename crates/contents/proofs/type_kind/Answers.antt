@@ -21,5 +21,4 @@ returns-in-0-to-2 c = rw (form_scalar c.args.row (omega arith))
 
 pub returns-in_default : goal.returns-in_default
 unfolding even_by
-returns-in_default c = let m = c.in_default.in_default-own.rest in
-    rw (form_none c.args.row (omega arith))
+returns-in_default c = rw (form_none c.args.row (omega arith))

@@ -6,7 +6,7 @@ use Rattle.contents.proofs.Parting.{element_there, element_parts, elements_first
 use Rattle.contents.proofs.Parting.{elements_next, elements_end, record_parts, before_is, base_inside, base_none}
 use Rattle.contents.proofs.Parting.{base_some, fields_first, field_below, field_inside, field_fails, fields_next}
 use Rattle.contents.proofs.Parting.{fields_skip, fields_end, record_fails, record_holds}
-use Rattle.contents.proofs.+based_fields_object_parted.Goals as goal
+use Rattle.contents.proofs.Reader.+based_fields_object_parted.Goals as goal
 
 pub based-returns-in_default : goal.based-returns-in_default
 based-returns-in_default t c = base_none c.requires.0 c.args.a (omega (arith, c.in_default.ensures))
