@@ -110,7 +110,7 @@ fn in_places(loaded: &Loaded, starts: &Words, ends: &Words, w: u16, k: u32, n: u
 
 // ---- objects in frames
 
-// A foreign state in the cells below top, whose frames the blocks tell, and what begins at the edges of the image's types.
+// A foreign state in the cells below top, with the frame above each block, and what begins at the edges of the types.
 #[derive(Clone, Copy)]
 struct State<'a> {
     loaded: Loaded<'a>,
@@ -124,8 +124,8 @@ struct State<'a> {
 }
 
 impl<'a> State<'a> {
-    // Whether an object declared with type w begins at an address that is no higher than `from`, where a frame begins: in
-    // the globals, or in the newest frame that begins below the address.
+    // Whether an object declared with type w begins at an address that is no higher than `from`, where a frame begins:
+    // in the globals, or in the newest frame that begins below the address.
     fn object_at(&self, from: u32, w: u16, at: u32) -> bool
         requires { Stacked (program_of self.now.loaded.image.now) self.now.store.now self.now.top
             self.now.blocks.now from
@@ -152,8 +152,8 @@ impl<'a> State<'a> {
 
     // ---- references
 
-    // Whether the two cells of a VAR parameter of type row r, at a in the frame that begins at base, refer to an object in
-    // the older frames.
+    // Whether the two cells of a VAR parameter of type row r, at a in the frame that begins at base, refer to an object
+    // in the older frames.
     fn reference(&self, base: u32, r: u16, a: u32) -> bool
         requires { Stacked (program_of self.now.loaded.image.now) self.now.store.now self.now.top
             self.now.blocks.now base
@@ -179,8 +179,9 @@ impl<'a> State<'a> {
         requires { Stacked (program_of self.now.loaded.image.now) self.now.store.now self.now.top
             self.now.blocks.now base
             × (k < rows_of (program_of self.now.loaded.image.now).variables) × (base < 65536)
-            × (base + place_of (program_of self.now.loaded.image.now) k + width_of (program_of self.now.loaded.image.now).types
-            (program_of self.now.loaded.image.now).fields (program_of self.now.loaded.image.now).variables k ≤ self.now.top) }
+            × (base + place_of (program_of self.now.loaded.image.now) k
+            + width_of (program_of self.now.loaded.image.now).types (program_of self.now.loaded.image.now).fields
+            (program_of self.now.loaded.image.now).variables k ≤ self.now.top) }
         ensures { (p : ℕ) (qs older : List ℕ) → Framed (program_of self.now.loaded.image.now) self.now.store.now
             self.now.top self.now.blocks.now qs → Oldest (p ∷ older) qs
             → base ≡ room_of (program_of self.now.loaded.image.now) older
@@ -191,14 +192,16 @@ impl<'a> State<'a> {
         row.kind != 3 || self.reference(base, row.a, base + self.loaded.place_of(k))
     }
 
-    // Whether the VAR parameters of the frame of procedure q at base do: locals are none, nor are variables without cells.
+    // Whether the VAR parameters of the frame of procedure q at base do: locals are none, nor are variables without
+    // cells, over which `next` jumps.
     fn frame_references(&self, next: &[u16], q: u16, base: u32) -> bool
         requires { Skips (program_of self.now.loaded.image.now) next.now
             × Stacked (program_of self.now.loaded.image.now) self.now.store.now self.now.top
             self.now.blocks.now base
             × (q < rows_of (program_of self.now.loaded.image.now).procedures)
             × (base + frame_size (program_of self.now.loaded.image.now).types (program_of self.now.loaded.image.now).fields
-            (program_of self.now.loaded.image.now).variables (program_of self.now.loaded.image.now).procedures q ≤ self.now.top) }
+            (program_of self.now.loaded.image.now).variables (program_of self.now.loaded.image.now).procedures q
+            ≤ self.now.top) }
         ensures { (p : ℕ) (qs older : List ℕ) → Framed (program_of self.now.loaded.image.now) self.now.store.now
             self.now.top self.now.blocks.now qs → Oldest (p ∷ older) qs
             → base ≡ room_of (program_of self.now.loaded.image.now) older
