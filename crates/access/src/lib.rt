@@ -52,6 +52,7 @@ pub fn table<'a>(image: &'a [u8], plan: &[u32], k: usize) -> &'a [u8]
 }
 
 impl<'a> Loaded<'a> {
+    // Table k of the accepted image.
     pub fn table(&self, k: usize) -> &'a [u8]
         requires { k < 6 }
         ensures { result.now ≡ table_of (program_of self.now.image.now) k }

@@ -7,3 +7,4 @@ mod Seeking
 pub mod Bodies
 mod Along
 pub mod Next
+pub mod Conjunctions

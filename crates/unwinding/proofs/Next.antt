@@ -123,39 +123,40 @@ module _ (g : Program) where
           let same : i + j ≡ i = omega arith in
           rw same (get_or-set_same table i x 0 (omega (arith, h.cells)) ∙ is)
 
-  -- the places behind place i are filled, and `first` is to be there
+  -- the places from place i on are filled, and `first` is there
   pub record Down (old table : List ℕ) (first i : ℕ) : Type 0 where
     pub low : i ≤ rows_of g.variables
     pub here : first ≡ next_of g i
-    pub filled : Filled (i + 1) (rows_of g.variables - i) (λ j. next_of g (i + 1 + j)) old table
+    pub filled : Filled i (rows_of g.variables - i + 1) (λ j. next_of g (i + j)) old table
 
-  pub down_start : (old : List ℕ) {i : ℕ} → i ≡ rows_of g.variables → Down old old i i
-  down_start old {i} is =
-      let none : rows - i ≡ 0 = omega (arith, is) in
-      record { low = omega (arith, is); here = rw is (sym next_last); filled = rw none (filled_none (i + 1) _ old) }
+  pub down_start : (old : List ℕ) {i : ℕ} → i ≡ rows_of g.variables → rows_of g.variables < length old
+      → Down old (set old i i) i i
+  down_start old {i} is room =
+      let none : 0 + 1 ≡ rows - i + 1 = omega (arith, is) in
+      let here : i ≡ next_of g i = rw is (sym next_last) in
+      let filled = filled_before (filled_none (i + 1) _ old) (omega (arith, is)) here in
+      record { low = omega (arith, is); here = here; filled = rw none at filled }
 
   module _ {old table : List ℕ} {first i : ℕ} (h : Down old table first i)
       (room : rows_of g.variables < length old) where
-    pub down_next : {k x : ℕ} → i ≡ k + 1 → x ≡ first_or g k first → Down old (set table i first) x k
+    pub down_next : {k x : ℕ} → i ≡ k + 1 → x ≡ first_or g k first → Down old (set table k x) x k
     down_next {k} {x} row is =
-        let more : rows - i + 1 ≡ rows - k = omega (arith, row, h.low) in
-        let filled = filled_before h.filled (omega (arith, h.low)) h.here in
-        record {
-          low = omega (arith, row, h.low);
-          here = is ∙ ap (λ y. first_or g k y) (rw row at h.here) ∙ sym (next_before k (omega (arith, row, h.low)));
-          filled = rw (← row, ← more) filled;
-        }
+        let more : rows - (k + 1) + 1 + 1 ≡ rows - k + 1 = omega (arith, row, h.low) in
+        let low : k < rows = omega (arith, row, h.low) in
+        let here = is ∙ ap (λ y. first_or g k y) (rw row at h.here) ∙ sym (next_before k low) in
+        let behind = rw row at h.filled in
+        record { low = omega arith; here = here; filled = rw more at (filled_before behind (omega arith) here) }
 
-    pub down_end : i ≡ 0 → Filled 0 (rows_of g.variables + 1) (next_of g) old (set table i first)
+    pub down_end : i ≡ 0 → Filled 0 (rows_of g.variables + 1) (next_of g) old table
     down_end none =
         let all : rows - 0 ≡ rows = omega arith in
-        let filled = rw (none, all) at (filled_before h.filled (omega (arith, h.low)) h.here) in
-        rw none (record {
+        let filled = rw (none, all) at h.filled in
+        record {
           cells = filled.cells;
           cell = λ j l. let same : 0 + j ≡ j = omega arith in filled.cell j l ∙ ap (λ r. next_of g r) same;
           below = filled.below;
           above = filled.above;
-        })
+        }
 
   pub skips_by : {old table : List ℕ} → rows_of g.variables < length old
       → Filled 0 (rows_of g.variables + 1) (next_of g) old table → Skips g table

@@ -11,13 +11,12 @@ ghost use Rattle.semantics.specs.Running.{program_of};
 ghost use Rattle.asking.specs.Asking.{room_of};
 ghost use Rattle.asking.specs.State.{chain, inside_kept, call_kept, ends_at};
 ghost use Rattle.asking.specs.Passes.{linked, Walked, newest_below};
-ghost use Rattle.access.specs.Ready.{Planned, Ready};
 ghost use Rattle.unwinding.specs.Links.{link_at, caller_of, spot_of, size_kept, oldest_kept};
 ghost use Rattle.unwinding.specs.Blocks.{BLOCKS, Blocks};
 ghost use Rattle.unwinding.specs.Going.{Oldest};
 ghost use Rattle.unwinding.specs.Next.{NEXT, first_or, next_of};
 
-use access::Plan;
+use access::Loaded;
 use semantics::Mark;
 
 // A frame: its procedure, and where it begins.
@@ -57,11 +56,9 @@ pub fn caller(store: &[i64], top: u32, base: u32) -> Spot
     requires { (top ≤ length store.now) × (base ≤ 65536) }
     ensures { result ≡ caller_of top store.now base }
 {
-    let procedure = link(store, top, base);
-    let older = link(store, top, base + 2);
     Spot {
-        procedure,
-        base: older as u32,
+        procedure: link(store, top, base),
+        base: link(store, top, base + 2) as u32,
     }
 }
 
@@ -76,14 +73,13 @@ fn caller_below(store: &[i64], top: u32, base: u32, at: u32) -> Spot
     let mut b = base;
     loop {
         let older = caller(store, top, b);
-        let start = older.base;
-        if start < at {
+        if older.base < at {
             return older;
         }
-        if b <= start {
+        if b <= older.base {
             return older;
         }
-        b = start;
+        b = older.base;
     }
 }
 
@@ -106,82 +102,51 @@ pub fn frame_below(store: &[i64], top: u32, blocks: &[u16], from: u32, at: u32) 
 // ---- frames of a program
 
 // Whether statement row r lies in the body of procedure q.
-fn inside(image: &&[u8], plan: &Plan, q: u16, r: u32) -> bool
-    requires { Ready image.now.now plan.now }
-    ensures { result ≡ inside_kept (program_of image.now.now) q r }
+fn inside(loaded: &Loaded, q: u16, r: u32) -> bool
+    ensures { result ≡ inside_kept (program_of loaded.now.image.now) q r }
 {
-    let statements = image::rows_of(access::table(*image, plan, 5));
-    if statements <= r as usize {
-        return false;
-    }
-    let owner = access::procedure_of(image, plan, r);
-    owner == q as u32
+    (r as usize) < image::rows_of(loaded.table(5)) && loaded.procedure_of(r) == q as u32
 }
 
 // Whether there is a procedure q.
-fn is_procedure(image: &&[u8], plan: &Plan, q: u16) -> bool
-    requires { Ready image.now.now plan.now }
-    ensures { result ≡ ltb q (rows_of (program_of image.now.now).procedures) }
+fn is_procedure(loaded: &Loaded, q: u16) -> bool
+    ensures { result ≡ ltb q (rows_of (program_of loaded.now.image.now).procedures) }
 {
-    let procedures = image::rows_of(access::table(*image, plan, 3));
-    (q as usize) < procedures
+    (q as usize) < image::rows_of(loaded.table(3))
 }
 
 // Whether row `back` follows a call of procedure q in the body of procedure c.
-fn call_kept(image: &&[u8], plan: &Plan, q: u16, c: u16, back: u16) -> bool
-    requires { Ready image.now.now plan.now }
-    ensures { result ≡ call_kept (program_of image.now.now) q c back }
+fn call_kept(loaded: &Loaded, q: u16, c: u16, back: u16) -> bool
+    ensures { result ≡ call_kept (program_of loaded.now.image.now) q c back }
 {
     if back < 1 {
         return false;
     }
     let call = (back - 1) as u32;
-    let row = access::statement_at(image, plan, call);
-    let kind = row.kind;
-    let called = row.a;
-    if kind != 1 {
-        return false;
-    }
-    if called != q {
-        return false;
-    }
-    if !inside(image, plan, c, call) {
-        return false;
-    }
-    inside(image, plan, c, back as u32)
+    let row = loaded.statement_at(call);
+    row.kind == 1 && row.a == q && inside(loaded, c, call) && inside(loaded, c, back as u32)
 }
 
 // Whether there is a procedure q, whose frame at b ends at e.
-fn size_kept(image: &&[u8], plan: &Plan, q: u16, b: u32, e: u32) -> bool
-    requires { Ready image.now.now plan.now }
-    ensures { result ≡ size_kept (program_of image.now.now) q b e }
+fn size_kept(loaded: &Loaded, q: u16, b: u32, e: u32) -> bool
+    ensures { result ≡ size_kept (program_of loaded.now.image.now) q b e }
 {
-    if !is_procedure(image, plan, q) {
+    if !is_procedure(loaded, q) {
         return false;
     }
-    let size = access::frame_size(image, plan, q);
-    if e < size {
-        return false;
-    }
-    b == e - size
+    let size = loaded.frame_size(q);
+    size <= e && b == e - size
 }
 
 // Whether a frame at b is the oldest.
-fn oldest_kept(image: &&[u8], plan: &Plan, store: &[i64], top: u32, b: u32) -> bool
-    requires { Ready image.now.now plan.now × (top ≤ length store.now) × (b ≤ 65536) }
-    ensures { result ≡ oldest_kept (program_of image.now.now) top store.now b }
+fn oldest_kept(loaded: &Loaded, store: &[i64], top: u32, b: u32) -> bool
+    requires { (top ≤ length store.now) × (b ≤ 65536) }
+    ensures { result ≡ oldest_kept (program_of loaded.now.image.now) top store.now b }
 {
-    let globals = access::global_room(image, plan);
-    if b != globals {
-        return false;
-    }
-    if link(store, top, b) != 0 {
-        return false;
-    }
-    if link(store, top, b + 1) != 0 {
-        return false;
-    }
-    link(store, top, b + 2) == 0
+    b == loaded.global_room()
+        && link(store, top, b) == 0
+        && link(store, top, b + 1) == 0
+        && link(store, top, b + 2) == 0
 }
 
 // ---- the walk
@@ -191,33 +156,21 @@ fn fill(blocks: &mut [u16], from: usize, to: usize, number: u16)
     requires { (from ≤ to) × (to ≤ length blocks.old) }
     ensures { Filled from (to - from) (λ j. number) blocks.old blocks.new }
 {
-    let mut i = from;
-    while i < to {
-        blocks[i] = number;
-        i = i + 1;
-    }
+    blocks[from..to].fill(number);
 }
 
 // Whether the links lead from the frame of procedure q, from base to top, to procedure 0's; if so, the frame above each
 // block is noted.
-pub fn walk(
-    image: &&[u8],
-    plan: &Plan,
-    store: &[i64],
-    q: u16,
-    base: u32,
-    top: u32,
-    blocks: &mut [u16],
-) -> bool
-    requires { Ready image.now.now plan.now × (top ≤ length store.now) × (length store.now ≤ 65536)
+pub fn walk(loaded: &Loaded, store: &[i64], q: u16, base: u32, top: u32, blocks: &mut [u16]) -> bool
+    requires { (top ≤ length store.now) × (length store.now ≤ 65536)
         × (BLOCKS ≤ length blocks.old) }
-    ensures value { result ≡ (ends_at (program_of image.now.now)
-        (chain (program_of image.now.now) store.now (suc base) q base) base top
-        also linked (program_of image.now.now)
-        (chain (program_of image.now.now) store.now (suc base) q base)
+    ensures value { result ≡ (ends_at (program_of loaded.now.image.now)
+        (chain (program_of loaded.now.image.now) store.now (suc base) q base) base top
+        also linked (program_of loaded.now.image.now)
+        (chain (program_of loaded.now.image.now) store.now (suc base) q base)
         store.now) }
-    ensures blocks { result ≡ true → Blocks (program_of image.now.now)
-        (chain (program_of image.now.now) store.now (suc base) q base)
+    ensures blocks { result ≡ true → Blocks (program_of loaded.now.image.now)
+        (chain (program_of loaded.now.image.now) store.now (suc base) q base)
         blocks.new }
 {
     let mut procedure = q;
@@ -227,7 +180,7 @@ pub fn walk(
     let mut high = BLOCKS;
     let mut above = NOWHERE;
     loop {
-        if !size_kept(image, plan, procedure, start, end) {
+        if !size_kept(loaded, procedure, start, end) {
             return false;
         }
         let low = (start / BLOCK) as usize;
@@ -236,51 +189,48 @@ pub fn walk(
         above = start as u16;
         if procedure == 0 {
             fill(blocks, 0, high, above);
-            return oldest_kept(image, plan, store, top, start);
+            return oldest_kept(loaded, store, top, start);
         }
         let older = caller(store, top, start);
-        let called = older.procedure;
-        let below = older.base;
         let back = link(store, top, start + 1);
-        if !call_kept(image, plan, procedure, called, back) {
+        if !call_kept(loaded, procedure, older.procedure, back) {
             return false;
         }
-        if start <= below {
+        if start <= older.base {
             return false;
         }
-        procedure = called;
+        procedure = older.procedure;
         end = start;
-        start = below;
+        start = older.base;
     }
 }
 
 // ---- variables with cells
 
 // Variable row k where it has cells, or the row given.
-fn first_or(image: &&[u8], plan: &Plan, k: u16, behind: u16) -> u16
-    requires { Planned image.now.now plan.now × (k < rows_of (program_of image.now.now).variables) }
-    ensures { result ≡ first_or (program_of image.now.now) k behind }
+fn first_or(loaded: &Loaded, k: u16, behind: u16) -> u16
+    requires { k < rows_of (program_of loaded.now.image.now).variables }
+    ensures { result ≡ first_or (program_of loaded.now.image.now) k behind }
 {
-    if access::width_of(image, plan, k as u32) == 0 {
-        return behind;
+    if loaded.width_of(k as u32) == 0 {
+        behind
+    } else {
+        k
     }
-    k
 }
 
 // Writes at each place, from the last down, the first variable row from there on that has cells, or how many rows there
 // are where none has.
-pub fn fill_next(image: &&[u8], plan: &Plan, next: &mut [u16])
-    requires { Planned image.now.now plan.now × (NEXT ≤ length next.old) }
-    ensures { Filled 0 (rows_of (program_of image.now.now).variables + 1)
-        (next_of (program_of image.now.now)) next.old next.new }
+pub fn fill_next(loaded: &Loaded, next: &mut [u16])
+    requires { NEXT ≤ length next.old }
+    ensures { Filled 0 (rows_of (program_of loaded.now.image.now).variables + 1)
+        (next_of (program_of loaded.now.image.now)) next.old next.new }
 {
-    let rows = image::rows_of(access::table(*image, plan, 2));
+    let rows = image::rows_of(loaded.table(2));
     let mut first = rows as u16;
-    let mut i = rows;
-    while 0 < i {
+    next[rows] = first;
+    for i in (0..rows).rev() {
+        first = first_or(loaded, i as u16, first);
         next[i] = first;
-        i = i - 1;
-        first = first_or(image, plan, i as u16, first);
     }
-    next[i] = first;
 }

@@ -9,11 +9,11 @@ use Rattle.referents.proofs.Scanning.{ahead_reached}
 use Rattle.referents.proofs.in_places.Goals as goal
 
 pub returns-then-n-eq0 : goal.returns-then-n-eq0
-returns-then-n-eq0 c = λ lead placed. scan_none (program_of c.args.image.now.now) _ _ lead _ c.if-n-eq0.true
+returns-then-n-eq0 c = λ lead placed. scan_none (program_of c.args.loaded.now.image.now) _ _ lead _ c.if-n-eq0.true
 
 pub place_of-place-requires : goal.place_of-place-requires
 place_of-place-requires c = let r = c.first_reaching-j.ensures in
-    (c.requires.0.planned, omega (arith, c.requires.2, r.some (omega (arith, c.if-n-eq0.false))))
+    omega (arith, c.requires.2, r.some (omega (arith, c.if-n-eq0.false)))
 
 pub returns-then-at-place : goal.returns-then-at-place
 returns-then-at-place c = let r = c.first_reaching-j.ensures in
@@ -32,7 +32,7 @@ overflow_add-k c = omega (arith, c.requires.2, variables_few c.requires.0.planne
 pub starts_there-requires : goal.starts_there-requires
 starts_there-requires c = let l = c.requires.0 in
     let v = c.table-v.ensures in
-    (l.planned, variables_are _ v, variables_there _ v c.requires.2, omega (arith, c.requires.1, l.typed.few))
+    (variables_are _ v, variables_there _ v c.requires.2, omega (arith, c.requires.1, l.typed.few))
 
 pub returns-then-starts_there : goal.returns-then-starts_there
 returns-then-starts_there c =
@@ -41,7 +41,7 @@ returns-then-starts_there c =
     let more = r.some (omega (arith, c.if-n-eq0.false)) in
     λ lead placed.
     let behind = c.starts_there.ensures _ _ lead (l.edges.each _).start (ahead_reached placed r) in
-    sym (scan_start _ _ _ _ lead _ placed (program_accepted _ l.planned.checked.accepted) c.requires.2 r
+    c.if-starts_there.true ∙ sym (scan_start _ _ _ _ lead _ placed (program_accepted _ l.planned.checked.accepted) c.requires.2 r
     ∙ scan_behind _ _ _ _ lead _ placed r.least more c.place_of-place.ensures c.if-at-place.false refl
     (sym behind ∙ c.if-starts_there.true))
 
@@ -49,8 +49,8 @@ pub in_variable-requires : goal.in_variable-requires
 in_variable-requires c = let r = c.first_reaching-j.ensures in
     (c.requires.0, c.requires.1, omega (arith, c.requires.2, r.some (omega (arith, c.if-n-eq0.false))))
 
-pub returns : goal.returns
-returns c =
+pub returns-else-starts_there : goal.returns-else-starts_there
+returns-else-starts_there c =
     let l = c.requires.0 in
     let r = c.first_reaching-j.ensures in
     let more = r.some (omega (arith, c.if-n-eq0.false)) in

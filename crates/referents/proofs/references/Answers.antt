@@ -8,17 +8,11 @@ pub fill-requires : goal.fill-requires
 unfolding table_of choose
 fill-requires c =
     rw (c.table-f.ensures, c.table-t.ensures)
-    (typed_plan c.requires.0.planned, omega arith, omega arith)
+    (typed_plan c.args.loaded.now.ready.planned, omega arith, omega arith)
+
+pub invariant_of-state : goal.invariant_of-state
+unfolding table_of choose
+invariant_of-state c = record { edges = rw (c.table-f.ensures, c.table-t.ensures) at c.fill.ensures.all_edges }
 
 pub all_references-requires : goal.all_references-requires
-unfolding table_of choose
-all_references-requires c =
-    let p = c.requires.0.planned in (
-      record {
-        planned = p;
-        typed = typed_plan p;
-        edges = rw (c.table-f.ensures, c.table-t.ensures) at c.fill.ensures.all_edges;
-      },
-      c.requires.1,
-      c.requires.2,
-    )
+all_references-requires c = c.requires

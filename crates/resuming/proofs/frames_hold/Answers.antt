@@ -31,7 +31,7 @@ caller-older-requires c =
 
 -- the caller's frame is next
 to-caller : (c : After-caller-older)
-    → let image = c.args.image.now.now in
+    → let image = c.args.loaded.now.image.now in
     (c.caller-older.result.base < c.loop-q.b)
     × Over image (λ older. value_test (program_of image)) c.args.store.now c.args.q c.args.base
     c.args.top c.caller-older.result.procedure c.caller-older.result.base

@@ -11,7 +11,7 @@ unfolding frames_sound
 returns-then-not-walk c = sym (also_left _ (sym c.walk.ensures.value ∙ c.if-not-walk.true))
 
 pub fill_next-requires : goal.fill_next-requires
-fill_next-requires c = (c.requires.0.planned, omega arith)
+fill_next-requires c = omega arith
 
 pub values_hold-requires : goal.values_hold-requires
 values_hold-requires c =
@@ -19,37 +19,36 @@ values_hold-requires c =
     let walked = c.walk.ensures in
     let yes-all = c.if-not-walk.false in
     let (ends, links) = also_true _ _ (sym walked.value ∙ yes-all) in (
+      skips_by _ (omega (arith, variables_few c.args.loaded.now.ready.planned)) filled,
       c.requires.0,
-      skips_by _ (omega (arith, variables_few c.requires.0.planned)) filled,
       c.requires.1,
-      c.requires.2,
       record { ends = ends; links = links },
     )
 
-pub returns-then-not-values_hold : goal.returns-then-not-values_hold
+pub returns-else-values_hold : goal.returns-else-values_hold
 unfolding frames_sound
-returns-then-not-values_hold c = sym (also_right _ (also_left _ (sym c.values_hold.ensures ∙ c.if-not-values_hold.true)))
+returns-else-values_hold c =
+    c.if-values_hold.false ∙ sym (also_right _ (also_left _ (sym c.values_hold.ensures ∙ c.if-values_hold.false)))
 
 pub references-requires : goal.references-requires
 references-requires c =
     let filled = c.fill_next.ensures in
     let yes-all = c.if-not-walk.false in
     let (ends, links) = also_true _ _ (sym c.walk.ensures.value ∙ yes-all) in (
-      c.requires.0,
-      skips_by _ (omega (arith, variables_few c.requires.0.planned)) filled,
+      skips_by _ (omega (arith, variables_few c.args.loaded.now.ready.planned)) filled,
       record {
         walked = record { ends = ends; links = links };
         blocked = c.walk.ensures.blocks yes-all;
         table = omega arith;
-        cells = c.requires.1;
-        small = c.requires.2;
+        cells = c.requires.0;
+        small = c.requires.1;
       },
     )
 
-pub returns : goal.returns
+pub returns-then-values_hold : goal.returns-then-values_hold
 unfolding frames_sound
-returns c =
+returns-then-values_hold c =
     let yes-all = c.if-not-walk.false in
     c.references.ensures
     ∙ sym (also_pass _ (sym c.walk.ensures.value ∙ yes-all)
-    ∙ also_pass _ (sym c.values_hold.ensures ∙ c.if-not-values_hold.false))
+    ∙ also_pass _ (sym c.values_hold.ensures ∙ c.if-values_hold.true))

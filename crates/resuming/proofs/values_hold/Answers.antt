@@ -12,45 +12,45 @@ use Rattle.resuming.proofs.values_hold.Goals as goal
 pub fill_even-requires : goal.fill_even-requires
 unfolding table_of choose
 fill_even-requires c =
-    let p = c.requires.0.planned in
+    let p = c.args.loaded.now.ready.planned in
     rw (c.table-2.ensures, c.table.ensures)
     (types_few p, (typed_plan p).kept, types_few p)
 
 pub first_variable-globals-requires : goal.first_variable-globals-requires
 first_variable-globals-requires c =
-    (c.requires.0.planned, procedures_some c.requires.0.planned)
+    procedures_some c.args.loaded.now.ready.planned
 
 pub variables_hold-requires : goal.variables_hold-requires
 unfolding table_of choose
 variables_hold-requires c =
     let types = c.table.ensures in
     let evens = rw (c.table-2.ensures, types) at c.fill_even.ensures in
-    let p = c.requires.0.planned in
+    let p = c.args.loaded.now.ready.planned in
     rw (c.first_variable-globals.ensures, globals_first _) (
-      readable_by p (types_few p) evens c.requires.3,
-      c.requires.1,
+      readable_by p (types_few p) evens c.requires.2,
+      c.requires.0,
       globals_there p,
-      omega (arith, globals_room _ _ _ _ _ c.requires.4, c.requires.2),
+      omega (arith, globals_room _ _ _ _ _ c.requires.3, c.requires.1),
     )
 
-pub returns-then-not-variables_hold : goal.returns-then-not-variables_hold
+pub returns-else-variables_hold : goal.returns-else-variables_hold
 unfolding values_pass
-returns-then-not-variables_hold c =
+returns-else-variables_hold c =
     let held = rw (c.first_variable-globals.ensures, globals_first _)
     at c.variables_hold.ensures in
-    sym (also_left _ (sym held ∙ c.if-not-variables_hold.true))
+    c.if-variables_hold.false ∙ sym (also_left _ (sym held ∙ c.if-variables_hold.false))
 
 pub frames_hold-requires : goal.frames_hold-requires
 unfolding table_of choose
 frames_hold-requires c =
     let types = c.table.ensures in
     let evens = rw (c.table-2.ensures, types) at c.fill_even.ensures in
-    let p = c.requires.0.planned in
-    (readable_by p (types_few p) evens c.requires.3, c.requires.1, c.requires.2, c.requires.4)
+    let p = c.args.loaded.now.ready.planned in
+    (readable_by p (types_few p) evens c.requires.2, c.requires.0, c.requires.1, c.requires.3)
 
-pub returns : goal.returns
+pub returns-then-variables_hold : goal.returns-then-variables_hold
 unfolding values_pass
-returns c =
+returns-then-variables_hold c =
     let held = rw (c.first_variable-globals.ensures, globals_first _)
     at c.variables_hold.ensures in
-    c.frames_hold.ensures ∙ sym (also_pass _ (sym held ∙ c.if-not-variables_hold.false))
+    c.frames_hold.ensures ∙ sym (also_pass _ (sym held ∙ c.if-variables_hold.true))

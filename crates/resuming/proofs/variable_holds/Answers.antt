@@ -4,8 +4,8 @@ use Rattle.access.specs.Ready.{table_of}
 use Rattle.resuming.proofs.Testing.{test_reference, test_value, inside_value}
 use Rattle.resuming.proofs.variable_holds.Goals as goal
 
-pub returns-then-kind-eq3 : goal.returns-then-kind-eq3
-returns-then-kind-eq3 c = sym (test_reference _ _ _ (rw c.variable_at-row.ensures at c.if-kind-eq3.true))
+pub returns-then-row-eq3 : goal.returns-then-row-eq3
+returns-then-row-eq3 c = sym (test_reference _ _ _ (rw c.variable_at-row.ensures at c.if-row-eq3.true))
 
 pub holds_values-requires : goal.holds_values-requires
 unfolding table_of choose
@@ -13,7 +13,7 @@ holds_values-requires c =
     let row = c.variable_at-row.ensures in
     rw (c.table-f.ensures, c.table-t.ensures, row) (
       c.requires.0.readable,
-      inside_value c.requires.0.planned _ _ c.requires.1 (rw row at c.if-kind-eq3.false) c.requires.2,
+      inside_value c.requires.0.planned _ _ c.requires.1 (rw row at c.if-row-eq3.false) c.requires.2,
     )
 
 pub returns : goal.returns
@@ -22,4 +22,4 @@ returns c =
     let row = c.variable_at-row.ensures in
     c.holds_values.ensures
     ∙ rw (c.table-f.ensures, c.table-t.ensures, row)
-    (sym (test_value _ _ _ (rw row at c.if-kind-eq3.false)))
+    (sym (test_value _ _ _ (rw row at c.if-row-eq3.false)))

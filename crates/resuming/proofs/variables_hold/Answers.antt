@@ -39,12 +39,12 @@ returns-then-not-variable_holds c =
 
 -- row j is there
 there : (c : Else-not-variable_holds)
-    → c.loop-j.j < rows_of (program_of c.args.image.now.now).variables
+    → c.loop-j.j < rows_of (program_of c.args.loaded.now.image.now).variables
 there c = let c = c in
     omega (arith, c.requires.2, c.loop-j-test.true)
 
 pub width_of-at-requires : goal.width_of-at-requires
-width_of-at-requires c = (c.requires.0.planned, there c)
+width_of-at-requires c = there c
 
 pub overflow_add-at : goal.overflow_add-at
 overflow_add-at c = let room = ahead_room _ _ (test_free _) c.loop-j.invariant

@@ -6,7 +6,7 @@ use Rattle.resuming.proofs.variables_hold.Given as goal
 
 abbrev pub invariant-loop-j : goal.invariant-loop-j
 invariant-loop-j l =
-    Ahead (program_of l.image.now) (value_test (program_of l.image.now)) l.store l.k l.n l.a l.j l.at
+    Ahead (program_of l.loaded.image.now) (value_test (program_of l.loaded.image.now)) l.store l.k l.n l.a l.j l.at
 
 abbrev pub decreases-loop-j : goal.decreases-loop-j
 decreases-loop-j l = l.end - l.j

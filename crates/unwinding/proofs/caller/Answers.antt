@@ -3,4 +3,4 @@ use Rattle.unwinding.proofs.caller.Goals as goal
 
 pub returns : goal.returns
 unfolding caller_of
-returns c = rw (c.link-procedure.ensures, c.link-older.ensures)
+returns c = rw (c.link.ensures, c.link-2.ensures)

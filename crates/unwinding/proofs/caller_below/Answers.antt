@@ -11,26 +11,26 @@ loop-older-init c = (
 pub caller-older-requires : goal.caller-older-requires
 caller-older-requires c = (c.requires.0, c.loop-older.invariant.0)
 
-pub returns-then-start-at : goal.returns-then-start-at
-returns-then-start-at c = λ g qs older p start e walked within few above oldest is high.
+pub returns-then-older-at : goal.returns-then-older-at
+returns-then-older-at c = λ g qs older p start e walked within few above oldest is high.
     let l = c.loop-older in
     let s = l.invariant.1 g qs older p start e walked within few above oldest is high in
-    (seeking_on few above l.invariant.0 s c.caller-older.ensures).1 c.if-start-at.true
+    (seeking_on few above l.invariant.0 s c.caller-older.ensures).1 c.if-older-at.true
 
-pub returns-then-b-start : goal.returns-then-b-start
-returns-then-b-start c = λ g qs older p start e walked within few above oldest is high.
+pub returns-then-b-older : goal.returns-then-b-older
+returns-then-b-older c = λ g qs older p start e walked within few above oldest is high.
     let l = c.loop-older in
     let s = l.invariant.1 g qs older p start e walked within few above oldest is high in
     let less = (seeking_on few above l.invariant.0 s c.caller-older.ensures).0 in
-    absurd (omega (arith, c.if-b-start.true))
+    absurd (omega (arith, c.if-b-older.true))
 
 pub loop-older-smaller : goal.loop-older-smaller
-loop-older-smaller c = c.if-b-start.false
+loop-older-smaller c = c.if-b-older.false
 
 pub loop-older-preserved : goal.loop-older-preserved
 loop-older-preserved c = let l = c.loop-older in (
-  omega (arith, l.invariant.0, c.if-b-start.false),
+  omega (arith, l.invariant.0, c.if-b-older.false),
   λ g qs older p start e walked within few above oldest is high.
       let s = l.invariant.1 g qs older p start e walked within few above oldest is high in
-      (seeking_on few above l.invariant.0 s c.caller-older.ensures).2 c.if-start-at.false,
+      (seeking_on few above l.invariant.0 s c.caller-older.ensures).2 c.if-older-at.false,
 )

@@ -8,4 +8,4 @@ pub returns : goal.returns
 unfolding table_of choose
 returns c =
     let q = c.args.q in
-    rw c.table.ensures at (ap (ltb q) c.rows_of-procedures.ensures)
+    rw c.table.ensures at (ap (ltb q) c.rows_of.ensures)

@@ -1,5 +1,5 @@
 use mathlib.Core.Path.{sym, ◌∙◌}
-use borrow.Author.Tests.{ltb-true}
+use borrow.Author.Tests.{lt-leb, ltb-true}
 use Rattle.prelude.proofs.Choice.{also_left, also_right, also_pass}
 use Rattle.unwinding.specs.Links.{size_kept}
 use Rattle.unwinding.proofs.Links.{end_short, end_same}
@@ -10,17 +10,15 @@ unfolding size_kept
 returns-then-not-is_procedure c = sym (also_left _ (sym c.is_procedure.ensures ∙ c.if-not-is_procedure.true))
 
 pub frame_size-size-requires : goal.frame_size-size-requires
-frame_size-size-requires c = (
-  c.requires.planned,
-  ltb-true _ _ (sym c.is_procedure.ensures ∙ c.if-not-is_procedure.false),
-)
+frame_size-size-requires c = ltb-true _ _ (sym c.is_procedure.ensures ∙ c.if-not-is_procedure.false)
 
-pub returns-then-e-size : goal.returns-then-e-size
+pub returns-else-size-e : goal.returns-else-size-e
 unfolding size_kept
-returns-then-e-size c = sym (also_right _ (end_short _ _ c.frame_size-size.ensures c.if-e-size.true))
+returns-else-size-e c =
+    lt-leb _ _ c.if-size-e.false ∙ sym (also_right _ (end_short _ _ c.frame_size-size.ensures c.if-size-e.false))
 
-pub returns : goal.returns
+pub returns-then-size-e : goal.returns-then-size-e
 unfolding size_kept
-returns c =
+returns-then-size-e c =
     let low = sym c.is_procedure.ensures ∙ c.if-not-is_procedure.false in
-    end_same _ _ c.frame_size-size.ensures c.if-e-size.false ∙ sym (also_pass _ low)
+    end_same _ _ c.frame_size-size.ensures c.if-size-e.true ∙ sym (also_pass _ low)

@@ -10,7 +10,7 @@ use Rattle.unwinding.proofs.walk.Given as goal
 abbrev pub invariant-loop-q : goal.invariant-loop-q
 invariant-loop-q l =
     (length l.blocks ≡ length l.initial.blocks)
-    × Along (program_of l.image.now) l.store (chain (program_of l.image.now) l.store (suc l.base) l.q l.base) l.base l.top l.blocks
+    × Along (program_of l.loaded.image.now) l.store (chain (program_of l.loaded.image.now) l.store (suc l.base) l.q l.base) l.base l.top l.blocks
     l.procedure l.start l.end l.high l.above
 
 abbrev pub decreases-loop-q : goal.decreases-loop-q
