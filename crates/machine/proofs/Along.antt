@@ -36,7 +36,6 @@ module _ (g : Program) (input : List ℤ) where
   -- from s₀, where `done` steps were done before n more and the mark was `first`, behind k in all: the state s, the mark,
   -- which top does not exceed, and the run that is left
   pub record Along (n done first : ℕ) (s₀ s : State ℤ) (k mark : ℕ) : Type 0 where
-    pub few : k ≤ done + n
     pub stands : Stands s.at s.cells
     pub cells_kept : length s.cells ≡ length s₀.cells
     pub output_kept : length s.output ≡ length s₀.output
@@ -47,7 +46,7 @@ module _ (g : Program) (input : List ℤ) where
       → Along n done first s s done first
   along_start n done first s h top =
       let all : done + n - done ≡ n = omega arith in
-      record { few = omega arith; stands = h; cells_kept = refl; output_kept = refl; top = top; rest = rw all }
+      record { stands = h; cells_kept = refl; output_kept = refl; top = top; rest = rw all }
 
   -- the next step of the run that is left
   pub along_next : {n done first k mark : ℕ} {s₀ s : State ℤ} → Along n done first s₀ s k mark → k < done + n
@@ -68,7 +67,6 @@ module _ (g : Program) (input : List ℤ) where
   along_more {mark = mark} {s = s} h low e later cells output =
       let new = goes_raised input bare g mark s _ h.top e in
       record {
-        few = omega arith;
         stands = later_stands h.stands later cells;
         cells_kept = cells ∙ h.cells_kept;
         output_kept = output ∙ h.output_kept;
@@ -108,12 +106,12 @@ module _ (g : Program) (input : List ℤ) where
   along_last {k = k} {mark} {s = s} h low shows last same asked new =
       rw (along_next g input h low, new, asked, same) (shows_last shows last (k + 1) (raised g s mark) _)
 
-  pub along_out : {n done first k mark : ℕ} {s₀ s : State ℤ} → Along g input n done first s₀ s k mark → done + n ≤ k
-      → Stops (run_from bare g input n done first s₀) (ended_with 0 0 (pos 0) k s.at mark) s.cells s.output
+  pub along_out : {n done first k mark : ℕ} {s₀ s : State ℤ} → Along g input n done first s₀ s k mark → k ≡ done + n
+      → Stops (run_from bare g input n done first s₀) (ended_with 0 0 (pos 0) (done + n) s.at mark) s.cells s.output
   unfolding run_from numbers_of ended_with
-  along_out {n} {done} {k = k} h most =
+  along_out {n} {done} {k = k} h all =
       let none : done + n - k ≡ 0 = omega arith in
-      rw (h.rest, none) (record { answer = refl; cells_left = refl; output_left = refl })
+      rw (h.rest, none) (record { answer = rw all; cells_left = refl; output_left = refl })
 
 -- a step that goes on, or is stuck, is no last one that the paper has a number for
 pub stop_other : (x : Step) → OneOf (0 ∷ 3 ∷ []) (tag_of step_type x) → (s : Registers) (k mark : ℕ)

@@ -110,7 +110,7 @@ fn refused_by(answer: Result<(), Refusal>) -> RunResult
 }
 
 // G + F0: how many cells the globals and procedure 0's frame have.
-fn first_top(image: &&[u8], plan: &Plan) -> u32
+fn first_top(loaded: &Loaded) -> u32
     ensures { result ≡ first_top (program_of loaded.now.image.now) }
 {
     loaded.global_room() + loaded.frame_size(0)

@@ -5,18 +5,15 @@ use Rattle.machine.proofs.Along.{along_start, along_more, along_last, along_out,
 use Rattle.machine.proofs.advance.Goals as goal
 
 pub loop-k-init : goal.loop-k-init
-loop-k-init c = along_start _ _ _ _ _ _ c.requires.1 c.requires.2
+loop-k-init c = along_start _ _ _ _ _ _ c.requires.0 c.requires.1
 
 pub step-next-requires : goal.step-next-requires
-step-next-requires c = (c.requires.0, c.loop-k.invariant.stands)
-
-pub overflow_add-count : goal.overflow_add-count
-overflow_add-count c = omega (arith, c.loop-k.invariant.few)
+step-next-requires c = c.loop-k.invariant.stands
 
 pub asked-asked-requires : goal.asked-asked-requires
 asked-asked-requires c =
     let stands = c.loop-k.invariant.stands in
-    (c.requires.0, omega (arith, stands.top, stands.few))
+    omega (arith, stands.top, stands.few)
 
 pub shape_of-store-in_default : goal.shape_of-store-in_default
 shape_of-store-in_default c =
@@ -31,16 +28,12 @@ returns-in_default c =
     rw c.stop_by.ensures
     (along_last _ _ c.loop-k.invariant c.loop-k-test.true c.step-next.ensures
     (opened c.in_default.in_default-own.keys2) c.step-next.auto.store c.asked-asked.ensures
-    c.max_of.ensures)
-
-pub loop-k-smaller : goal.loop-k-smaller
-loop-k-smaller c =
-    omega (arith, c.loop-k.invariant.few)
+    c.max.ensures)
 
 pub loop-k-preserved : goal.loop-k-preserved
 loop-k-preserved c =
     let shown = shows_going (rw c.in-Goes.is at c.step-next.ensures) in
-    rw c.max_of-mark.ensures
+    rw c.max-mark.ensures
     (along_more _ _ c.loop-k.invariant c.loop-k-test.true shown.0 shown.1
     c.step-next.auto.store c.step-next.auto.output)
 
@@ -51,4 +44,4 @@ pub shape_of-output : goal.shape_of-output
 shape_of-output c = c.loop-k.invariant.output_kept
 
 pub returns : goal.returns
-returns c = rw c.ended.ensures (along_out _ _ c.loop-k.invariant c.loop-k-test.false)
+returns c = rw c.ended.ensures (along_out _ _ c.loop-k.invariant (omega arith))

@@ -1,4 +1,3 @@
-use Prim.Native.Nat.{◌-◌}
 use Rattle.semantics.specs.Running.{program_of}
 use Rattle.calling.specs.Showing.{state_of}
 use Rattle.machine.proofs.Along.{Along}
@@ -7,7 +6,4 @@ use Rattle.machine.proofs.advance.Given as goal
 -- `machine::advance` meets its contract: step by step, until the last.
 abbrev pub invariant-loop-k : goal.invariant-loop-k
 invariant-loop-k l =
-    Along (program_of l.image.now) l.input l.n l.done l.first (state_of l.initial.s l.initial.store l.initial.output) (state_of l.s l.store l.output) l.k l.mark
-
-abbrev pub decreases-loop-k : goal.decreases-loop-k
-decreases-loop-k l = l.end - l.k
+    Along (program_of l.loaded.image.now) l.input l.n l.done l.first (state_of l.initial.s l.initial.store l.initial.output) (state_of l.s l.store l.output) l.k l.mark

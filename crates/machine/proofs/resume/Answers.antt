@@ -1,13 +1,22 @@
-use mathlib.Core.Path.{sym, ◌∙◌}
+use mathlib.Core.Path.{◌≡◌, sym, ◌∙◌}
 use native.Mathlib.Omega.{arith}
+use Rattle.semantics.specs.Running.{refusal}
 use Rattle.semantics.proofs.Outcomes.{refusal_none}
 use Rattle.access.proofs.Opening.{opened_ready}
 use Rattle.asking.proofs.Continuing.{question14_exact, continue_refused}
 use Rattle.asking.proofs.Giving.{continue_gives, continues_14, continued_ranged, continued_marked, continues_run}
 use Rattle.machine.proofs.Results.{store_refuses, gives_check, gives_store, continues_kept}
 use Rattle.machine.proofs.resume.Goals as goal
+use Rattle.machine.proofs.resume.Goals.{Else-question-ne0}
 
 -- `machine::resume` meets its contract: the check, questions 12 to 14, and steps from where the earlier result stands.
+
+-- behind questions 12 and 13
+passed : (c : Else-question-ne0) → refusal c.args.image.now c.args.store.now ≡ 0
+passed c =
+    store_refuses _ _ (sym c.open_image-answer.ensures.value ∙ c.in-Ok.is)
+    ∙ sym c.store_question-question.ensures ∙ c.if-question-ne0.false
+
 pub returns-in_default : goal.returns-in_default
 returns-in_default c =
     let all = continue_gives _ _ _ _ _ _
@@ -15,8 +24,12 @@ returns-in_default c =
     c.open_image-answer.ensures.value c.refused_by.ensures) in
     record { value = all.0; store = all.1.0; output = all.1.1 }
 
-pub store_question-question-requires : goal.store_question-question-requires
-store_question-question-requires c = opened_ready _ _ _ _ (omega arith) c.in-Ok.is (sym c.open_image-answer.ensures.value) c.open_image-answer.ensures.plan
+pub invariant_of-loaded : goal.invariant_of-loaded
+invariant_of-loaded c = record {
+  ready =
+      opened_ready _ _ _ _ (omega arith) c.in-Ok.is (sym c.open_image-answer.ensures.value)
+      c.open_image-answer.ensures.plan;
+}
 
 pub returns-then-question-ne0 : goal.returns-then-question-ne0
 returns-then-question-ne0 c =
@@ -27,12 +40,12 @@ returns-then-question-ne0 c =
 
 pub continuable-passes-requires : goal.continuable-passes-requires
 continuable-passes-requires c =
-    let none = store_refuses _ _ (sym c.open_image-answer.ensures.value ∙ c.in-Ok.is) ∙ sym c.store_question-question.ensures ∙ c.if-question-ne0.false in
-    (opened_ready _ _ _ _ (omega arith) c.in-Ok.is (sym c.open_image-answer.ensures.value) c.open_image-answer.ensures.plan, (refusal_none _ _ none).1)
+    let none = passed (goal.at.continuable-passes-requires c).Else-question-ne0 in
+    (refusal_none _ _ none).1
 
 pub returns-then-steps-eq0 : goal.returns-then-steps-eq0
 returns-then-steps-eq0 c =
-    let none = store_refuses _ _ (sym c.open_image-answer.ensures.value ∙ c.in-Ok.is) ∙ sym c.store_question-question.ensures ∙ c.if-question-ne0.false in
+    let none = passed (goal.at.returns-then-steps-eq0 c).Else-question-ne0 in
     let all = continue_gives _ _ _ _ _ _
     (continues_kept _ _ _ _ _ _ (record { each = λ i. omega (arith, c.shared_slice_known-1.given i) }) none c.if-steps-eq0.true _
     c.continuable-passes.ensures c.kept.ensures) in
@@ -40,12 +53,12 @@ returns-then-steps-eq0 c =
 
 pub continuable-requires : goal.continuable-requires
 continuable-requires c =
-    let none = store_refuses _ _ (sym c.open_image-answer.ensures.value ∙ c.in-Ok.is) ∙ sym c.store_question-question.ensures ∙ c.if-question-ne0.false in
-    (opened_ready _ _ _ _ (omega arith) c.in-Ok.is (sym c.open_image-answer.ensures.value) c.open_image-answer.ensures.plan, (refusal_none _ _ none).1)
+    let none = passed (goal.at.continuable-requires c).Else-question-ne0 in
+    (refusal_none _ _ none).1
 
 pub returns-then-not-continuable : goal.returns-then-not-continuable
 returns-then-not-continuable c =
-    let none = store_refuses _ _ (sym c.open_image-answer.ensures.value ∙ c.in-Ok.is) ∙ sym c.store_question-question.ensures ∙ c.if-question-ne0.false in
+    let none = passed (goal.at.returns-then-not-continuable c).Else-question-ne0 in
     let all = continue_gives _ _ _ _ _ _
     (continues_14 _ _ _ _ _ _ none
     (sym c.continuable.ensures ∙ c.if-not-continuable.true) c.refused-then-not-continuable.ensures) in
@@ -53,12 +66,11 @@ returns-then-not-continuable c =
 
 pub advance-requires : goal.advance-requires
 advance-requires c =
-    let none = store_refuses _ _ (sym c.open_image-answer.ensures.value ∙ c.in-Ok.is) ∙ sym c.store_question-question.ensures ∙ c.if-question-ne0.false in
+    let none = passed (goal.at.advance-requires c).Else-question-ne0 in
     let passes = sym c.continuable.ensures ∙ c.if-not-continuable.false in
     let ranged = continued_ranged _ _ _ _ _ _ (record { each = λ i. omega (arith, c.shared_slice_known-1.given i) }) none passes in
     let marked = continued_marked _ _ _ _ _ _ (record { each = λ i. omega (arith, c.shared_slice_known-1.given i) }) none passes in
     let steps = ((question14_exact _ (sym c.open_image-answer.ensures.value ∙ c.in-Ok.is) _ _ _ _ _).0 passes).steps in (
-      opened_ready _ _ _ _ (omega arith) c.in-Ok.is (sym c.open_image-answer.ensures.value) c.open_image-answer.ensures.plan,
       record {
         row = omega (arith, ranged.row);
         base = omega (arith, ranged.base);
@@ -71,7 +83,7 @@ advance-requires c =
 
 pub returns : goal.returns
 returns c =
-    let none = store_refuses _ _ (sym c.open_image-answer.ensures.value ∙ c.in-Ok.is) ∙ sym c.store_question-question.ensures ∙ c.if-question-ne0.false in
+    let none = passed (goal.at.returns c).Else-question-ne0 in
     let passes = sym c.continuable.ensures ∙ c.if-not-continuable.false in
     let stops = c.advance.ensures in
     let all = continue_gives _ _ _ _ _ _

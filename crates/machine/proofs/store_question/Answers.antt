@@ -8,14 +8,14 @@ pub returns-then-cells-gt65536 : goal.returns-then-cells-gt65536
 unfolding store_question
 returns-then-cells-gt65536 c = sym (choose_no _ _ _ (lt-leb _ _ c.if-cells-gt65536.true))
 
-pub returns-then-cells-top : goal.returns-then-cells-top
+pub returns-then-cells-first_top : goal.returns-then-cells-first_top
 unfolding store_question
-returns-then-cells-top c =
-    let short = rw c.first_top-top.ensures at c.if-cells-top.true in
+returns-then-cells-first_top c =
+    let short = rw c.first_top.ensures at c.if-cells-first_top.true in
     sym (choose_yes _ _ _ (le-leb _ _ c.if-cells-gt65536.false) ∙ choose_no _ _ _ (lt-leb _ _ short))
 
 pub returns : goal.returns
 unfolding store_question
 returns c =
-    let room = rw c.first_top-top.ensures at c.if-cells-top.false in
+    let room = rw c.first_top.ensures at c.if-cells-first_top.false in
     sym (choose_yes _ _ _ (le-leb _ _ c.if-cells-gt65536.false) ∙ choose_yes _ _ _ (le-leb _ _ room))

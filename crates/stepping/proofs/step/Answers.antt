@@ -10,9 +10,8 @@ use Rattle.image.specs.Rows.{row_at, rows_of}
 use Rattle.image.proofs.Bytes.{row_there}
 use Rattle.semantics.specs.declared.Registers.{Registers}
 use Rattle.semantics.specs.Memory.{bare}
-use Rattle.semantics.specs.Layout.{Program}
 use Rattle.semantics.specs.Running.{program_of}
-use Rattle.semantics.specs.Stepping.{State, perform, step_of}
+use Rattle.semantics.specs.Stepping.{perform, step_of}
 use Rattle.access.specs.Ready.{Planned}
 use Rattle.access.proofs.Bounds.{statements_few, call_there}
 use Rattle.calling.specs.Showing.{state_of, Shows.shows_stuck}

@@ -1,7 +1,7 @@
 -- `finding::eval` and `finding::find` meet their contracts: they call each other for lower rows alone.
 use mathlib.Core.Path.{◌≡◌, refl, sym, ap, ◌∙◌}
 use mathlib.Core.Logic.{◌⊎◌, inl, inr, ⊎_elim}
-use mathlib.Core.Bool.{Bool, true, false}
+use mathlib.Core.Bool.{false}
 use mathlib.Core.List.{List}
 use Prim.Native.Nat.{ℕ, ◌<◌}
 use lib.IntN.{ℤ}
@@ -31,11 +31,13 @@ use Rattle.semantics.specs.Layout.{Program}
 use Rattle.semantics.specs.Finding.{reach, content, index, variable_place, field_place, element_place, array_place}
 use Rattle.semantics.specs.Finding.{guard_place, test_of, designator, Meaning, meaning_by, find_of, eval_of}
 use Rattle.semantics.specs.Running.{program_of}
+use Rattle.finding.specs.Missed.{no_value}
 use Rattle.finding.proofs.Missed.{reach_object, content_object, reach_other, content_other, index_other}
 use Rattle.finding.proofs.Missed.{index_handed, index_none, index_value, array_stuck, array_none, array_index}
 use Rattle.finding.proofs.Laws.{lower, find_row, eval_row, find_lower, eval_lower, not_lower, find_other}
 use Rattle.finding.proofs.Low.{find_within, variable_there, field_there, element_there, guard_there}
 use Rattle.finding.proofs.View.+eval_find.Goals as goal
+use Rattle.finding.proofs.View.+eval_find.Goals.{eval-In-Val-right}
 
 -- ---- what a node is worth and what it designates, by what is known of it
 
@@ -68,6 +70,10 @@ module _ (g : Program) (base top : ℕ) (store : List ℤ) (r : ℕ) (row : Row)
   abbrev held : Found → Answer
   held x = content x (λ place. value_at bare top store (kind_in g.types place.declared) place.address)
 
+  -- what is no object holds nothing, whatever would follow from it
+  lost : {x : Found} → ((p : Place) → x ≡ Fs.At p → ⊥) → (next : Place → Found) → held (reach x next) ≡ no_value x
+  lost none next = ap held (reach_other _ none next) ∙ content_other _ none _
+
   -- a node of a kind
   at_row : (kind : ℕ) → row.kind ≡ kind → worth ≡ (meaning_by bare g base top store low kind row).value
   at_row kind e = eval_row _ _ _ _ _ _ row here kind e
@@ -87,6 +93,9 @@ module _ (g : Program) (base top : ℕ) (store : List ℤ) (r : ℕ) (row : Row)
     unfolding meaning_by designator choose
     at_whole = at_row 2 kind ∙ rw (find_lower _ _ _ _ _ _ _ less f)
 
+    at_whole_lost : ((p : Place) → x ≡ Fs.At p → ⊥) → worth ≡ no_value x
+    at_whole_lost none = at_whole ∙ lost none field
+
     f_whole : found ≡ reach x field
     unfolding meaning_by designator choose
     f_whole = f_row 2 kind ∙ rw (find_lower _ _ _ _ _ _ _ less f)
@@ -95,8 +104,9 @@ module _ (g : Program) (base top : ℕ) (store : List ℤ) (r : ℕ) (row : Row)
       at_record : worth ≡ held (field owner)
       at_record = at_whole ∙ ap held (reach_object o _)
 
-      f_record : found ≡ field owner
-      f_record = f_whole ∙ reach_object o _
+      f_part : {part : Found}
+          → part ≡ field_place owner (field_of g.types g.fields owner.declared (row_at g.nodes r).b) → part ≡ found
+      f_part p = p ∙ named owner ∙ sym (f_whole ∙ reach_object o _)
 
       at_part : {part : Found}
           → part ≡ field_place owner (field_of g.types g.fields owner.declared (row_at g.nodes r).b) → worth ≡ held part
@@ -108,6 +118,9 @@ module _ (g : Program) (base top : ℕ) (store : List ℤ) (r : ℕ) (row : Row)
     unfolding meaning_by designator choose
     at_list = at_row 3 kind ∙ rw (find_lower _ _ _ _ _ _ _ less f)
 
+    at_list_lost : ((p : Place) → x ≡ Fs.At p → ⊥) → worth ≡ no_value x
+    at_list_lost none = at_list ∙ lost none (element (low row.b).value)
+
     f_list : found ≡ reach x (element (low row.b).value)
     unfolding meaning_by designator choose
     f_list = f_row 3 kind ∙ rw (find_lower _ _ _ _ _ _ _ less f)
@@ -115,6 +128,11 @@ module _ (g : Program) (base top : ℕ) (store : List ℤ) (r : ℕ) (row : Row)
     module _ {array : Place} (o : x ≡ Fs.At array) where
       at_array : worth ≡ held (element (low row.b).value array)
       at_array = at_list ∙ ap held (reach_object o _)
+
+      at_no_array : (type : Row) → type ≡ row_at g.types array.declared → (type.kind ≡ 3 → ⊥) → worth ≡ As.Stuck
+      unfolding content
+      at_no_array type is none =
+          at_array ∙ ap held (array_none _ _ _ (λ e. none (ap (λ (x : Row). x.kind) is ∙ e)))
 
       f_array : found ≡ element (low row.b).value array
       f_array = f_list ∙ reach_object o _
@@ -129,6 +147,10 @@ module _ (g : Program) (base top : ℕ) (store : List ℤ) (r : ℕ) (row : Row)
 
         at_index : worth ≡ held (index y (element_place g array type))
         at_index = at_array ∙ ap held element_at
+
+        at_no_integer : {v : Value} → y ≡ As.Val v → ((z : ℤ) → v ≡ Vs.Int z → ⊥) → worth ≡ As.Stuck
+        unfolding content
+        at_no_integer value none = at_index ∙ ap held (index_none _ value none _)
 
         f_index : found ≡ index y (element_place g array type)
         f_index = f_array ∙ element_at
@@ -146,6 +168,9 @@ module _ (g : Program) (base top : ℕ) (store : List ℤ) (r : ℕ) (row : Row)
     at_guarded : worth ≡ held (reach x (guard_place g row.b))
     unfolding meaning_by designator choose
     at_guarded = at_row 4 kind ∙ rw (← f)
+
+    at_guarded_lost : ((p : Place) → x ≡ Fs.At p → ⊥) → worth ≡ no_value x
+    at_guarded_lost none = at_guarded ∙ lost none (guard_place g row.b)
 
     f_guarded : found ≡ reach x (guard_place g row.b)
     unfolding meaning_by designator choose
@@ -188,6 +213,16 @@ module _ (g : Program) (base top : ℕ) (store : List ℤ) (r : ℕ) (row : Row)
 
 -- ---- eval
 
+-- behind both operands' values
+operands : {t : ℕ} (c : eval-In-Val-right t)
+    → eval_of bare (program_of c.args.self.now.loaded.image.now) c.args.self.now.base c.args.self.now.top
+    c.args.self.now.store.now c.args.r
+    ≡ dyadic_of c.node_at-node.result.c c.in-Val-left.x c.in-Val-right.y
+operands c =
+    at_operands _ _ _ _ _ _ c.node_at-node.ensures c.in-5.is c.if-r-first-3.false
+    (c.fresh-left.ensures ∙ c.eval-in-5.ensures) c.in-Val-left.is (sym c.decides.ensures ∙ c.if-decides.false)
+    c.if-r-second-2.false (c.fresh-right.ensures ∙ c.eval-in-5-2.ensures) c.in-Val-right.is
+
 pub eval-returns-in-0 : goal.eval-returns-in-0
 unfolding meaning_by choose
 eval-returns-in-0 t c = c.constant.ensures ∙ sym (at_row _ _ _ _ _ _ c.node_at-node.ensures 0 c.in-0.is)
@@ -217,10 +252,8 @@ eval-returns-then-r-first t c =
 pub eval-returns-in_default-whole : goal.eval-returns-in_default-whole
 eval-returns-in_default-whole t c =
     c.no_value-in_default-whole.ensures
-    ∙ sym (at_whole _ _ _ _ _ _ c.node_at-node.ensures c.in-2.is c.if-r-first.false
-    (c.fresh_place-whole.ensures ∙ c.find.ensures)
-    ∙ ap (held (program_of c.args.self.now.loaded.image.now) c.args.self.now.base c.args.self.now.top c.args.self.now.store.now c.args.r _ c.node_at-node.ensures) (reach_other _ c.in_default-whole.not-At _)
-    ∙ content_other _ c.in_default-whole.not-At _)
+    ∙ sym (at_whole_lost _ _ _ _ _ _ c.node_at-node.ensures c.in-2.is c.if-r-first.false
+    (c.fresh_place-whole.ensures ∙ c.find.ensures) c.in_default-whole.not-At)
 
 pub eval-field_place-requires : goal.eval-field_place-requires
 eval-field_place-requires t c =
@@ -258,18 +291,13 @@ eval-returns-then-r-first-2 t c =
 pub eval-returns-in_default-list : goal.eval-returns-in_default-list
 eval-returns-in_default-list t c =
     c.no_value-in_default-list.ensures
-    ∙ sym (at_list _ _ _ _ _ _ c.node_at-node.ensures c.in-3.is c.if-r-first-2.false
-    (c.fresh_place-list.ensures ∙ c.find-in-3.ensures)
-    ∙ ap (held (program_of c.args.self.now.loaded.image.now) c.args.self.now.base c.args.self.now.top c.args.self.now.store.now c.args.r _ c.node_at-node.ensures) (reach_other _ c.in_default-list.not-At _)
-    ∙ content_other _ c.in_default-list.not-At _)
+    ∙ sym (at_list_lost _ _ _ _ _ _ c.node_at-node.ensures c.in-3.is c.if-r-first-2.false
+    (c.fresh_place-list.ensures ∙ c.find-in-3.ensures) c.in_default-list.not-At)
 
 pub eval-returns-then-row-ne3 : goal.eval-returns-then-row-ne3
-unfolding content
 eval-returns-then-row-ne3 t c =
-    sym (at_array _ _ _ _ _ _ c.node_at-node.ensures c.in-3.is c.if-r-first-2.false
-    (c.fresh_place-list.ensures ∙ c.find-in-3.ensures) c.in-At-list.is
-    ∙ ap (held (program_of c.args.self.now.loaded.image.now) c.args.self.now.base c.args.self.now.top c.args.self.now.store.now c.args.r _ c.node_at-node.ensures)
-    (array_none _ _ _ (λ e. c.if-row-ne3.true (ap (λ (x : Row). x.kind) c.type_at-row.ensures ∙ e))))
+    sym (at_no_array _ _ _ _ _ _ c.node_at-node.ensures c.in-3.is c.if-r-first-2.false
+    (c.fresh_place-list.ensures ∙ c.find-in-3.ensures) c.in-At-list.is _ c.type_at-row.ensures c.if-row-ne3.true)
 
 pub eval-returns-then-r-second : goal.eval-returns-then-r-second
 unfolding content
@@ -286,12 +314,10 @@ eval-returns-in_default-index t c =
     ∙ index_handed _ c.in_default-index.not-Val _ _)
 
 pub eval-returns-in_default-value : goal.eval-returns-in_default-value
-unfolding content
 eval-returns-in_default-value t c =
-    sym (at_index _ _ _ _ _ _ c.node_at-node.ensures c.in-3.is c.if-r-first-2.false
+    sym (at_no_integer _ _ _ _ _ _ c.node_at-node.ensures c.in-3.is c.if-r-first-2.false
     (c.fresh_place-list.ensures ∙ c.find-in-3.ensures) c.in-At-list.is _ c.type_at-row.ensures c.if-row-ne3.false
-    c.if-r-second.false (c.fresh-index.ensures ∙ c.eval.ensures)
-    ∙ ap (held (program_of c.args.self.now.loaded.image.now) c.args.self.now.base c.args.self.now.top c.args.self.now.store.now c.args.r _ c.node_at-node.ensures) (index_none _ c.in-Val.is c.in_default-value.not-Int _))
+    c.if-r-second.false (c.fresh-index.ensures ∙ c.eval.ensures) c.in-Val.is c.in_default-value.not-Int)
 
 pub eval-element_place-requires : goal.eval-element_place-requires
 eval-element_place-requires t c =
@@ -328,9 +354,8 @@ eval-returns-in-At-element t c =
 pub eval-returns-in_default-guarded : goal.eval-returns-in_default-guarded
 eval-returns-in_default-guarded t c =
     c.no_value-in_default-guarded.ensures
-    ∙ sym (at_guarded _ _ _ _ _ _ c.node_at-node.ensures c.in-4.is c.variable_place-guarded.ensures
-    ∙ ap (held (program_of c.args.self.now.loaded.image.now) c.args.self.now.base c.args.self.now.top c.args.self.now.store.now c.args.r _ c.node_at-node.ensures) (reach_other _ c.in_default-guarded.not-At _)
-    ∙ content_other _ c.in_default-guarded.not-At _)
+    ∙ sym (at_guarded_lost _ _ _ _ _ _ c.node_at-node.ensures c.in-4.is c.variable_place-guarded.ensures
+    c.in_default-guarded.not-At)
 
 pub eval-returns-in_default-narrowed : goal.eval-returns-in_default-narrowed
 eval-returns-in_default-narrowed t c =
@@ -387,56 +412,42 @@ eval-returns-in_default-right t c =
 
 pub eval-returns-in_default-y : goal.eval-returns-in_default-y
 eval-returns-in_default-y t c =
-    sym (at_operands _ _ _ _ _ _ c.node_at-node.ensures c.in-5.is c.if-r-first-3.false
-    (c.fresh-left.ensures ∙ c.eval-in-5.ensures) c.in-Val-left.is (sym c.decides.ensures ∙ c.if-decides.false)
-    c.if-r-second-2.false (c.fresh-right.ensures ∙ c.eval-in-5-2.ensures) c.in-Val-right.is
+    sym (operands (goal.at.eval-returns-in_default-y t c).In-Val-right
     ∙ rw c.in-Bool.is (not_booleans _ _ _ (opened c.in_default-y.in_default-y-own.keys2)))
 
 pub eval-returns-in_default-y-2 : goal.eval-returns-in_default-y-2
 eval-returns-in_default-y-2 t c =
-    sym (at_operands _ _ _ _ _ _ c.node_at-node.ensures c.in-5.is c.if-r-first-3.false
-    (c.fresh-left.ensures ∙ c.eval-in-5.ensures) c.in-Val-left.is (sym c.decides.ensures ∙ c.if-decides.false)
-    c.if-r-second-2.false (c.fresh-right.ensures ∙ c.eval-in-5-2.ensures) c.in-Val-right.is
+    sym (operands (goal.at.eval-returns-in_default-y-2 t c).In-Val-right
     ∙ rw c.in-Set.is (not_sets _ _ _ (opened c.in_default-y-2.in_default-y-2-own.keys2)))
 
 pub eval-returns-in-Bool-y : goal.eval-returns-in-Bool-y
 eval-returns-in-Bool-y t c =
     c.booleans.ensures
-    ∙ sym (at_operands _ _ _ _ _ _ c.node_at-node.ensures c.in-5.is c.if-r-first-3.false
-    (c.fresh-left.ensures ∙ c.eval-in-5.ensures) c.in-Val-left.is (sym c.decides.ensures ∙ c.if-decides.false)
-    c.if-r-second-2.false (c.fresh-right.ensures ∙ c.eval-in-5-2.ensures) c.in-Val-right.is
+    ∙ sym (operands (goal.at.eval-returns-in-Bool-y t c).In-Val-right
     ∙ rw (c.in-Bool.is, c.in-Bool-y.is) (two_booleans _ _ _))
 
 pub eval-returns-in-Bool-y-2 : goal.eval-returns-in-Bool-y-2
 eval-returns-in-Bool-y-2 t c =
-    sym (at_operands _ _ _ _ _ _ c.node_at-node.ensures c.in-5.is c.if-r-first-3.false
-    (c.fresh-left.ensures ∙ c.eval-in-5.ensures) c.in-Val-left.is (sym c.decides.ensures ∙ c.if-decides.false)
-    c.if-r-second-2.false (c.fresh-right.ensures ∙ c.eval-in-5-2.ensures) c.in-Val-right.is
+    sym (operands (goal.at.eval-returns-in-Bool-y-2 t c).In-Val-right
     ∙ rw (c.in-Int-x.is, c.in-Bool-y-2.is) (not_integer _ _ _))
 
 pub eval-returns-in-Int-y : goal.eval-returns-in-Int-y
 eval-returns-in-Int-y t c =
     c.integers.ensures
-    ∙ sym (at_operands _ _ _ _ _ _ c.node_at-node.ensures c.in-5.is c.if-r-first-3.false
-    (c.fresh-left.ensures ∙ c.eval-in-5.ensures) c.in-Val-left.is (sym c.decides.ensures ∙ c.if-decides.false)
-    c.if-r-second-2.false (c.fresh-right.ensures ∙ c.eval-in-5-2.ensures) c.in-Val-right.is
+    ∙ sym (operands (goal.at.eval-returns-in-Int-y t c).In-Val-right
     ∙ rw (c.in-Int-x.is, c.in-Int-y.is, plain32 c.in-Int-x.i (search rules), plain32 c.in-Int-y.j (search rules))
     (two_integers _ _ _))
 
 pub eval-returns-in-Set-y : goal.eval-returns-in-Set-y
 eval-returns-in-Set-y t c =
     c.membership.ensures
-    ∙ sym (at_operands _ _ _ _ _ _ c.node_at-node.ensures c.in-5.is c.if-r-first-3.false
-    (c.fresh-left.ensures ∙ c.eval-in-5.ensures) c.in-Val-left.is (sym c.decides.ensures ∙ c.if-decides.false)
-    c.if-r-second-2.false (c.fresh-right.ensures ∙ c.eval-in-5-2.ensures) c.in-Val-right.is
+    ∙ sym (operands (goal.at.eval-returns-in-Set-y t c).In-Val-right
     ∙ rw (c.in-Int-x.is, c.in-Set-y.is, plain32 c.in-Int-x.i (search rules)) (integer_and_set _ _ _))
 
 pub eval-returns-in-Set-y-2 : goal.eval-returns-in-Set-y-2
 eval-returns-in-Set-y-2 t c =
     c.sets.ensures
-    ∙ sym (at_operands _ _ _ _ _ _ c.node_at-node.ensures c.in-5.is c.if-r-first-3.false
-    (c.fresh-left.ensures ∙ c.eval-in-5.ensures) c.in-Val-left.is (sym c.decides.ensures ∙ c.if-decides.false)
-    c.if-r-second-2.false (c.fresh-right.ensures ∙ c.eval-in-5-2.ensures) c.in-Val-right.is
+    ∙ sym (operands (goal.at.eval-returns-in-Set-y-2 t c).In-Val-right
     ∙ rw (c.in-Set.is, c.in-Set-y-2.is) (two_sets _ _ _))
 
 pub eval-returns-then-r-first-4 : goal.eval-returns-then-r-first-4
@@ -523,10 +534,8 @@ find-field_place-requires t c =
 
 pub find-returns-in-At : goal.find-returns-in-At
 find-returns-in-At t c =
-    c.fresh_place.ensures ∙ c.field_place.ensures
-    ∙ named (program_of c.args.self.now.loaded.image.now) c.args.self.now.base c.args.self.now.top c.args.self.now.store.now c.args.r _ c.node_at-node.ensures _
-    ∙ sym (f_record _ _ _ _ _ _ c.node_at-node.ensures c.in-2.is c.if-r-first.false
-    (c.fresh_place-whole.ensures ∙ c.find.ensures) c.in-At.is)
+    f_part _ _ _ _ _ _ c.node_at-node.ensures c.in-2.is c.if-r-first.false
+    (c.fresh_place-whole.ensures ∙ c.find.ensures) c.in-At.is (c.fresh_place.ensures ∙ c.field_place.ensures)
 
 pub find-returns-then-r-first-2 : goal.find-returns-then-r-first-2
 unfolding meaning_by designator choose reach
