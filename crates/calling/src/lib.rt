@@ -16,8 +16,8 @@ ghost use Rattle.calling.specs.Passing.{lost_place, lost_value, ended_by, framed
 
 use access::Plan;
 use image::Row;
-use semantics::{Found, Registers};
-use values::{Answer, Trap};
+use semantics::{Place, Registers};
+use values::{Stop, Trap, Value};
 
 // What a step comes to.
 #[derive(Clone, Copy)]
@@ -38,21 +38,23 @@ pub enum Passing {
 
 // ---- a trap in an operand
 
-pub fn lost_place(x: Found) -> Passing
+pub fn lost_place(x: Result<Place, Stop>) -> Passing
     ensures { result ≡ lost_place x }
 {
     match x {
-        Found::Trap(t) => Passing::Trapped(t),
-        _ => Passing::Stuck,
+        Ok(_) => Passing::Stuck,
+        Err(Stop::Trap(t)) => Passing::Trapped(t),
+        Err(Stop::Stuck) => Passing::Stuck,
     }
 }
 
-pub fn lost_value(x: Answer) -> Passing
+pub fn lost_value(x: Result<Value, Stop>) -> Passing
     ensures { result ≡ lost_value x }
 {
     match x {
-        Answer::Trap(t) => Passing::Trapped(t),
-        _ => Passing::Stuck,
+        Ok(_) => Passing::Stuck,
+        Err(Stop::Trap(t)) => Passing::Trapped(t),
+        Err(Stop::Stuck) => Passing::Stuck,
     }
 }
 
@@ -87,7 +89,7 @@ fn pass_object(
     let base = s.base;
     let top = s.top;
     let found = finding::find_at(image, plan, store, base, top, k);
-    let Found::At(object) = found else {
+    let Ok(object) = found else {
         return lost_place(found);
     };
     let address = object.address as i64;
@@ -115,7 +117,7 @@ fn pass_value(
     let base = s.base;
     let top = s.top;
     let answer = finding::fresh(finding::eval_at(image, plan, store, base, top, k));
-    let Answer::Val(value) = answer else {
+    let Ok(value) = answer else {
         return lost_value(answer);
     };
     let number = values::number_of(value);
@@ -147,7 +149,7 @@ fn pass_cells(
     let base = s.base;
     let top = s.top;
     let found = finding::find_at(image, plan, store, base, top, k);
-    let Found::At(object) = found else {
+    let Ok(object) = found else {
         return lost_place(found);
     };
     let address = object.address;

@@ -16,21 +16,21 @@ ghost use Rattle.finding.specs.Missed.{no_place, no_value};
 use access::Plan;
 use image::Row;
 use relations::FieldAt;
-use semantics::{Found, Mark, Place};
-use values::{Answer, Trap, Value};
+use semantics::Place;
+use values::{Stop, Trap, Value};
 
 // ---- answers of calls
 
 // A call leaves its answer in memory, piece by piece, and a copy of the whole would wait for the pieces. Handed through
 // one of these two, it is copied piece by piece.
 
-pub fn fresh(x: Answer) -> Answer
+pub fn fresh(x: Result<Value, Stop>) -> Result<Value, Stop>
     ensures { result ≡ x }
 {
     x
 }
 
-pub fn fresh_place(x: Found) -> Found
+pub fn fresh_place(x: Result<Place, Stop>) -> Result<Place, Stop>
     ensures { result ≡ x }
 {
     x
@@ -38,28 +38,28 @@ pub fn fresh_place(x: Found) -> Found
 
 // ---- a trap in an operand
 
-// A value's trap, where an object was sought.
-fn no_place(x: Answer) -> Found
+// Why there is no value, where an object was sought.
+fn no_place(x: Result<Value, Stop>) -> Result<Place, Stop>
     ensures { result ≡ no_place x }
 {
     match x {
-        Answer::Trap(t) => Found::Trap(t),
-        _ => Found::Stuck,
+        Ok(_) => Err(Stop::Stuck),
+        Err(stop) => Err(stop),
     }
 }
 
-// An object's trap, where a value was sought.
-fn no_value(x: Found) -> Answer
+// Why there is no object, where a value was sought.
+fn no_value(x: Result<Place, Stop>) -> Result<Value, Stop>
     ensures { result ≡ no_value x }
 {
     match x {
-        Found::Trap(t) => Answer::Trap(t),
-        _ => Answer::Stuck,
+        Ok(_) => Err(Stop::Stuck),
+        Err(stop) => Err(stop),
     }
 }
 
 // The value of an object. A scalar's type row is its kind, and no other row is the kind of a value.
-fn load(image: &&[u8], plan: &Plan, store: &&[i64], top: u32, place: Place) -> Answer
+fn load(image: &&[u8], plan: &Plan, store: &&[i64], top: u32, place: Place) -> Result<Value, Stop>
     requires { Planned image.now.now plan.now
         × (place.declared < rows_of (program_of image.now.now).types) × (top ≤ length store.now.now) }
     ensures { result ≡ value_at bare top store.now.now
@@ -71,10 +71,10 @@ fn load(image: &&[u8], plan: &Plan, store: &&[i64], top: u32, place: Place) -> A
 // ---- designators
 
 // An object of type row r at an address: its dynamic type is the declared one.
-fn plain(address: u32, r: u16) -> Found
+fn plain(address: u32, r: u16) -> Result<Place, Stop>
     ensures { result ≡ object address r }
 {
-    Found::At(Place {
+    Ok(Place {
         address,
         declared: r,
         dynamic: r,
@@ -82,17 +82,17 @@ fn plain(address: u32, r: u16) -> Found
 }
 
 // The object of a VAR parameter of type row r, whose two cells begin at `at`.
-fn parameter_place(store: &&[i64], top: u32, at: u32, r: u16) -> Found
+fn parameter_place(store: &&[i64], top: u32, at: u32, r: u16) -> Result<Place, Stop>
     requires { (top ≤ length store.now.now) × (at < 4294967295) }
     ensures { result ≡ parameter_place bare top store.now.now at r }
 {
-    let Mark::Number(address) = cells::mark_at(*store, top, at) else {
-        return Found::Stuck;
+    let Some(address) = cells::mark_at(*store, top, at) else {
+        return Err(Stop::Stuck);
     };
-    let Mark::Number(dynamic) = cells::mark_at(*store, top, at + 1) else {
-        return Found::Stuck;
+    let Some(dynamic) = cells::mark_at(*store, top, at + 1) else {
+        return Err(Stop::Stuck);
     };
-    Found::At(Place {
+    Ok(Place {
         address: address as u32,
         declared: r,
         dynamic,
@@ -100,7 +100,7 @@ fn parameter_place(store: &&[i64], top: u32, at: u32, r: u16) -> Found
 }
 
 // Node kind 1: variable row a.
-fn variable_place(image: &&[u8], plan: &Plan, store: &&[i64], base: u32, top: u32, a: u16) -> Found
+fn variable_place(image: &&[u8], plan: &Plan, store: &&[i64], base: u32, top: u32, a: u16) -> Result<Place, Stop>
     requires { Standing image.now.now plan.now base top store.now.now }
     ensures { result ≡ variable_place bare (program_of image.now.now) base top store.now.now a
         (row_at (program_of image.now.now).variables a) }
@@ -109,7 +109,7 @@ fn variable_place(image: &&[u8], plan: &Plan, store: &&[i64], base: u32, top: u3
     let kind = row.kind;
     let r = row.a;
     if 3 < kind {
-        return Found::Stuck;
+        return Err(Stop::Stuck);
     }
     let place = access::place_of(image, plan, a as u32);
     if kind == 0 {
@@ -123,7 +123,7 @@ fn variable_place(image: &&[u8], plan: &Plan, store: &&[i64], base: u32, top: u3
 }
 
 // Node kind 2: the field that node row k names, of an object.
-fn field_place(image: &&[u8], plan: &Plan, whole: Place, k: u32) -> Found
+fn field_place(image: &&[u8], plan: &Plan, whole: Place, k: u32) -> Result<Place, Stop>
     requires { Planned image.now.now plan.now × Within image.now.now whole
         × ((row_at (program_of image.now.now).nodes k).kind ≡ 2) }
     ensures { result ≡ field_place whole (field_of (program_of image.now.now).types
@@ -133,13 +133,13 @@ fn field_place(image: &&[u8], plan: &Plan, whole: Place, k: u32) -> Found
     let address = whole.address;
     let declared = whole.declared;
     let Some(FieldAt { offset: offset, declared: r }) = access::field(image, plan, k, declared) else {
-        return Found::Stuck;
+        return Err(Stop::Stuck);
     };
     plain(address + offset, r)
 }
 
 // Node kind 3: the element at an index of an object whose type row is `array`.
-fn element_place(image: &&[u8], plan: &Plan, whole: Place, array: Row, index: i32) -> Found
+fn element_place(image: &&[u8], plan: &Plan, whole: Place, array: Row, index: i32) -> Result<Place, Stop>
     requires { Planned image.now.now plan.now × Within image.now.now whole
         × (array ≡ row_at (program_of image.now.now).types whole.declared) × (array.kind ≡ 3) }
     ensures { result ≡ element_place (program_of image.now.now) whole array index }
@@ -148,11 +148,11 @@ fn element_place(image: &&[u8], plan: &Plan, whole: Place, array: Row, index: i3
     let element = array.a;
     let length = array.b;
     if index < 0 {
-        return Found::Trap(Trap::Index);
+        return Err(Stop::Trap(Trap::Index));
     }
     let i = index as u32;
     if length as u32 <= i {
-        return Found::Trap(Trap::Index);
+        return Err(Stop::Trap(Trap::Index));
     }
     let size = access::size_of(image, plan, element);
     let offset = i * size;
@@ -160,35 +160,35 @@ fn element_place(image: &&[u8], plan: &Plan, whole: Place, array: Row, index: i3
 }
 
 // Node kind 4: an object guarded by type row b.
-fn guard_place(image: &&[u8], plan: &Plan, place: Place, b: u16) -> Found
+fn guard_place(image: &&[u8], plan: &Plan, place: Place, b: u16) -> Result<Place, Stop>
     requires { Planned image.now.now plan.now }
     ensures { result ≡ guard_place (program_of image.now.now) b place }
 {
     let address = place.address;
     let dynamic = place.dynamic;
     if access::extends(image, plan, dynamic, b) {
-        return Found::At(Place {
+        return Ok(Place {
             address,
             declared: b,
             dynamic,
         });
     }
-    Found::Trap(Trap::Guard)
+    Err(Stop::Trap(Trap::Guard))
 }
 
 // Node kind 7: whether an object's dynamic type extends type row b.
-fn type_test(image: &&[u8], plan: &Plan, place: Place, b: u16) -> Answer
+fn type_test(image: &&[u8], plan: &Plan, place: Place, b: u16) -> Result<Value, Stop>
     requires { Planned image.now.now plan.now }
     ensures { result ≡ test_of (program_of image.now.now) b place }
 {
-    Answer::Val(Value::Bool(access::extends(image, plan, place.dynamic, b)))
+    Ok(Value::Bool(access::extends(image, plan, place.dynamic, b)))
 }
 
 // ---- nodes
 
 // The object that node row r designates.
 #[cycle(eval_find)]
-fn find(image: &&[u8], plan: &Plan, store: &&[i64], base: u32, top: u32, r: u32) -> Found
+fn find(image: &&[u8], plan: &Plan, store: &&[i64], base: u32, top: u32, r: u32) -> Result<Place, Stop>
     requires { Standing image.now.now plan.now base top store.now.now }
     ensures { result ≡ find_of bare (program_of image.now.now) base top store.now.now r }
 {
@@ -202,58 +202,58 @@ fn find(image: &&[u8], plan: &Plan, store: &&[i64], base: u32, top: u32, r: u32)
         1 => variable_place(image, plan, store, base, top, a),
         2 => {
             if r <= first {
-                return Found::Stuck;
+                return Err(Stop::Stuck);
             }
             let whole = fresh_place(find(image, plan, store, base, top, first));
-            let Found::At(owner) = whole else {
+            let Ok(owner) = whole else {
                 return whole;
             };
             fresh_place(field_place(image, plan, owner, r))
         }
         3 => {
             if r <= first {
-                return Found::Stuck;
+                return Err(Stop::Stuck);
             }
             let list = fresh_place(find(image, plan, store, base, top, first));
-            let Found::At(array) = list else {
+            let Ok(array) = list else {
                 return list;
             };
             let row = access::type_at(image, plan, array.declared);
             if row.kind != 3 {
-                return Found::Stuck;
+                return Err(Stop::Stuck);
             }
             if r <= second {
-                return Found::Stuck;
+                return Err(Stop::Stuck);
             }
             let index = fresh(eval(image, plan, store, base, top, second));
-            let Answer::Val(value) = index else {
+            let Ok(value) = index else {
                 return no_place(index);
             };
             let Value::Int(i) = value else {
-                return Found::Stuck;
+                return Err(Stop::Stuck);
             };
             fresh_place(element_place(image, plan, array, row, i))
         }
         4 => {
             let guarded = variable_place(image, plan, store, base, top, a);
-            let Found::At(object) = guarded else {
+            let Ok(object) = guarded else {
                 return guarded;
             };
             guard_place(image, plan, object, b)
         }
         8 => {
             if r <= first {
-                return Found::Stuck;
+                return Err(Stop::Stuck);
             }
             fresh_place(find(image, plan, store, base, top, first))
         }
-        _ => Found::Stuck,
+        _ => Err(Stop::Stuck),
     }
 }
 
 // The value of node row r.
 #[cycle(eval_find)]
-fn eval(image: &&[u8], plan: &Plan, store: &&[i64], base: u32, top: u32, r: u32) -> Answer
+fn eval(image: &&[u8], plan: &Plan, store: &&[i64], base: u32, top: u32, r: u32) -> Result<Value, Stop>
     requires { Standing image.now.now plan.now base top store.now.now }
     ensures { result ≡ eval_of bare (program_of image.now.now) base top store.now.now r }
 {
@@ -268,97 +268,97 @@ fn eval(image: &&[u8], plan: &Plan, store: &&[i64], base: u32, top: u32, r: u32)
         0 => values::constant(a, b, c),
         1 => {
             let variable = variable_place(image, plan, store, base, top, a);
-            let Found::At(object) = variable else {
+            let Ok(object) = variable else {
                 return no_value(variable);
             };
             fresh(load(image, plan, store, top, object))
         }
         2 => {
             if r <= first {
-                return Answer::Stuck;
+                return Err(Stop::Stuck);
             }
             let whole = fresh_place(find(image, plan, store, base, top, first));
-            let Found::At(owner) = whole else {
+            let Ok(owner) = whole else {
                 return no_value(whole);
             };
             let part = fresh_place(field_place(image, plan, owner, r));
-            let Found::At(object) = part else {
+            let Ok(object) = part else {
                 return no_value(part);
             };
             fresh(load(image, plan, store, top, object))
         }
         3 => {
             if r <= first {
-                return Answer::Stuck;
+                return Err(Stop::Stuck);
             }
             let list = fresh_place(find(image, plan, store, base, top, first));
-            let Found::At(array) = list else {
+            let Ok(array) = list else {
                 return no_value(list);
             };
             let row = access::type_at(image, plan, array.declared);
             if row.kind != 3 {
-                return Answer::Stuck;
+                return Err(Stop::Stuck);
             }
             if r <= second {
-                return Answer::Stuck;
+                return Err(Stop::Stuck);
             }
             let index = fresh(eval(image, plan, store, base, top, second));
-            let Answer::Val(value) = index else {
+            let Ok(value) = index else {
                 return index;
             };
             let Value::Int(i) = value else {
-                return Answer::Stuck;
+                return Err(Stop::Stuck);
             };
             let element = fresh_place(element_place(image, plan, array, row, i));
-            let Found::At(object) = element else {
+            let Ok(object) = element else {
                 return no_value(element);
             };
             fresh(load(image, plan, store, top, object))
         }
         4 => {
             let guarded = variable_place(image, plan, store, base, top, a);
-            let Found::At(whole) = guarded else {
+            let Ok(whole) = guarded else {
                 return no_value(guarded);
             };
             let narrowed = guard_place(image, plan, whole, b);
-            let Found::At(object) = narrowed else {
+            let Ok(object) = narrowed else {
                 return no_value(narrowed);
             };
             fresh(load(image, plan, store, top, object))
         }
         5 => {
             if r <= first {
-                return Answer::Stuck;
+                return Err(Stop::Stuck);
             }
             let left = fresh(eval(image, plan, store, base, top, first));
-            let Answer::Val(x) = left else {
+            let Ok(x) = left else {
                 return left;
             };
             if operators::decides(c, x) {
                 return left;
             }
             if r <= second {
-                return Answer::Stuck;
+                return Err(Stop::Stuck);
             }
             let right = fresh(eval(image, plan, store, base, top, second));
-            let Answer::Val(y) = right else {
+            let Ok(y) = right else {
                 return right;
             };
             match x {
                 Value::Bool(p) => {
                     let Value::Bool(q) = y else {
-                        return Answer::Stuck;
+                        return Err(Stop::Stuck);
                     };
                     operators::booleans(c, p, q)
                 }
                 Value::Int(i) => match y {
-                    Value::Bool(_) => Answer::Stuck,
+                    Value::Bool(_) => Err(Stop::Stuck),
                     Value::Int(j) => operators::integers(c, i, j),
                     Value::Set(u) => operators::membership(c, i, u),
                 },
                 Value::Set(s) => {
                     let Value::Set(t) = y else {
-                        return Answer::Stuck;
+                        return Err(Stop::Stuck);
                     };
                     operators::sets(c, s, t)
                 }
@@ -367,30 +367,30 @@ fn eval(image: &&[u8], plan: &Plan, store: &&[i64], base: u32, top: u32, r: u32)
         // one call serves both: the answer of each call has a place of its own in the frame
         6 | 8 => {
             if r <= first {
-                return Answer::Stuck;
+                return Err(Stop::Stuck);
             }
             let operand = fresh(eval(image, plan, store, base, top, first));
             if kind == 8 {
                 return operand;
             }
-            let Answer::Val(z) = operand else {
+            let Ok(z) = operand else {
                 return operand;
             };
             fresh(operators::monadic(c, z))
         }
         7 => {
             let tested = variable_place(image, plan, store, base, top, a);
-            let Found::At(object) = tested else {
+            let Ok(object) = tested else {
                 return no_value(tested);
             };
             type_test(image, plan, object, b)
         }
-        _ => Answer::Stuck,
+        _ => Err(Stop::Stuck),
     }
 }
 
 // The same as find, where most objects are variables: such a one takes no call.
-fn locate(image: &&[u8], plan: &Plan, store: &&[i64], base: u32, top: u32, r: u32) -> Found
+fn locate(image: &&[u8], plan: &Plan, store: &&[i64], base: u32, top: u32, r: u32) -> Result<Place, Stop>
     requires { Standing image.now.now plan.now base top store.now.now }
     ensures { result ≡ find_of bare (program_of image.now.now) base top store.now.now r }
 {
@@ -405,21 +405,21 @@ fn locate(image: &&[u8], plan: &Plan, store: &&[i64], base: u32, top: u32, r: u3
 
 // ---- at a statement, which has the store as a slice
 
-pub fn find_at(image: &&[u8], plan: &Plan, store: &[i64], base: u32, top: u32, r: u32) -> Found
+pub fn find_at(image: &&[u8], plan: &Plan, store: &[i64], base: u32, top: u32, r: u32) -> Result<Place, Stop>
     requires { Standing image.now.now plan.now base top store.now }
     ensures { result ≡ find_of bare (program_of image.now.now) base top store.now r }
 {
     find(image, plan, &store, base, top, r)
 }
 
-pub fn eval_at(image: &&[u8], plan: &Plan, store: &[i64], base: u32, top: u32, r: u32) -> Answer
+pub fn eval_at(image: &&[u8], plan: &Plan, store: &[i64], base: u32, top: u32, r: u32) -> Result<Value, Stop>
     requires { Standing image.now.now plan.now base top store.now }
     ensures { result ≡ eval_of bare (program_of image.now.now) base top store.now r }
 {
     eval(image, plan, &store, base, top, r)
 }
 
-pub fn locate_at(image: &&[u8], plan: &Plan, store: &[i64], base: u32, top: u32, r: u32) -> Found
+pub fn locate_at(image: &&[u8], plan: &Plan, store: &[i64], base: u32, top: u32, r: u32) -> Result<Place, Stop>
     requires { Standing image.now.now plan.now base top store.now }
     ensures { result ≡ find_of bare (program_of image.now.now) base top store.now r }
 {

@@ -22,7 +22,6 @@ ghost use Rattle.referents.specs.Reading.{Lent, Framed, Stacked, Asked};
 use access::Plan;
 use image::Row;
 use objects::{ROWS, Words};
-use semantics::Mark;
 
 // ---- objects in variables
 
@@ -210,10 +209,10 @@ fn reference(
         → base ≡ room_of (program_of image.now.now) older
         → result ≡ reference_kept (program_of image.now.now) older r (drop a store.now) }
 {
-    let Mark::Number(address) = cells::mark_at(store, top, a) else {
+    let Some(address) = cells::mark_at(store, top, a) else {
         return false;
     };
-    let Mark::Number(dynamic) = cells::mark_at(store, top, a + 1) else {
+    let Some(dynamic) = cells::mark_at(store, top, a + 1) else {
         return false;
     };
     if !access::extends(image, plan, dynamic, r) {

@@ -15,8 +15,8 @@ ghost use Rattle.stepping.specs.Counting.{at_row};
 use access::Plan;
 use calling::Step;
 use image::Row;
-use semantics::{Found, Mark, Place, Registers};
-use values::{Answer, Trap, Value};
+use semantics::{Place, Registers};
+use values::{Trap, Value};
 
 // The same numbers at another row.
 fn at_row(s: Registers, row: u32) -> Registers
@@ -109,21 +109,21 @@ fn assign(image: &&[u8], plan: &Plan, store: &mut [i64], s: Registers, statement
     let a = statement.a as u32;
     let b = statement.b as u32;
     let found = finding::locate_at(image, plan, store, base, top, a);
-    let Found::At(target) = found else {
+    let Ok(target) = found else {
         return calling::ended_by(calling::lost_place(found));
     };
     let address = target.address;
     let declared = target.declared;
     if access::is_single(image, plan, declared) {
         let answer = finding::fresh(finding::eval_at(image, plan, store, base, top, b));
-        let Answer::Val(value) = answer else {
+        let Ok(value) = answer else {
             return calling::ended_by(calling::lost_value(answer));
         };
         let number = values::number_of(value);
         return write_cell(store, s, address, number);
     }
     let origin = finding::fresh_place(finding::find_at(image, plan, store, base, top, b));
-    let Found::At(source) = origin else {
+    let Ok(source) = origin else {
         return calling::ended_by(calling::lost_place(origin));
     };
     copy_object(image, plan, store, s, target, source)
@@ -143,7 +143,7 @@ fn jump(image: &&[u8], plan: &Plan, store: &[i64], s: Registers, statement: Row)
     let a = statement.a as u32;
     let b = statement.b as u32;
     let answer = finding::eval_at(image, plan, store, base, top, a);
-    let Answer::Val(value) = answer else {
+    let Ok(value) = answer else {
         return calling::ended_by(calling::lost_value(answer));
     };
     let Value::Bool(holds) = value else {
@@ -171,10 +171,10 @@ fn give_back(image: &&[u8], plan: &Plan, store: &[i64], s: Registers) -> Step
     if procedure == 0 {
         return Step::Finished;
     }
-    let Mark::Number(back) = cells::mark_at(store, top, base + 1) else {
+    let Some(back) = cells::mark_at(store, top, base + 1) else {
         return Step::Stuck;
     };
-    let Mark::Number(older) = cells::mark_at(store, top, base + 2) else {
+    let Some(older) = cells::mark_at(store, top, base + 2) else {
         return Step::Stuck;
     };
     let after = back as u32;
@@ -210,7 +210,7 @@ fn receive(
     let written = s.written;
     let a = statement.a as u32;
     let found = finding::find_at(image, plan, store, base, top, a);
-    let Found::At(target) = found else {
+    let Ok(target) = found else {
         return calling::ended_by(calling::lost_place(found));
     };
     let address = target.address;
@@ -252,7 +252,7 @@ fn send(
     let written = s.written;
     let a = statement.a as u32;
     let answer = finding::eval_at(image, plan, store, base, top, a);
-    let Answer::Val(value) = answer else {
+    let Ok(value) = answer else {
         return calling::ended_by(calling::lost_value(answer));
     };
     let Value::Int(number) = value else {
@@ -282,7 +282,7 @@ fn halt(image: &&[u8], plan: &Plan, store: &[i64], s: Registers, statement: Row)
     let top = s.top;
     let a = statement.a as u32;
     let answer = finding::eval_at(image, plan, store, base, top, a);
-    let Answer::Val(value) = answer else {
+    let Ok(value) = answer else {
         return calling::ended_by(calling::lost_value(answer));
     };
     let Value::Int(number) = value else {

@@ -1,4 +1,3 @@
-use borrow.Enum.Refused.{opened}
 use mathlib.Core.Path.{◌≡◌, sym, ◌∙◌}
 use native.Mathlib.Omega.{arith}
 use borrow.Author.Rules.{rules}
@@ -16,21 +15,21 @@ find_at-found-requires c = standing c.requires.0 c.requires.1
 pub returns-in_default : goal.returns-in_default
 returns-in_default c = λ output.
     rw (c.lost_place.ensures, ← c.find_at-found.ensures)
-    (place_lost _ _ _ (opened c.in_default.in_default-own.keys2))
+    (place_lost _ _ _ c.in_default.not-Ok)
 
 pub size_of-size-requires : goal.size_of-size-requires
 size_of-size-requires c = (c.requires.0.planned, c.requires.2)
 
 pub overflow_add-end : goal.overflow_add-end
 overflow_add-end c =
-    let found = sym c.find_at-found.ensures ∙ c.in-At.is in
+    let found = sym c.find_at-found.ensures ∙ c.in-Ok.is in
     let here = standing c.requires.0 c.requires.1 in
-    let within = find_within here c.args.k c.in-At.object found in
+    let within = find_within here c.args.k c.in-Ok.object found in
     omega (arith, c.size_of-size.ensures, within.low, size_low c.requires.0.planned c.args.r c.requires.2)
 
 pub returns-then-top-end : goal.returns-then-top-end
 returns-then-top-end c =
-    let found = sym c.find_at-found.ensures ∙ c.in-At.is in
+    let found = sym c.find_at-found.ensures ∙ c.in-Ok.is in
     λ output.
     place_beyond _ c.args.place _ found (omega (arith, c.size_of-size.ensures, c.if-top-end.true))
 
@@ -39,7 +38,7 @@ copy_above-requires c = search rules
 
 pub returns : goal.returns
 returns c =
-    let found = sym c.find_at-found.ensures ∙ c.in-At.is in
+    let found = sym c.find_at-found.ensures ∙ c.in-Ok.is in
     let size : c.size_of-size.result
     ≡ size_of (program_of c.args.image.now.now).types (program_of c.args.image.now.now).fields c.args.r =
     omega (arith, c.size_of-size.ensures) in

@@ -23,7 +23,7 @@ pub returns-then-not-extends : goal.returns-then-not-extends
 returns-then-not-extends c = let g = program_of c.args.image.now.now in
     λ p qs older framed oldest start.
     not_extended g older _ _ _ _ c.requires.4 c.requires.1.cells
-    c.mark_at-2.ensures c.in-Number-mark_at.is c.extends.ensures
+    c.mark_at-2.ensures c.in-Some-mark_at.is c.extends.ensures
     c.if-not-extends.true
 
 pub returns-then-base-at : goal.returns-then-base-at
@@ -33,7 +33,7 @@ returns-then-base-at c =
     too_high g older _ _ _ _ c.requires.4 c.requires.1.cells
     (program_accepted _ c.requires.0.planned.checked.accepted)
     (older_existing g framed.walked oldest) start
-    c.mark_at.ensures c.in-Number.is c.if-base-at.true
+    c.mark_at.ensures c.in-Some.is c.if-base-at.true
 
 pub object_at-requires : goal.object_at-requires
 object_at-requires c =
@@ -53,7 +53,7 @@ returns c =
     refers g older _ _ _ _ c.requires.4 c.requires.1.cells
     (program_accepted _ c.requires.0.planned.checked.accepted)
     (older_existing g framed.walked oldest) start
-    c.mark_at.ensures c.in-Number.is
-    c.mark_at-2.ensures c.in-Number-mark_at.is
+    c.mark_at.ensures c.in-Some.is
+    c.mark_at-2.ensures c.in-Some-mark_at.is
     c.extends.ensures c.if-not-extends.false c.if-base-at.false
     oldest (c.object_at.ensures p qs older framed oldest start)

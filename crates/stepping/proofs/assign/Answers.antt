@@ -1,4 +1,3 @@
-use borrow.Enum.Refused.{opened}
 use mathlib.Core.Path.{sym, ◌∙◌}
 use borrow.Author.Rules.{rules}
 use mir.Syntax.{w64}
@@ -15,41 +14,41 @@ use Rattle.stepping.proofs.assign.Goals as goal
 pub returns-in_default : goal.returns-in_default
 unfolding assigned
 returns-in_default c = λ output.
-    shows_lost_place _ c.locate_at-found.ensures (opened c.in_default.in_default-own.keys2)
+    shows_lost_place _ c.locate_at-found.ensures c.in_default.not-Ok
     c.lost_place.ensures c.ended_by.ensures
 
 pub is_single-requires : goal.is_single-requires
 is_single-requires c =
     let stands = standing c.requires.0 c.requires.1 in
-    (c.requires.0.planned, (find_within stands _ _ (sym c.locate_at-found.ensures ∙ c.in-At.is)).typed)
+    (c.requires.0.planned, (find_within stands _ _ (sym c.locate_at-found.ensures ∙ c.in-Ok.is)).typed)
 
 pub returns-in_default-answer : goal.returns-in_default-answer
 unfolding assigned
 returns-in_default-answer c = λ output.
-    shows_place _ c.locate_at-found.ensures c.in-At.is
+    shows_place _ c.locate_at-found.ensures c.in-Ok.is
     (shows_yes _ (rw (← c.is_single.ensures) c.if-is_single.true)
     (shows_lost_value _ (c.fresh-answer.ensures
-    ∙ c.eval_at.ensures) (opened c.in_default-answer.in_default-answer-own.keys2)
+    ∙ c.eval_at.ensures) c.in_default-answer.not-Ok
     c.lost_value.ensures c.ended_by-in_default-answer.ensures))
 
 pub returns-then-is_single : goal.returns-then-is_single
 unfolding assigned bare
 returns-then-is_single c = λ output.
     let fits : SFits w64 c.number_of-number.result = search rules in
-    shows_place _ c.locate_at-found.ensures c.in-At.is
+    shows_place _ c.locate_at-found.ensures c.in-Ok.is
     (shows_yes _ (rw (← c.is_single.ensures) c.if-is_single.true)
     (shows_value _ (c.fresh-answer.ensures
-    ∙ c.eval_at.ensures) c.in-Val.is
+    ∙ c.eval_at.ensures) c.in-Ok.is
     (rw (plain64 _ fits, c.number_of-number.ensures) at (c.write_cell.ensures output))))
 
 pub returns-in_default-origin : goal.returns-in_default-origin
 unfolding assigned
 returns-in_default-origin c = λ output.
-    shows_place _ c.locate_at-found.ensures c.in-At.is
+    shows_place _ c.locate_at-found.ensures c.in-Ok.is
     (shows_no _ (rw (← c.is_single.ensures) c.if-is_single.false)
     (shows_lost_place _ (c.fresh_place-origin.ensures
     ∙ c.find_at.ensures)
-    (opened c.in_default-origin.in_default-origin-own.keys2)
+    c.in_default-origin.not-Ok
     c.lost_place-in_default-origin.ensures c.ended_by-in_default-origin.ensures))
 
 pub copy_object-requires : goal.copy_object-requires
@@ -59,16 +58,16 @@ copy_object-requires c =
       c.requires.1,
       c.requires.2,
       find_within stands _ _ (sym c.locate_at-found.ensures
-          ∙ c.in-At.is),
+          ∙ c.in-Ok.is),
       find_within stands _ _ (sym (c.fresh_place-origin.ensures ∙ c.find_at.ensures)
-          ∙ c.in-At-origin.is),
+          ∙ c.in-Ok-origin.is),
     )
 
 pub returns : goal.returns
 unfolding assigned
 returns c = λ output.
-    shows_place _ c.locate_at-found.ensures c.in-At.is
+    shows_place _ c.locate_at-found.ensures c.in-Ok.is
     (shows_no _ (rw (← c.is_single.ensures) c.if-is_single.false)
     (shows_place _ (c.fresh_place-origin.ensures
     ∙ c.find_at.ensures)
-    c.in-At-origin.is (c.copy_object.ensures output)))
+    c.in-Ok-origin.is (c.copy_object.ensures output)))
