@@ -23,9 +23,7 @@ use Rattle.frames.specs.Procedures.{first_variable, claimed_by}
 use Rattle.names.specs.Names.{rows_from}
 use Rattle.places.proofs.Counting.{first_next}
 use Rattle.places.specs.Places.{width_of, room_from, global_cells, frame_size}
-use Rattle.values.specs.Values.{cell_of}
-use Rattle.values.specs.declared.Answer.{Answer}
-use Rattle.values.specs.declared.Answer.TheVariants as As
+use Rattle.values.specs.Values.{cell_of, Answer}
 use Rattle.checker.proofs.Accepted.{AcceptedTables}
 use Rattle.semantics.specs.Memory.{LINK, ADDRESS, TYPE, Cell, tagged}
 use Rattle.semantics.specs.Layout.{Program, kinds_of, kinds_from}
@@ -40,6 +38,7 @@ use Rattle.asking.specs.Resuming.{resumed}
 use Rattle.asking.specs.State.{is_number, natural_of, is_value, values_kept, zipped, dressed, kinds_below, inside_kept}
 use Rattle.asking.specs.State.{reference_kept, slot_kept, slots_kept, call_kept, links_kept, frame_kept, stack_kept}
 use Rattle.asking.proofs.Objects.{procedures_of, room_is, yes_object}
+use Rattle.std.specs.Prelude.{Ok, Err}
 
 -- ---- numbers
 
@@ -58,11 +57,10 @@ zipped_append (k ∷ ks) ms [] h = absurd (omega arith)
 zipped_append (k ∷ ks) ms (z ∷ l) h =
     ap (λ (r : List Cell). record { kind = k; number = z } ∷ r) (zipped_append ks ms l (omega arith))
 
-value_of : (x : Answer) → is_value x ≡ true → (v : _) × (x ≡ As.Val v)
+value_of : (x : Answer) → is_value x ≡ true → (v : _) × (x ≡ Ok v)
 unfolding is_value
-value_of (As.Val v) e = (v, refl)
-value_of (As.Trap t) e = clash (sym e)
-value_of As.Stuck e = clash (sym e)
+value_of (Ok v) e = (v, refl)
+value_of (Err stop) e = clash (sym e)
 
 values_fit : (ks : List ℕ) (l : List ℤ) → values_kept ks l ≡ true → Matched Fits (zipped ks l) (map any_value ks)
 unfolding values_kept zipped

@@ -1,5 +1,6 @@
 -- Question 14's "the state is not sound (each cell taken as the kind that its place in a frame gives)".
 use Rattle.std.specs.Prelude.{ℕ, zero, suc, ◌+◌, ◌-◌, Bool, true, false, List, [], ◌∷◌, ◌++◌, map, ltb, leb, eqb, ℤ, pos, negsuc, length, get_or, drop}
+use Rattle.std.specs.Prelude.{Ok, Err}
 use Rattle.prelude.specs.Choice.{choose, ◌also◌}
 use Rattle.image.specs.Rows.{row_at, rows_of}
 use Rattle.shapes.specs.Sizes.{layout_of}
@@ -8,9 +9,7 @@ use Rattle.frames.specs.Variables.{globals_of}
 use Rattle.frames.specs.Procedures.{first_variable, claimed_by, body_end}
 use Rattle.places.specs.Places.{width_of}
 use Rattle.statements.specs.Statements.{procedure_at}
-use Rattle.values.specs.Values.{cell_of}
-use Rattle.values.specs.declared.Answer.{Answer}
-use Rattle.values.specs.declared.Answer.TheVariants as As
+use Rattle.values.specs.Values.{cell_of, Answer}
 use Rattle.semantics.specs.declared.Registers.{Registers}
 use Rattle.semantics.specs.Memory.{LINK, Cell, tagged}
 use Rattle.semantics.specs.Layout.{Program, kinds_from}
@@ -30,9 +29,8 @@ natural_of (negsuc n) = 65536
 
 -- what a cell reads as is a value
 unfoldable pub is_value : Answer → Bool
-is_value (As.Val v) = true
-is_value (As.Trap t) = false
-is_value As.Stuck = false
+is_value (Ok v) = true
+is_value (Err stop) = false
 
 -- "every variable cell has its layout's kind and range": the first cells are values of these kinds
 unfoldable pub values_kept : List ℕ → List ℤ → Bool

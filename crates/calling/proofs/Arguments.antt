@@ -17,21 +17,16 @@ use Rattle.shapes.specs.Sizes.{size_of}
 use Rattle.shapes.proofs.Singles.{single_size}
 use Rattle.places.specs.Places.{width_by, width_of}
 use Rattle.values.specs.declared.Value.{Value}
-use Rattle.values.specs.declared.Answer.{Answer}
-use Rattle.values.specs.declared.Answer.TheVariants as As
-use Rattle.values.specs.contracts.Answer.{the_type as answer_type}
+use Rattle.values.specs.declared.Stop.TheVariants as St
 use Rattle.values.proofs.Binding.{neither}
 use Rattle.semantics.specs.declared.Place.{Place}
-use Rattle.semantics.specs.declared.Found.{Found}
-use Rattle.semantics.specs.declared.Found.TheVariants as Fs
 use Rattle.semantics.specs.declared.Registers.{Registers}
 use Rattle.semantics.specs.Memory.{bare, part_at, overwrite}
 use Rattle.semantics.specs.Layout.{Program, place_of}
-use Rattle.semantics.specs.Finding.{find_of, eval_of}
+use Rattle.semantics.specs.Finding.{find_of, eval_of, Found}
 use Rattle.semantics.specs.Stepping.{State, Next, Next.trapped, Next.stuck, on_place, on_value, on_part, with_cells}
 use Rattle.semantics.specs.Stepping.{argument_cells, passed}
 use Rattle.semantics.specs.Running.{program_of}
-use Rattle.semantics.specs.contracts.Found.{the_type as found_type}
 use Rattle.semantics.proofs.Demand3.{program_accepted}
 use Rattle.access.specs.Ready.{Planned}
 use Rattle.access.proofs.Bounds.{variable_typed}
@@ -42,6 +37,8 @@ use Rattle.calling.specs.Showing.{state_of, Stands}
 use Rattle.calling.specs.Passing.{lost_place, lost_value, ended_by, framed, passed_one, Roomy}
 use Rattle.calling.specs.Passing.{Passes, Passes.passes_done, Passes.passes_trap, Passes.passes_stuck}
 use Rattle.calling.specs.contracts.Passing.{the_type as passing_type}
+use Rattle.std.specs.Prelude.{Ok, Err}
+use Rattle.values.specs.Values.{Answer}
 
 -- ---- other cells, as many
 
@@ -59,21 +56,7 @@ pub roomy_kept : {image : List ℕ} {top a : ℕ} {old cells : List ℤ} → Roo
     → Roomy image top a cells
 roomy_kept roomy e = record { there = roomy.there; room = rw e roomy.room }
 
--- ---- an operand that is no trap
-
--- is stuck
-
-pub place_stuck : (x : Found) → OneOf (0 ∷ 2 ∷ []) (tag_of found_type x) → lost_place x ≡ Ps.Stuck
-unfolding lost_place
-place_stuck (Fs.At place) h = refl
-place_stuck (Fs.Trap t) h = neither (omega arith) (omega arith) h
-place_stuck Fs.Stuck h = refl
-
-pub value_stuck : (x : Answer) → OneOf (0 ∷ 2 ∷ []) (tag_of answer_type x) → lost_value x ≡ Ps.Stuck
-unfolding lost_value
-value_stuck (As.Val v) h = refl
-value_stuck (As.Trap t) h = neither (omega arith) (omega arith) h
-value_stuck As.Stuck h = refl
+-- ---- what is no trap is stuck
 
 pub ended_stuck : (x : Passing) → OneOf (0 ∷ 2 ∷ []) (tag_of passing_type x) → ended_by x ≡ Steps.Stuck
 unfolding ended_by
@@ -85,35 +68,35 @@ ended_stuck Ps.Stuck h = refl
 
 module _ (s : State ℤ) where
   -- an operand that is no object, or no value: no cell is written
-  pub place_lost : (x : Found) (next : (State ℤ → Next ℤ) → Place → Next ℤ) → OneOf (1 ∷ 2 ∷ []) (tag_of found_type x)
+  pub place_lost : (x : Found) (next : (State ℤ → Next ℤ) → Place → Next ℤ) → ((p : Place) → x ≡ Ok p → ⊥)
       → Passes s (λ after. on_place s x (next after)) (lost_place x) s.cells
   unfolding lost_place on_place with_cells
-  place_lost (Fs.At place) next h = neither (omega arith) (omega arith) h
-  place_lost (Fs.Trap t) next h = passes_trap (λ after. refl)
-  place_lost Fs.Stuck next h = passes_stuck (λ after. refl)
+  place_lost (Ok place) next h = absurd (h place refl)
+  place_lost (Err (St.Trap t)) next h = passes_trap (λ after. refl)
+  place_lost (Err St.Stuck) next h = passes_stuck (λ after. refl)
 
-  pub value_lost : (x : Answer) (next : (State ℤ → Next ℤ) → Value → Next ℤ) → OneOf (1 ∷ 2 ∷ []) (tag_of answer_type x)
+  pub value_lost : (x : Answer) (next : (State ℤ → Next ℤ) → Value → Next ℤ) → ((v : Value) → x ≡ Ok v → ⊥)
       → Passes s (λ after. on_value s x (next after)) (lost_value x) s.cells
   unfolding lost_value on_value with_cells
-  value_lost (As.Val v) next h = neither (omega arith) (omega arith) h
-  value_lost (As.Trap t) next h = passes_trap (λ after. refl)
-  value_lost As.Stuck next h = passes_stuck (λ after. refl)
+  value_lost (Ok v) next h = absurd (h v refl)
+  value_lost (Err (St.Trap t)) next h = passes_trap (λ after. refl)
+  value_lost (Err St.Stuck) next h = passes_stuck (λ after. refl)
 
   -- an object, or a value, whose cells are written
   pub place_written : {x : Found} {object : Place} (place : ℕ) (new : Place → List ℤ) {cells : List ℤ}
-      → x ≡ Fs.At object → cells ≡ overwrite s.cells (s.at.top + place) (new object)
+      → x ≡ Ok object → cells ≡ overwrite s.cells (s.at.top + place) (new object)
       → Passes s (λ after. on_place s x (λ o. framed s place after (new o))) Ps.Done cells
   unfolding on_place framed
   place_written place new {cells} found e = passes_done {cells = cells} (λ after. rw (found, e))
 
   pub value_written : {x : Answer} {v : Value} (place : ℕ) (new : Value → List ℤ) {cells : List ℤ}
-      → x ≡ As.Val v → cells ≡ overwrite s.cells (s.at.top + place) (new v)
+      → x ≡ Ok v → cells ≡ overwrite s.cells (s.at.top + place) (new v)
       → Passes s (λ after. on_value s x (λ w. framed s place after (new w))) Ps.Done cells
   unfolding on_value framed
   value_written place new {cells} found e = passes_done {cells = cells} (λ after. rw (found, e))
 
   -- an object whose cells are copied, or do not end below top
-  pub place_copied : {x : Found} {object : Place} (place size : ℕ) {cells : List ℤ} → x ≡ Fs.At object
+  pub place_copied : {x : Found} {object : Place} (place size : ℕ) {cells : List ℤ} → x ≡ Ok object
       → object.address + size ≤ s.at.top
       → cells ≡ overwrite s.cells (s.at.top + place) (part_at s.cells object.address size)
       → Passes s (λ after. on_place s x (λ o. on_part s o.address size (framed s place after))) Ps.Done cells
@@ -121,7 +104,7 @@ module _ (s : State ℤ) where
   place_copied place size {cells} found low e =
       passes_done {cells = cells} (λ after. rw (found, e) (choose_yes _ _ _ (le-leb _ _ low)))
 
-  pub place_beyond : {x : Found} {object : Place} (place size : ℕ) → x ≡ Fs.At object
+  pub place_beyond : {x : Found} {object : Place} (place size : ℕ) → x ≡ Ok object
       → s.at.top < object.address + size
       → Passes s (λ after. on_place s x (λ o. on_part s o.address size (framed s place after))) Ps.Stuck s.cells
   unfolding on_place on_part with_cells

@@ -1,12 +1,9 @@
 -- What the code that passes arguments asks, answers and leaves.
-use Rattle.std.specs.Prelude.{ℕ, ◌+◌, ◌≤◌, ◌<◌, ◌≡◌, List, ℤ, pos, length}
+use Rattle.std.specs.Prelude.{ℕ, ◌+◌, ◌≤◌, ◌<◌, ◌≡◌, List, ℤ, pos, length, Ok, Err}
 use Rattle.image.specs.Rows.{row_at, rows_of}
 use Rattle.values.specs.declared.Trap.{Trap}
-use Rattle.values.specs.declared.Answer.{Answer}
-use Rattle.values.specs.declared.Answer.TheVariants as As
+use Rattle.values.specs.declared.Stop.TheVariants as St
 use Rattle.places.specs.Places.{width_of}
-use Rattle.semantics.specs.declared.Found.{Found}
-use Rattle.semantics.specs.declared.Found.TheVariants as Fs
 use Rattle.semantics.specs.Memory.{Memory, overwrite}
 use Rattle.semantics.specs.Layout.{Program, place_of}
 use Rattle.semantics.specs.Stepping.{State, Next, Next.trapped, Next.stuck, with_cells, argument_cells}
@@ -15,18 +12,20 @@ use Rattle.calling.specs.declared.Step.{Step}
 use Rattle.calling.specs.declared.Step.TheVariants as Steps
 use Rattle.calling.specs.declared.Passing.{Passing}
 use Rattle.calling.specs.declared.Passing.TheVariants as Ps
+use Rattle.values.specs.Values.{Answer}
+use Rattle.semantics.specs.Finding.{Found}
 
 -- ---- "A trap in an operand ends the step with that trap."
 
 unfoldable pub lost_place : Found → Passing
-lost_place (Fs.At place) = Ps.Stuck
-lost_place (Fs.Trap t) = Ps.Trapped t
-lost_place Fs.Stuck = Ps.Stuck
+lost_place (Ok place) = Ps.Stuck
+lost_place (Err (St.Trap t)) = Ps.Trapped t
+lost_place (Err St.Stuck) = Ps.Stuck
 
 unfoldable pub lost_value : Answer → Passing
-lost_value (As.Val v) = Ps.Stuck
-lost_value (As.Trap t) = Ps.Trapped t
-lost_value As.Stuck = Ps.Stuck
+lost_value (Ok v) = Ps.Stuck
+lost_value (Err (St.Trap t)) = Ps.Trapped t
+lost_value (Err St.Stuck) = Ps.Stuck
 
 unfoldable pub ended_by : Passing → Step
 ended_by Ps.Done = Steps.Stuck

@@ -16,8 +16,8 @@ ghost use Rattle.calling.specs.Passing.{lost_place, lost_value, ended_by, framed
 use access::Loaded;
 use finding::View;
 use image::Row;
-use semantics::{Found, Registers};
-use values::{Answer, Trap};
+use semantics::{Place, Registers};
+use values::{Stop, Trap, Value};
 
 // What a step comes to.
 #[derive(Clone, Copy)]
@@ -38,21 +38,23 @@ pub enum Passing {
 
 // ---- a trap in an operand
 
-pub fn lost_place(x: Found) -> Passing
+pub fn lost_place(x: Result<Place, Stop>) -> Passing
     ensures { result ≡ lost_place x }
 {
     match x {
-        Found::Trap(t) => Passing::Trapped(t),
-        _ => Passing::Stuck,
+        Ok(_) => Passing::Stuck,
+        Err(Stop::Trap(t)) => Passing::Trapped(t),
+        Err(Stop::Stuck) => Passing::Stuck,
     }
 }
 
-pub fn lost_value(x: Answer) -> Passing
+pub fn lost_value(x: Result<Value, Stop>) -> Passing
     ensures { result ≡ lost_value x }
 {
     match x {
-        Answer::Trap(t) => Passing::Trapped(t),
-        _ => Passing::Stuck,
+        Ok(_) => Passing::Stuck,
+        Err(Stop::Trap(t)) => Passing::Trapped(t),
+        Err(Stop::Stuck) => Passing::Stuck,
     }
 }
 
@@ -77,7 +79,7 @@ fn pass_object(loaded: &Loaded, store: &mut [i64], s: Registers, k: u32, place: 
         (pos object.address ∷ pos object.dynamic ∷ []))) result store.new }
 {
     let found = View::new(loaded, store, s).find(k);
-    let Found::At(object) = found else {
+    let Ok(object) = found else {
         return lost_place(found);
     };
     let address = object.address as i64;
@@ -95,7 +97,7 @@ fn pass_value(loaded: &Loaded, store: &mut [i64], s: Registers, k: u32, place: u
         (λ v. framed (state_of s store.old output) place next (bare.put v ∷ []))) result store.new }
 {
     let answer = finding::fresh(View::new(loaded, store, s).eval(k));
-    let Answer::Val(value) = answer else {
+    let Ok(value) = answer else {
         return lost_value(answer);
     };
     let number = values::number_of(value);
@@ -123,7 +125,7 @@ fn pass_cells(
         (framed (state_of s store.old output) place next))) result store.new }
 {
     let found = View::new(loaded, store, s).find(k);
-    let Found::At(object) = found else {
+    let Ok(object) = found else {
         return lost_place(found);
     };
     let size = loaded.size_of(r);

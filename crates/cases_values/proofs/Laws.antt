@@ -12,13 +12,14 @@ use denote.Enum.Declared.{tag_of}
 use types.Run.{OneOf}
 use Rattle.values.specs.declared.Value.{Value}
 use Rattle.values.specs.declared.Value.TheVariants as Vs
-use Rattle.values.specs.declared.Answer.{Answer}
-use Rattle.values.specs.declared.Answer.TheVariants as As
 use Rattle.values.specs.contracts.Value.{the_type as value_type}
 use Rattle.values.specs.contracts.Answer.{the_type as answer_type}
+use Rattle.values.specs.declared.Stop.TheVariants as St
 use Rattle.integers.proofs.Division.{up_from}
 use Rattle.values.proofs.Binding.{neither}
 use Rattle.cases_values.specs.Cases.{same_value, same_as, cell_with, weight_at, counted}
+use Rattle.std.specs.Prelude.{Ok, Err}
+use Rattle.values.specs.Values.{Answer}
 
 -- ---- 64 bits
 
@@ -56,11 +57,10 @@ other_set s (Vs.Set u) t = neither (omega arith) (omega arith) t
 
 pub no_answer : (v : Value) (a : Answer) → OneOf (1 ∷ 2 ∷ []) (tag_of answer_type a) → same_as v a ≡ false
 unfolding same_as
-no_answer v (As.Val w) t = neither (omega arith) (omega arith) t
-no_answer v (As.Trap u) t = refl
-no_answer v As.Stuck t = refl
+no_answer v (Ok w) t = neither (omega arith) (omega arith) t
+no_answer v (Err stop) t = refl
 
-pub no_integer : (s : List ℕ) (v : Value) → OneOf (0 ∷ 2 ∷ []) (tag_of value_type v) → cell_with s v ≡ As.Stuck
+pub no_integer : (s : List ℕ) (v : Value) → OneOf (0 ∷ 2 ∷ []) (tag_of value_type v) → cell_with s v ≡ Err St.Stuck
 unfolding cell_with
 no_integer s (Vs.Bool q) t = refl
 no_integer s (Vs.Int y) t = neither (omega arith) (omega arith) t

@@ -1,13 +1,13 @@
 -- A case of data/operators.bin: its parts, what the operators answer, and whether that is what the case says.
 use Rattle.std.specs.Prelude.{Bool, false, List, ℕ, zero, suc, ◌+◌, ◌*◌, eqb, ℤ, pos, ◌+ℤ◌, ◌*ℤ◌, get_or, take, drop}
+use Rattle.std.specs.Prelude.{Ok, Err}
 use Rattle.std.specs.Bool.{beq}
 use Rattle.prelude.specs.Choice.{choose}
-use Rattle.values.specs.Values.{constant_of, cell_of, number_of, trap_number, bind}
+use Rattle.values.specs.Values.{constant_of, cell_of, number_of, trap_number, bind, Answer}
 use Rattle.operators.specs.Operators.{dyadic_of, monadic_of, equal_z}
 use Rattle.values.specs.declared.Value.{Value}
 use Rattle.values.specs.declared.Value.TheVariants as Vs
-use Rattle.values.specs.declared.Answer.{Answer}
-use Rattle.values.specs.declared.Answer.TheVariants as As
+use Rattle.values.specs.declared.Stop.TheVariants as St
 
 -- ---- a case's parts
 
@@ -32,9 +32,9 @@ monadic_case s = bind (operand_at s (get_or s 2 0) 4) (λ v. monadic_of (get_or 
 
 -- a cell of this kind whose number has the upper half v
 unfoldable pub cell_with : List ℕ → Value → Answer
-cell_with s (Vs.Bool p) = As.Stuck
+cell_with s (Vs.Bool p) = Err St.Stuck
 cell_with s (Vs.Int h) = cell_of (get_or s 2 0) (wide_at h (half_at s 8) (half_at s 10))
-cell_with s (Vs.Set t) = As.Stuck
+cell_with s (Vs.Set t) = Err St.Stuck
 
 unfoldable pub cell_case : List ℕ → Answer
 cell_case s = bind (operand_at s 1 4) (cell_with s)
@@ -63,14 +63,13 @@ same_value (Vs.Set s) (Vs.Int y) = false
 same_value (Vs.Set s) (Vs.Set t) = eqb s t
 
 unfoldable pub same_as : Value → Answer → Bool
-same_as v (As.Val w) = same_value v w
-same_as v (As.Trap t) = false
-same_as v As.Stuck = false
+same_as v (Ok w) = same_value v w
+same_as v (Err stop) = false
 
 unfoldable pub agrees : Answer → List ℕ → Bool
-agrees (As.Val v) s = same_as v (operand_at s (get_or s 12 0) 13)
-agrees (As.Trap t) s = choose (eqb (get_or s 12 0) 3) (eqb (trap_number t) (half_at s 15)) false
-agrees As.Stuck s = eqb (get_or s 12 0) 4
+agrees (Ok v) s = same_as v (operand_at s (get_or s 12 0) 13)
+agrees (Err (St.Trap t)) s = choose (eqb (get_or s 12 0) 3) (eqb (trap_number t) (half_at s 15)) false
+agrees (Err St.Stuck) s = eqb (get_or s 12 0) 4
 
 unfoldable pub is_good : List ℕ → Bool
 is_good s = agrees (answer_of s) s

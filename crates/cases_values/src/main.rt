@@ -12,7 +12,7 @@ ghost use Rattle.cases_values.specs.Cases.{is_good, weight_at, counted};
 use std::fs::File;
 use std::io;
 use std::io::Read;
-use values::{Answer, Value};
+use values::{Stop, Value};
 
 // ---- a case's parts
 
@@ -32,7 +32,7 @@ fn half_at(s: &[u8], at: usize) -> u16
 }
 
 // The operand of a kind whose 32 bits stand at a byte.
-fn operand_at(s: &[u8], kind: u16, at: usize) -> Answer
+fn operand_at(s: &[u8], kind: u16, at: usize) -> Result<Value, Stop>
     requires { at + 4 ≤ length s.now }
     ensures { result ≡ operand_at s.now kind at }
 {
@@ -50,83 +50,83 @@ fn wide_at(high: i32, b: u16, c: u16) -> i64
 // ---- what the crates answer
 
 // A dyadic operator, by its operands' kinds.
-fn dyadic(op: u16, left: Value, right: Value) -> Answer
+fn dyadic(op: u16, left: Value, right: Value) -> Result<Value, Stop>
     ensures { result ≡ dyadic_of op left right }
 {
     match left {
         Value::Bool(p) => {
             let Value::Bool(q) = right else {
-                return Answer::Stuck;
+                return Err(Stop::Stuck);
             };
             operators::booleans(op, p, q)
         }
         Value::Int(x) => match right {
-            Value::Bool(_) => Answer::Stuck,
+            Value::Bool(_) => Err(Stop::Stuck),
             Value::Int(y) => operators::integers(op, x, y),
             Value::Set(t) => operators::membership(op, x, t),
         },
         Value::Set(s) => {
             let Value::Set(t) = right else {
-                return Answer::Stuck;
+                return Err(Stop::Stuck);
             };
             operators::sets(op, s, t)
         }
     }
 }
 
-fn dyadic_case(s: &[u8]) -> Answer
+fn dyadic_case(s: &[u8]) -> Result<Value, Stop>
     requires { 17 ≤ length s.now }
     ensures { result ≡ dyadic_case s.now }
 {
     let left = operand_at(s, byte_at(s, 2), 4);
-    let Answer::Val(v) = left else {
+    let Ok(v) = left else {
         return left;
     };
     let right = operand_at(s, byte_at(s, 3), 8);
-    let Answer::Val(w) = right else {
+    let Ok(w) = right else {
         return right;
     };
     dyadic(byte_at(s, 1), v, w)
 }
 
-fn monadic_case(s: &[u8]) -> Answer
+fn monadic_case(s: &[u8]) -> Result<Value, Stop>
     requires { 17 ≤ length s.now }
     ensures { result ≡ monadic_case s.now }
 {
     let operand = operand_at(s, byte_at(s, 2), 4);
-    let Answer::Val(v) = operand else {
+    let Ok(v) = operand else {
         return operand;
     };
     operators::monadic(byte_at(s, 1), v)
 }
 
-fn cell_case(s: &[u8]) -> Answer
+fn cell_case(s: &[u8]) -> Result<Value, Stop>
     requires { 17 ≤ length s.now }
     ensures { result ≡ cell_case s.now }
 {
     let high = operand_at(s, 1, 4);
-    let Answer::Val(v) = high else {
+    let Ok(v) = high else {
         return high;
     };
     let Value::Int(h) = v else {
-        return Answer::Stuck;
+        return Err(Stop::Stuck);
     };
     values::cell(byte_at(s, 2), wide_at(h, half_at(s, 8), half_at(s, 10)))
 }
 
-fn number_case(s: &[u8]) -> Answer
+fn number_case(s: &[u8]) -> Result<Value, Stop>
     requires { 17 ≤ length s.now }
     ensures { result ≡ number_case s.now }
 {
     let kind = byte_at(s, 2);
     let operand = operand_at(s, kind, 4);
-    let Answer::Val(v) = operand else {
+    let Ok(v) = operand else {
         return operand;
     };
     values::cell(kind, values::number_of(v))
 }
 
-fn answer(s: &[u8]) -> Answer
+fn answer(s: &[u8]) -> Result<Value, Stop>
     requires { 17 ≤ length s.now }
     ensures { result ≡ answer_of s.now }
 {
@@ -167,29 +167,29 @@ fn same_value(v: Value, w: Value) -> bool
     }
 }
 
-fn same_as(v: Value, expected: Answer) -> bool
+fn same_as(v: Value, expected: Result<Value, Stop>) -> bool
     ensures { result ≡ same_as v expected }
 {
-    let Answer::Val(w) = expected else {
+    let Ok(w) = expected else {
         return false;
     };
     same_value(v, w)
 }
 
-fn agrees(a: Answer, s: &[u8]) -> bool
+fn agrees(a: Result<Value, Stop>, s: &[u8]) -> bool
     requires { 17 ≤ length s.now }
     ensures { result ≡ agrees_of a s.now }
 {
     let kind = byte_at(s, 12);
     match a {
-        Answer::Val(v) => same_as(v, operand_at(s, kind, 13)),
-        Answer::Trap(t) => {
+        Ok(v) => same_as(v, operand_at(s, kind, 13)),
+        Err(Stop::Trap(t)) => {
             if kind != 3 {
                 return false;
             }
             values::trap_number(t) as u16 == half_at(s, 15)
         }
-        Answer::Stuck => kind == 4,
+        Err(Stop::Stuck) => kind == 4,
     }
 }
 

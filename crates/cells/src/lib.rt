@@ -4,40 +4,39 @@
 ghost use Rattle.std.specs.Prelude.{◌≡◌, List, [], ◌∷◌, ℕ, ◌+◌, ◌≤◌, ◌<◌, ℤ, pos, length, replicate};
 ghost use Rattle.semantics.specs.Memory.{mark_of, bare, value_at, mark_at, part_at, overwrite};
 
-use semantics::Mark;
-use values::Answer;
+use values::{Stop, Value};
 
 // ---- reading
 
 // The value of a scalar kind in the cell at an address below top.
-pub fn value_at(store: &[i64], top: u32, kind: u16, address: u32) -> Answer
+pub fn value_at(store: &[i64], top: u32, kind: u16, address: u32) -> Result<Value, Stop>
     requires { top ≤ length store.now }
     ensures { result ≡ value_at bare top store.now kind address }
 {
     if top <= address {
-        return Answer::Stuck;
+        return Err(Stop::Stuck);
     }
     values::cell(kind, store[address as usize])
 }
 
 // A number as a link, an address or a type.
 #[tactic(auto, using(crate::proofs::Marks::mark_negative, crate::proofs::Marks::mark_large, crate::proofs::Marks::mark_is, crate::proofs::Marks::mark_fits, values::proofs::Numbers::plain64))]
-fn mark_of(z: i64) -> Mark
+fn mark_of(z: i64) -> Option<u16>
     ensures { result ≡ mark_of z }
 {
     if z < 0 || 65535 < z {
-        return Mark::Nothing;
+        return None;
     }
-    Mark::Number(z as u16)
+    Some(z as u16)
 }
 
 // The link, address or type in the cell at an address below top. The store does not tell the three apart.
-pub fn mark_at(store: &[i64], top: u32, address: u32) -> Mark
+pub fn mark_at(store: &[i64], top: u32, address: u32) -> Option<u16>
     requires { top ≤ length store.now }
     ensures { (kind : ℕ) → result ≡ mark_at bare top store.now kind address }
 {
     if top <= address {
-        return Mark::Nothing;
+        return None;
     }
     mark_of(store[address as usize])
 }

@@ -11,16 +11,16 @@ use Rattle.prelude.proofs.Choice.{choose_no}
 use Rattle.prelude.proofs.Rec.{rec_eq, below_low, below_high}
 use Rattle.image.specs.declared.Row.{Row}
 use Rattle.image.specs.Rows.{row_at}
-use Rattle.values.specs.declared.Answer.{Answer}
-use Rattle.semantics.specs.declared.Found.{Found}
-use Rattle.semantics.specs.declared.Found.TheVariants as Fs
 use Rattle.semantics.specs.Memory.{Memory}
 use Rattle.semantics.specs.Layout.{Program}
-use Rattle.semantics.specs.Finding.{Meaning, no_meaning, expression, meaning_by, meaning_of, find_of, eval_of}
+use Rattle.semantics.specs.Finding.{Meaning, no_meaning, expression, meaning_by, meaning_of, find_of, eval_of, Found}
+use Rattle.std.specs.Prelude.{Err}
+use Rattle.values.specs.declared.Stop.TheVariants as St
+use Rattle.values.specs.Values.{Answer}
 
 -- an expression designates no object
-no_object : (b : Bool) (answer : Answer) (other : Meaning) → other.place ≡ Fs.Stuck
-    → (choose b (expression answer) other).place ≡ Fs.Stuck
+no_object : (b : Bool) (answer : Answer) (other : Meaning) → other.place ≡ Err St.Stuck
+    → (choose b (expression answer) other).place ≡ Err St.Stuck
 unfolding choose
 no_object true answer other h = refl
 no_object false answer other h = h
@@ -67,7 +67,7 @@ module _ {X : Type 0} (m : Memory X) (g : Program) (base top : ℕ) (cells : Lis
 
   -- an expression that is no designator, and no node at all
   pub find_other : (row : Row) → row ≡ row_at g.nodes r → (row.kind ≡ 1 → ⊥) → (row.kind ≡ 2 → ⊥)
-      → (row.kind ≡ 3 → ⊥) → (row.kind ≡ 4 → ⊥) → (row.kind ≡ 8 → ⊥) → find_of m g base top cells r ≡ Fs.Stuck
+      → (row.kind ≡ 3 → ⊥) → (row.kind ≡ 4 → ⊥) → (row.kind ≡ 8 → ⊥) → find_of m g base top cells r ≡ Err St.Stuck
   unfolding meaning_by
   find_other row e p1 p2 p3 p4 p8 =
       let k : ℕ = row.kind in

@@ -1,7 +1,7 @@
 -- Objects that are found lie low enough to add an offset, and are of types that there are.
 use Rattle.relations.specs.Fields.{field_at}
 use Rattle.relations.specs.declared.FieldAt.{FieldAt}
-use Rattle.std.specs.Prelude.{Option, Some, None}
+use Rattle.std.specs.Prelude.{Option, Some, None, Ok, Err}
 use mathlib.Core.Path.{◌≡◌, refl, sym, subst, ◌∙◌}
 use mathlib.Core.List.{List}
 use Prim.Native.Nat.{ℕ, ◌+◌, ◌*◌, ◌≤◌, ◌<◌}
@@ -19,18 +19,13 @@ use Rattle.image.proofs.Bytes.{row_missing}
 use Rattle.relations.specs.Extends.{extends}
 use Rattle.relations.specs.Fields.{field_of}
 use Rattle.values.specs.declared.Trap.{Trap}
-use Rattle.values.specs.declared.Answer.{Answer}
-use Rattle.values.specs.declared.Answer.TheVariants as As
+use Rattle.values.specs.declared.Stop.TheVariants as St
 use Rattle.values.proofs.Cases.{integer_has}
 use Rattle.semantics.specs.declared.Place.{Place}
-use Rattle.semantics.specs.declared.Found.{Found}
-use Rattle.semantics.specs.declared.Found.TheVariants as Fs
-use Rattle.semantics.specs.declared.Mark.{Mark}
-use Rattle.semantics.specs.declared.Mark.TheVariants.{Number, Nothing}
-use Rattle.semantics.specs.Memory.{ADDRESS, TYPE, bare, mark_of, cell_at, mark_at}
+use Rattle.semantics.specs.Memory.{ADDRESS, TYPE, bare, mark_of, cell_at, mark_at, Mark}
 use Rattle.semantics.specs.Layout.{Program, place_of}
 use Rattle.semantics.specs.Finding.{reach, index, with_mark, object, parameter_place, variable_place, field_place}
-use Rattle.semantics.specs.Finding.{element_place, array_place, guard_place, Meaning, no_meaning, designator}
+use Rattle.semantics.specs.Finding.{element_place, array_place, guard_place, Meaning, no_meaning, designator, Found}
 use Rattle.semantics.specs.Finding.{meaning_by, meaning_of, find_of}
 use Rattle.semantics.specs.Running.{program_of}
 use Rattle.access.specs.Ready.{Planned}
@@ -38,13 +33,14 @@ use Rattle.access.proofs.Bounds.{field_low, element_typed, element_low, variable
 use Rattle.access.proofs.Bounds.{nodes_few}
 use Rattle.finding.specs.Within.{Within}
 use Rattle.finding.proofs.Laws.{find_other}
+use Rattle.values.specs.Values.{Answer}
 
 -- an object at n or below, of a type that there is; or none
 data Low (image : List ℕ) (n : ℕ) : Found → Type 0 where
   low_at : {place : Place} → place.address ≤ n → place.declared < rows_of (program_of image).types
-      → Low image n (Fs.At place)
-  low_trap : {t : Trap} → Low image n (Fs.Trap t)
-  low_stuck : Low image n Fs.Stuck
+      → Low image n (Ok place)
+  low_trap : {t : Trap} → Low image n (Err (St.Trap t))
+  low_stuck : Low image n (Err St.Stuck)
 
 -- ---- one law a combinator
 
@@ -73,24 +69,24 @@ module _ {image : List ℕ} where
   index_low : {n : ℕ} (answer : Answer) (next : ℤ → Found) → ((z : ℤ) → Low image n (next z))
       → Low image n (index answer next)
   unfolding index
-  index_low {n} (As.Val v) next h = integer_has (Low image n) low_stuck v next h
-  index_low (As.Trap t) next h = low_trap
-  index_low As.Stuck next h = low_stuck
+  index_low {n} (Ok v) next h = integer_has (Low image n) low_stuck v next h
+  index_low (Err (St.Trap t)) next h = low_trap
+  index_low (Err St.Stuck) next h = low_stuck
 
   -- of a type that there is
-  low_typed : {n : ℕ} {place : Place} → Low image n (Fs.At place) → place.declared < rows_of (program_of image).types
+  low_typed : {n : ℕ} {place : Place} → Low image n (Ok place) → place.declared < rows_of (program_of image).types
   low_typed (low_at l t) = t
 
   -- low enough to add an offset
-  within_low : {place : Place} → Low image 16777216 (Fs.At place) → Within image place
+  within_low : {place : Place} → Low image 16777216 (Ok place) → Within image place
   within_low (low_at l t) = record { low = l; typed = t }
 
 -- ---- marks
 
 -- a number of 16 bits, or none
 data Small : Mark → Type 0 where
-  small_number : {n : ℕ} → n < 65536 → Small (Number n)
-  small_nothing : Small Nothing
+  small_number : {n : ℕ} → n < 65536 → Small (Some n)
+  small_nothing : Small None
 
 -- a number read as a mark
 mark_small : (z : ℤ) → Small (mark_of z)
@@ -188,7 +184,7 @@ module _ {image plan : List ℕ} (p : Planned image plan) where
 
   -- ---- what was found is of a type that there is
 
-  module _ {x : Found} {place : Place} (at : x ≡ Fs.At place) where
+  module _ {x : Found} {place : Place} (at : x ≡ Ok place) where
     typed_at : {n : ℕ} {y : Found} → x ≡ y → Low image n y → place.declared < rows_of g.types
     typed_at {n} e h = low_typed (subst (Low image n) (sym e ∙ at) h)
 
@@ -256,14 +252,14 @@ module _ {image plan : List ℕ} (p : Planned image plan) where
 
 -- a row past the table designates nothing
 find_missing : (g : Program) (base top : ℕ) (cells : List ℤ) (r : ℕ) → rows_of g.nodes ≤ r
-    → find_of bare g base top cells r ≡ Fs.Stuck
+    → find_of bare g base top cells r ≡ Err St.Stuck
 find_missing g base top cells r h =
     find_other bare g base top cells r _ (sym (row_missing g.nodes r h)) (λ e. absurd (omega arith))
     (λ e. absurd (omega arith)) (λ e. absurd (omega arith)) (λ e. absurd (omega arith)) (λ e. absurd (omega arith))
 
 -- an object that was found, of a type that there is, and low enough
 pub find_within : {image plan : List ℕ} → Planned image plan → {base : ℕ} → base ≤ 65536 → (top : ℕ)
-    (cells : List ℤ) (r : ℕ) {place : Place} → find_of bare (program_of image) base top cells r ≡ Fs.At place
+    (cells : List ℤ) (r : ℕ) {place : Place} → find_of bare (program_of image) base top cells r ≡ Ok place
     → Within image place
 find_within {image} p {base} low top cells r e =
     within_low (subst (Low image 16777216) e (go (dec_lt r (rows_of (program_of image).nodes))))

@@ -3,13 +3,12 @@ use mathlib.Core.Path.{◌≡◌, ◌∙◌}
 use mathlib.Core.List.{List}
 use Prim.Native.Nat.{ℕ}
 use lib.IntN.{ℤ}
-use Rattle.values.specs.declared.Answer.{Answer}
-use Rattle.semantics.specs.declared.Found.{Found}
 use Rattle.semantics.specs.Memory.{bare}
-use Rattle.semantics.specs.Finding.{find_of, eval_of}
+use Rattle.semantics.specs.Finding.{find_of, eval_of, Found}
 use Rattle.semantics.specs.Running.{program_of}
 use Rattle.access.specs.declared.Loaded.{Loaded}
 use Rattle.finding.specs.declared.View.{View}
+use Rattle.values.specs.Values.{Answer}
 
 module _ (v : View) {loaded : Loaded} {cells : List ℤ} {base top : ℕ}
     (made : (v.loaded ≡ loaded) × (v.store.now ≡ cells) × (v.base ≡ base) × (v.top ≡ top)) (r : ℕ) where

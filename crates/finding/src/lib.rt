@@ -15,21 +15,21 @@ ghost use Rattle.finding.specs.Missed.{no_place, no_value};
 use access::Loaded;
 use image::Row;
 use relations::FieldAt;
-use semantics::{Found, Mark, Place, Registers};
-use values::{Answer, Trap, Value};
+use semantics::{Place, Registers};
+use values::{Stop, Trap, Value};
 
 // ---- answers of calls
 
 // A call leaves its answer in memory, piece by piece, and a copy of the whole would wait for the pieces. Handed through
 // one of these two, it is copied piece by piece.
 
-pub fn fresh(x: Answer) -> Answer
+pub fn fresh(x: Result<Value, Stop>) -> Result<Value, Stop>
     ensures { result ≡ x }
 {
     x
 }
 
-pub fn fresh_place(x: Found) -> Found
+pub fn fresh_place(x: Result<Place, Stop>) -> Result<Place, Stop>
     ensures { result ≡ x }
 {
     x
@@ -37,33 +37,33 @@ pub fn fresh_place(x: Found) -> Found
 
 // ---- a trap in an operand
 
-// A value's trap, where an object was sought.
-fn no_place(x: Answer) -> Found
+// Why there is no value, where an object was sought.
+fn no_place(x: Result<Value, Stop>) -> Result<Place, Stop>
     ensures { result ≡ no_place x }
 {
     match x {
-        Answer::Trap(t) => Found::Trap(t),
-        _ => Found::Stuck,
+        Ok(_) => Err(Stop::Stuck),
+        Err(stop) => Err(stop),
     }
 }
 
-// An object's trap, where a value was sought.
-fn no_value(x: Found) -> Answer
+// Why there is no object, where a value was sought.
+fn no_value(x: Result<Place, Stop>) -> Result<Value, Stop>
     ensures { result ≡ no_value x }
 {
     match x {
-        Found::Trap(t) => Answer::Trap(t),
-        _ => Answer::Stuck,
+        Ok(_) => Err(Stop::Stuck),
+        Err(stop) => Err(stop),
     }
 }
 
 // ---- designators
 
 // An object of type row r at an address: its dynamic type is the declared one.
-fn plain(address: u32, r: u16) -> Found
+fn plain(address: u32, r: u16) -> Result<Place, Stop>
     ensures { result ≡ object address r }
 {
-    Found::At(Place {
+    Ok(Place {
         address,
         declared: r,
         dynamic: r,
@@ -71,7 +71,7 @@ fn plain(address: u32, r: u16) -> Found
 }
 
 // Node kind 2: the field that node row k names, of an object.
-fn field_place(loaded: &Loaded, whole: Place, k: u32) -> Found
+fn field_place(loaded: &Loaded, whole: Place, k: u32) -> Result<Place, Stop>
     requires { Within loaded.now.image.now whole
         × ((row_at (program_of loaded.now.image.now).nodes k).kind ≡ 2) }
     ensures { result ≡ field_place whole (field_of (program_of loaded.now.image.now).types
@@ -79,47 +79,47 @@ fn field_place(loaded: &Loaded, whole: Place, k: u32) -> Found
         (row_at (program_of loaded.now.image.now).nodes k).b) }
 {
     let Some(FieldAt { offset: offset, declared: r }) = loaded.field(k, whole.declared) else {
-        return Found::Stuck;
+        return Err(Stop::Stuck);
     };
     plain(whole.address + offset, r)
 }
 
 // Node kind 3: the element at an index of an object whose type row is `array`.
-fn element_place(loaded: &Loaded, whole: Place, array: Row, index: i32) -> Found
+fn element_place(loaded: &Loaded, whole: Place, array: Row, index: i32) -> Result<Place, Stop>
     requires { Within loaded.now.image.now whole
         × (array ≡ row_at (program_of loaded.now.image.now).types whole.declared) × (array.kind ≡ 3) }
     ensures { result ≡ element_place (program_of loaded.now.image.now) whole array index }
 {
     if index < 0 {
-        return Found::Trap(Trap::Index);
+        return Err(Stop::Trap(Trap::Index));
     }
     let i = index as u32;
     if array.b as u32 <= i {
-        return Found::Trap(Trap::Index);
+        return Err(Stop::Trap(Trap::Index));
     }
     let size = loaded.size_of(array.a);
     plain(whole.address + i * size, array.a)
 }
 
 // Node kind 4: an object guarded by type row b.
-fn guard_place(loaded: &Loaded, place: Place, b: u16) -> Found
+fn guard_place(loaded: &Loaded, place: Place, b: u16) -> Result<Place, Stop>
     ensures { result ≡ guard_place (program_of loaded.now.image.now) b place }
 {
     if loaded.extends(place.dynamic, b) {
-        return Found::At(Place {
+        return Ok(Place {
             address: place.address,
             declared: b,
             dynamic: place.dynamic,
         });
     }
-    Found::Trap(Trap::Guard)
+    Err(Stop::Trap(Trap::Guard))
 }
 
 // Node kind 7: whether an object's dynamic type extends type row b.
-fn type_test(loaded: &Loaded, place: Place, b: u16) -> Answer
+fn type_test(loaded: &Loaded, place: Place, b: u16) -> Result<Value, Stop>
     ensures { result ≡ test_of (program_of loaded.now.image.now) b place }
 {
-    Answer::Val(Value::Bool(loaded.extends(place.dynamic, b)))
+    Ok(Value::Bool(loaded.extends(place.dynamic, b)))
 }
 
 // ---- what a statement sees
@@ -151,7 +151,7 @@ impl<'a, 'b> View<'a, 'b> {
     }
 
     // The value of an object. A scalar's type row is its kind, and no other row is the kind of a value.
-    fn load(&self, place: Place) -> Answer
+    fn load(&self, place: Place) -> Result<Value, Stop>
         requires { place.declared < rows_of (program_of self.now.loaded.image.now).types }
         ensures { result ≡ value_at bare self.now.top self.now.store.now
             (kind_in (program_of self.now.loaded.image.now).types place.declared) place.address }
@@ -160,17 +160,17 @@ impl<'a, 'b> View<'a, 'b> {
     }
 
     // The object of a VAR parameter of type row r, whose two cells begin at `at`.
-    fn parameter_place(&self, at: u32, r: u16) -> Found
+    fn parameter_place(&self, at: u32, r: u16) -> Result<Place, Stop>
         requires { at < 4294967295 }
         ensures { result ≡ parameter_place bare self.now.top self.now.store.now at r }
     {
-        let Mark::Number(address) = cells::mark_at(self.store, self.top, at) else {
-            return Found::Stuck;
+        let Some(address) = cells::mark_at(self.store, self.top, at) else {
+            return Err(Stop::Stuck);
         };
-        let Mark::Number(dynamic) = cells::mark_at(self.store, self.top, at + 1) else {
-            return Found::Stuck;
+        let Some(dynamic) = cells::mark_at(self.store, self.top, at + 1) else {
+            return Err(Stop::Stuck);
         };
-        Found::At(Place {
+        Ok(Place {
             address: address as u32,
             declared: r,
             dynamic,
@@ -178,14 +178,14 @@ impl<'a, 'b> View<'a, 'b> {
     }
 
     // Node kind 1: variable row a.
-    fn variable_place(&self, a: u16) -> Found
+    fn variable_place(&self, a: u16) -> Result<Place, Stop>
         ensures { result ≡ variable_place bare (program_of self.now.loaded.image.now)
             self.now.base self.now.top self.now.store.now a
             (row_at (program_of self.now.loaded.image.now).variables a) }
     {
         let row = self.loaded.variable_at(a as u32);
         if 3 < row.kind {
-            return Found::Stuck;
+            return Err(Stop::Stuck);
         }
         let place = self.loaded.place_of(a as u32);
         if row.kind == 0 {
@@ -202,7 +202,7 @@ impl<'a, 'b> View<'a, 'b> {
 
     // The object that node row r designates.
     #[cycle(eval_find)]
-    pub fn find(&self, r: u32) -> Found
+    pub fn find(&self, r: u32) -> Result<Place, Stop>
         ensures { result ≡ find_of bare (program_of self.now.loaded.image.now)
             self.now.base self.now.top self.now.store.now r }
     {
@@ -213,58 +213,58 @@ impl<'a, 'b> View<'a, 'b> {
             1 => self.variable_place(node.a),
             2 => {
                 if r <= first {
-                    return Found::Stuck;
+                    return Err(Stop::Stuck);
                 }
                 let whole = fresh_place(self.find(first));
-                let Found::At(owner) = whole else {
+                let Ok(owner) = whole else {
                     return whole;
                 };
                 fresh_place(field_place(&self.loaded, owner, r))
             }
             3 => {
                 if r <= first {
-                    return Found::Stuck;
+                    return Err(Stop::Stuck);
                 }
                 let list = fresh_place(self.find(first));
-                let Found::At(array) = list else {
+                let Ok(array) = list else {
                     return list;
                 };
                 let row = self.loaded.type_at(array.declared);
                 if row.kind != 3 {
-                    return Found::Stuck;
+                    return Err(Stop::Stuck);
                 }
                 if r <= second {
-                    return Found::Stuck;
+                    return Err(Stop::Stuck);
                 }
                 let index = fresh(self.eval(second));
-                let Answer::Val(value) = index else {
+                let Ok(value) = index else {
                     return no_place(index);
                 };
                 let Value::Int(i) = value else {
-                    return Found::Stuck;
+                    return Err(Stop::Stuck);
                 };
                 fresh_place(element_place(&self.loaded, array, row, i))
             }
             4 => {
                 let guarded = self.variable_place(node.a);
-                let Found::At(object) = guarded else {
+                let Ok(object) = guarded else {
                     return guarded;
                 };
                 guard_place(&self.loaded, object, node.b)
             }
             8 => {
                 if r <= first {
-                    return Found::Stuck;
+                    return Err(Stop::Stuck);
                 }
                 fresh_place(self.find(first))
             }
-            _ => Found::Stuck,
+            _ => Err(Stop::Stuck),
         }
     }
 
     // The value of node row r.
     #[cycle(eval_find)]
-    pub fn eval(&self, r: u32) -> Answer
+    pub fn eval(&self, r: u32) -> Result<Value, Stop>
         ensures { result ≡ eval_of bare (program_of self.now.loaded.image.now)
             self.now.base self.now.top self.now.store.now r }
     {
@@ -275,97 +275,97 @@ impl<'a, 'b> View<'a, 'b> {
             0 => values::constant(node.a, node.b, node.c),
             1 => {
                 let variable = self.variable_place(node.a);
-                let Found::At(object) = variable else {
+                let Ok(object) = variable else {
                     return no_value(variable);
                 };
                 fresh(self.load(object))
             }
             2 => {
                 if r <= first {
-                    return Answer::Stuck;
+                    return Err(Stop::Stuck);
                 }
                 let whole = fresh_place(self.find(first));
-                let Found::At(owner) = whole else {
+                let Ok(owner) = whole else {
                     return no_value(whole);
                 };
                 let part = fresh_place(field_place(&self.loaded, owner, r));
-                let Found::At(object) = part else {
+                let Ok(object) = part else {
                     return no_value(part);
                 };
                 fresh(self.load(object))
             }
             3 => {
                 if r <= first {
-                    return Answer::Stuck;
+                    return Err(Stop::Stuck);
                 }
                 let list = fresh_place(self.find(first));
-                let Found::At(array) = list else {
+                let Ok(array) = list else {
                     return no_value(list);
                 };
                 let row = self.loaded.type_at(array.declared);
                 if row.kind != 3 {
-                    return Answer::Stuck;
+                    return Err(Stop::Stuck);
                 }
                 if r <= second {
-                    return Answer::Stuck;
+                    return Err(Stop::Stuck);
                 }
                 let index = fresh(self.eval(second));
-                let Answer::Val(value) = index else {
+                let Ok(value) = index else {
                     return index;
                 };
                 let Value::Int(i) = value else {
-                    return Answer::Stuck;
+                    return Err(Stop::Stuck);
                 };
                 let element = fresh_place(element_place(&self.loaded, array, row, i));
-                let Found::At(object) = element else {
+                let Ok(object) = element else {
                     return no_value(element);
                 };
                 fresh(self.load(object))
             }
             4 => {
                 let guarded = self.variable_place(node.a);
-                let Found::At(whole) = guarded else {
+                let Ok(whole) = guarded else {
                     return no_value(guarded);
                 };
                 let narrowed = guard_place(&self.loaded, whole, node.b);
-                let Found::At(object) = narrowed else {
+                let Ok(object) = narrowed else {
                     return no_value(narrowed);
                 };
                 fresh(self.load(object))
             }
             5 => {
                 if r <= first {
-                    return Answer::Stuck;
+                    return Err(Stop::Stuck);
                 }
                 let left = fresh(self.eval(first));
-                let Answer::Val(x) = left else {
+                let Ok(x) = left else {
                     return left;
                 };
                 if operators::decides(node.c, x) {
                     return left;
                 }
                 if r <= second {
-                    return Answer::Stuck;
+                    return Err(Stop::Stuck);
                 }
                 let right = fresh(self.eval(second));
-                let Answer::Val(y) = right else {
+                let Ok(y) = right else {
                     return right;
                 };
                 match x {
                     Value::Bool(p) => {
                         let Value::Bool(q) = y else {
-                            return Answer::Stuck;
+                            return Err(Stop::Stuck);
                         };
                         operators::booleans(node.c, p, q)
                     }
                     Value::Int(i) => match y {
-                        Value::Bool(_) => Answer::Stuck,
+                        Value::Bool(_) => Err(Stop::Stuck),
                         Value::Int(j) => operators::integers(node.c, i, j),
                         Value::Set(u) => operators::membership(node.c, i, u),
                     },
                     Value::Set(s) => {
                         let Value::Set(t) = y else {
-                            return Answer::Stuck;
+                            return Err(Stop::Stuck);
                         };
                         operators::sets(node.c, s, t)
                     }
@@ -374,30 +374,30 @@ impl<'a, 'b> View<'a, 'b> {
             // one call serves both: the answer of each call has a place of its own in the frame
             6 | 8 => {
                 if r <= first {
-                    return Answer::Stuck;
+                    return Err(Stop::Stuck);
                 }
                 let operand = fresh(self.eval(first));
                 if node.kind == 8 {
                     return operand;
                 }
-                let Answer::Val(z) = operand else {
+                let Ok(z) = operand else {
                     return operand;
                 };
                 fresh(operators::monadic(node.c, z))
             }
             7 => {
                 let tested = self.variable_place(node.a);
-                let Found::At(object) = tested else {
+                let Ok(object) = tested else {
                     return no_value(tested);
                 };
                 type_test(&self.loaded, object, node.b)
             }
-            _ => Answer::Stuck,
+            _ => Err(Stop::Stuck),
         }
     }
 
     // The same as find, where most objects are variables: such a one takes no call.
-    pub fn locate(&self, r: u32) -> Found
+    pub fn locate(&self, r: u32) -> Result<Place, Stop>
         ensures { result ≡ find_of bare (program_of self.now.loaded.image.now)
             self.now.base self.now.top self.now.store.now r }
     {

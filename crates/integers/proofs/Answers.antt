@@ -9,10 +9,11 @@ use Rattle.prelude.specs.Choice.{choose}
 use Rattle.integers.specs.Integers.{integer_of, div_of, mod_of, division_of}
 use Rattle.values.specs.declared.Value.TheVariants as Vs
 use Rattle.values.specs.declared.Trap.TheVariants as Ts
-use Rattle.values.specs.declared.Answer.TheVariants as As
+use Rattle.values.specs.declared.Stop.TheVariants as St
+use Rattle.std.specs.Prelude.{Ok, Err}
 
 -- "Trap 5 remains for zero alone"
-pub not_divided : (op : ℕ) (x y : ℤ) → eqb (nat_abs y) 0 ≡ true → division_of op x y ≡ As.Trap Ts.Divisor
+pub not_divided : (op : ℕ) (x y : ℤ) → eqb (nat_abs y) 0 ≡ true → division_of op x y ≡ Err (St.Trap Ts.Divisor)
 unfolding division_of choose
 not_divided op x y h = rw h
 
@@ -22,6 +23,6 @@ div_divided op x y h e = rw (h, eq-eqb op 4 e)
 
 -- MOD by every other divisor gives no trap
 pub mod_divided : (op : ℕ) (x y : ℤ) → eqb (nat_abs y) 0 ≡ false → (op ≡ 4 → ⊥)
-    → division_of op x y ≡ As.Val (Vs.Int (mod_of x y))
+    → division_of op x y ≡ Ok (Vs.Int (mod_of x y))
 unfolding division_of choose
 mod_divided op x y h e = rw (h, ne_eqb op 4 e)

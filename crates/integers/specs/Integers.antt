@@ -1,16 +1,16 @@
 -- What the operators 1 to 5 give on INTEGERs.
 use Rattle.std.specs.Prelude.{ℕ, suc, ◌/◌, ◌≡◌, Bool, true, eqb, ℤ, pos, negsuc, neg_ℤ, nat_abs, ◌+ℤ◌, ◌-ℤ◌, ◌*ℤ◌}
+use Rattle.std.specs.Prelude.{Ok, Err}
 use Rattle.std.specs.Int.Signed.{le_z, lt_z}
 use Rattle.prelude.specs.Choice.{choose, ◌also◌}
-use Rattle.values.specs.Values.{is_integer}
+use Rattle.values.specs.Values.{is_integer, Answer}
 use Rattle.values.specs.declared.Value.TheVariants as Vs
 use Rattle.values.specs.declared.Trap.TheVariants as Ts
-use Rattle.values.specs.declared.Answer.{Answer}
-use Rattle.values.specs.declared.Answer.TheVariants as As
+use Rattle.values.specs.declared.Stop.TheVariants as St
 
 -- an INTEGER result; trap 4 "INTEGER overflow" where it is out of range
 unfoldable pub integer_of : ℤ → Answer
-integer_of z = choose (is_integer z) (As.Val (Vs.Int z)) (As.Trap Ts.Overflow)
+integer_of z = choose (is_integer z) (Ok (Vs.Int z)) (Err (St.Trap Ts.Overflow))
 
 -- a number by a magnitude, rounded down
 unfoldable pub quotient_of : ℤ → ℕ → ℤ
@@ -29,8 +29,8 @@ mod_of x y = x -ℤ (div_of x y *ℤ y)
 -- 4 DIV, 5 MOD; trap 5 "divisor zero"
 unfoldable pub division_of : ℕ → ℤ → ℤ → Answer
 division_of op x y =
-    choose (eqb (nat_abs y) 0) (As.Trap Ts.Divisor)
-    (choose (eqb op 4) (integer_of (div_of x y)) (As.Val (Vs.Int (mod_of x y))))
+    choose (eqb (nat_abs y) 0) (Err (St.Trap Ts.Divisor))
+    (choose (eqb op 4) (integer_of (div_of x y)) (Ok (Vs.Int (mod_of x y))))
 
 -- 1 +, 2 -, 3 *, 4 DIV, 5 MOD
 unfoldable pub arithmetic_of : ℕ → ℤ → ℤ → Answer

@@ -5,33 +5,33 @@ ghost use Rattle.std.specs.Prelude.{false, ◌≡◌, ◌<◌, ◌≤◌, eqb, n
 ghost use Rattle.std.specs.Int.Signed.{mag};
 ghost use Rattle.integers.specs.Integers.{integer_of, quotient_of, div_of, mod_of, division_of, arithmetic_of};
 
-use values::{Answer, Trap, Value};
+use values::{Stop, Trap, Value};
 
 // An INTEGER, or trap 4 where it is out of range.
-fn integer(z: i64) -> Answer
+fn integer(z: i64) -> Result<Value, Stop>
     ensures { result ≡ integer_of z }
 {
     if values::is_integer(z) {
         let n = z as i32;
-        return Answer::Val(Value::Int(n));
+        return Ok(Value::Int(n));
     }
-    Answer::Trap(Trap::Overflow)
+    Err(Stop::Trap(Trap::Overflow))
 }
 
-fn add(x: i32, y: i32) -> Answer
+fn add(x: i32, y: i32) -> Result<Value, Stop>
     ensures { result ≡ integer_of (x +ℤ y) }
 {
     integer((x as i64) + (y as i64))
 }
 
 // The difference, or trap 4 where it is out of range.
-pub fn subtract(x: i32, y: i32) -> Answer
+pub fn subtract(x: i32, y: i32) -> Result<Value, Stop>
     ensures { result ≡ integer_of (x -ℤ y) }
 {
     integer((x as i64) - (y as i64))
 }
 
-fn multiply(x: i32, y: i32) -> Answer
+fn multiply(x: i32, y: i32) -> Result<Value, Stop>
     ensures { result ≡ integer_of (x *ℤ y) }
 {
     integer((x as i64) * (y as i64))
@@ -78,21 +78,21 @@ fn mod_floor(x: i32, y: i32) -> i32
 }
 
 // Operators 4 and 5, or trap 5.
-fn divide(op: u16, x: i32, y: i32) -> Answer
+fn divide(op: u16, x: i32, y: i32) -> Result<Value, Stop>
     ensures { result ≡ division_of op x y }
 {
     if y == 0 {
-        return Answer::Trap(Trap::Divisor);
+        return Err(Stop::Trap(Trap::Divisor));
     }
     if op == 4 {
         integer(div_floor(x, y))
     } else {
-        Answer::Val(Value::Int(mod_floor(x, y)))
+        Ok(Value::Int(mod_floor(x, y)))
     }
 }
 
 // Operators 1 to 5 on two INTEGERs.
-pub fn arithmetic(op: u16, x: i32, y: i32) -> Answer
+pub fn arithmetic(op: u16, x: i32, y: i32) -> Result<Value, Stop>
     ensures { result ≡ arithmetic_of op x y }
 {
     match op {

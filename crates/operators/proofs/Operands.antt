@@ -10,9 +10,10 @@ use Rattle.values.specs.Values.{as_boolean, as_integer, as_set}
 use Rattle.operators.specs.Operators.{integers_of, sets_of, booleans_of, membership_of, dyadic_of, decides}
 use Rattle.values.specs.declared.Value.{Value}
 use Rattle.values.specs.declared.Value.TheVariants as Vs
-use Rattle.values.specs.declared.Answer.TheVariants as As
 use Rattle.values.specs.contracts.Value.{the_type}
+use Rattle.values.specs.declared.Stop.TheVariants as St
 use Rattle.values.proofs.Cases.{no_boolean, no_set}
+use Rattle.std.specs.Prelude.{Err}
 
 -- ---- operands that belong together
 
@@ -36,19 +37,19 @@ module _ (op : ℕ) where
 -- ---- let .. else: an operand of another kind
 
 -- an INTEGER and a BOOLEAN
-pub not_integer : (op : ℕ) (x : ℤ) (q : Bool) → dyadic_of op (Vs.Int x) (Vs.Bool q) ≡ As.Stuck
+pub not_integer : (op : ℕ) (x : ℤ) (q : Bool) → dyadic_of op (Vs.Int x) (Vs.Bool q) ≡ Err St.Stuck
 unfolding dyadic_of as_integer as_set
 not_integer op x q = refl
 
 -- no BOOLEAN beside a BOOLEAN
 pub not_booleans : (op : ℕ) (p : Bool) (w : Value) → OneOf (1 ∷ 2 ∷ []) (tag_of the_type w)
-    → dyadic_of op (Vs.Bool p) w ≡ As.Stuck
+    → dyadic_of op (Vs.Bool p) w ≡ Err St.Stuck
 unfolding dyadic_of
 not_booleans op p w t = no_boolean _ w _ t
 
 -- no SET beside a SET
 pub not_sets : (op : ℕ) (s : ℕ) (w : Value) → OneOf (0 ∷ 1 ∷ []) (tag_of the_type w)
-    → dyadic_of op (Vs.Set s) w ≡ As.Stuck
+    → dyadic_of op (Vs.Set s) w ≡ Err St.Stuck
 unfolding dyadic_of
 not_sets op s w t = no_set _ w _ t
 

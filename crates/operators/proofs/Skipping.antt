@@ -1,6 +1,6 @@
 -- "Operands go left to right": & and OR "skip the right one when the left decides", which changes nothing and keeps
 -- kinds and ranges; elsewhere a trap of the right one comes before the operator's own.
-use Rattle.std.specs.Prelude.{Some, None}
+use Rattle.std.specs.Prelude.{Some, None, Ok, Err}
 use mathlib.Core.Path.{◌≡◌, refl, sym}
 use mathlib.Core.Bool.{Bool, true, false}
 use mathlib.Core.Logic.{inl, inr}
@@ -10,15 +10,14 @@ use borrow.Author.Tests.{eqb-true, not-true}
 use lib.Dec.{eqb}
 use Rattle.prelude.specs.Choice.{choose}
 use Rattle.prelude.proofs.Choice.{clash, choose_cases}
-use Rattle.values.specs.Values.{BOOLEAN, kind_of, InRange, as_boolean, bind, Gives}
+use Rattle.values.specs.Values.{BOOLEAN, kind_of, InRange, as_boolean, bind, Gives, Answer}
 use Rattle.operators.specs.Operators.{booleans_of, dyadic_of, decides, applied_to}
 use Rattle.kinds.specs.Kinds.{booleans_kind, dyadic_kind}
 use Rattle.values.specs.Values.Gives.{value, trapped}
 use Rattle.values.specs.declared.Value.{Value}
 use Rattle.values.specs.declared.Value.TheVariants as Vs
 use Rattle.values.specs.declared.Trap.{Trap}
-use Rattle.values.specs.declared.Answer.{Answer}
-use Rattle.values.specs.declared.Answer.TheVariants as As
+use Rattle.values.specs.declared.Stop.TheVariants as St
 use Rattle.values.proofs.Giving.{gives_one}
 use Rattle.operators.proofs.Typed.{dyadic_typed}
 use Rattle.operators.proofs.Ranges.{dyadic_range}
@@ -50,11 +49,11 @@ decided op (Vs.Bool p) e =
     ]
 
 -- whatever the right operand would have given
-pub decides_same : (op : ℕ) (v : Value) (q : Bool) → decides op v ≡ true → dyadic_of op v (Vs.Bool q) ≡ As.Val v
+pub decides_same : (op : ℕ) (v : Value) (q : Bool) → decides op v ≡ true → dyadic_of op v (Vs.Bool q) ≡ Ok v
 unfolding dyadic_of booleans_of as_boolean choose
 decides_same op v q e = go (decided op v e)
   where
-    go : {op : ℕ} {v : Value} → Decided op v → dyadic_of op v (Vs.Bool q) ≡ As.Val v
+    go : {op : ℕ} {v : Value} → Decided op v → dyadic_of op v (Vs.Bool q) ≡ Ok v
     go and_false = refl
     go or_true = refl
 
@@ -69,7 +68,7 @@ decided_kind j or_true e =
 -- ---- both operands' answers
 
 -- "after both operands are found": the right operand's trap, whatever the operator would make of the left one
-pub right_traps : (op : ℕ) (v : Value) (t : Trap) → decides op v ≡ false → applied_to op v (As.Trap t) ≡ As.Trap t
+pub right_traps : (op : ℕ) (v : Value) (t : Trap) → decides op v ≡ false → applied_to op v (Err (St.Trap t)) ≡ Err (St.Trap t)
 unfolding applied_to bind choose
 right_traps op v t e = rw e
 
@@ -84,8 +83,8 @@ applied_typed op {v} {j = j} {k} e p g =
     go (value {v = w} i q) e = dyadic_typed op (rw (sym i) at e) p q
     go trapped e = trapped
 
-pub applied_range : (op : ℕ) {v r : Value} (right : Answer) → applied_to op v right ≡ As.Val r
-    → InRange v → ((w : Value) → right ≡ As.Val w → InRange w) → InRange r
+pub applied_range : (op : ℕ) {v r : Value} (right : Answer) → applied_to op v right ≡ Ok r
+    → InRange v → ((w : Value) → right ≡ Ok w → InRange w) → InRange r
 unfolding applied_to bind
 applied_range op {v} {r} right e p q =
     elim (choose_cases (decides op v) e) [
@@ -93,8 +92,8 @@ applied_range op {v} {r} right e p q =
       | inr h ↦ go right q h.1
     ]
   where
-    go : (right : Answer) → ((w : Value) → right ≡ As.Val w → InRange w)
-        → bind right (λ w. dyadic_of op v w) ≡ As.Val r → InRange r
-    go (As.Val w) q e = dyadic_range op e p (q w refl)
-    go (As.Trap t) q e = let z : ◌≡◌ {A = ℕ} 0 1 = cc in absurd (omega arith)
-    go As.Stuck q e = no_value e
+    go : (right : Answer) → ((w : Value) → right ≡ Ok w → InRange w)
+        → bind right (λ w. dyadic_of op v w) ≡ Ok r → InRange r
+    go (Ok w) q e = dyadic_range op e p (q w refl)
+    go (Err (St.Trap t)) q e = let z : ◌≡◌ {A = ℕ} 0 1 = cc in absurd (omega arith)
+    go (Err St.Stuck) q e = no_value e

@@ -1,6 +1,6 @@
 -- The type rules and the operators agree: a typed operator gives a value of its kind, in its range, or a trap,
 -- and an untyped one is stuck.
-use Rattle.std.specs.Prelude.{Option, Some, None}
+use Rattle.std.specs.Prelude.{Option, Some, None, Err}
 use mathlib.Core.Path.{◌≡◌, refl, ap, ◌∙◌}
 use mathlib.Core.Bool.{Bool, true, false, ◌&&◌}
 use Prim.Native.Nat.{ℕ, suc, ◌<◌, ◌≤◌}
@@ -13,15 +13,14 @@ use mir.Syntax.{w32}
 use mir.Val.{SFits}
 use Rattle.prelude.specs.Choice.{choose}
 use Rattle.prelude.proofs.Choice.{choose_same}
-use Rattle.values.specs.Values.{BOOLEAN, SET, kind_of, InRange, is_set, as_boolean, as_integer, as_set, Gives}
+use Rattle.values.specs.Values.{BOOLEAN, SET, kind_of, InRange, is_set, as_boolean, as_integer, as_set, Gives, Answer}
 use Rattle.values.specs.Values.InRange.{integer, set}
 use Rattle.sets.specs.Sets.{complement_of}
 use Rattle.operators.specs.Operators.{integers_of, sets_of, booleans_of, membership_of, dyadic_of, monadic_of}
 use Rattle.kinds.specs.Kinds.{integers_kind, sets_kind, booleans_kind, dyadic_kind, monadic_kind}
 use Rattle.values.specs.declared.Value.{Value}
 use Rattle.values.specs.declared.Value.TheVariants as Vs
-use Rattle.values.specs.declared.Answer.{Answer}
-use Rattle.values.specs.declared.Answer.TheVariants as As
+use Rattle.values.specs.declared.Stop.TheVariants as St
 use Rattle.values.proofs.Numbers.{inside, under, over, integer_fits}
 use Rattle.values.proofs.Giving.{gives_boolean, gives_set}
 use Rattle.integers.proofs.Results.{integer_gives, arithmetic_gives}
@@ -32,7 +31,7 @@ use Rattle.sets.proofs.Results.{contains_gives, range_gives, complement_gives}
 -- under H the answer is one of the kind, and without a kind it is stuck
 pub data Agree (H : Type 0) : Option ℕ → Answer → Type 0 where
   typed : {k : ℕ} {a : Answer} → (H → Gives k a) → Agree H (Some k) a
-  untyped : Agree H None As.Stuck
+  untyped : Agree H None (Err St.Stuck)
 
 module _ {H : Type 0} where
   -- by the same test
@@ -163,7 +162,7 @@ module _ {H : Type 0} where
   agree_typed {k = k} (typed {k = j} f) e h = let i : j ≡ k = cc in rw i at (f h)
   agree_typed untyped e h = let z : ◌≡◌ {A = ℕ} 0 1 = cc in absurd (omega arith)
 
-  agree_untyped : {x : (Option ℕ)} {a : Answer} → Agree H x a → x ≡ None → a ≡ As.Stuck
+  agree_untyped : {x : (Option ℕ)} {a : Answer} → Agree H x a → x ≡ None → a ≡ Err St.Stuck
   agree_untyped (typed f) e = let z : ◌≡◌ {A = ℕ} 0 1 = cc in absurd (omega arith)
   agree_untyped untyped e = refl
 
@@ -177,8 +176,8 @@ pub monadic_typed : (op : ℕ) {v : Value} {k : ℕ} → monadic_kind op (kind_o
 monadic_typed op {v} e p = agree_typed (monadic_agree op v) e p
 
 -- an untyped one always is
-pub dyadic_untyped : (op : ℕ) (v w : Value) → dyadic_kind op (kind_of v) (kind_of w) ≡ None → dyadic_of op v w ≡ As.Stuck
+pub dyadic_untyped : (op : ℕ) (v w : Value) → dyadic_kind op (kind_of v) (kind_of w) ≡ None → dyadic_of op v w ≡ Err St.Stuck
 dyadic_untyped op v w e = agree_untyped (dyadic_agree op v w) e
 
-pub monadic_untyped : (op : ℕ) (v : Value) → monadic_kind op (kind_of v) ≡ None → monadic_of op v ≡ As.Stuck
+pub monadic_untyped : (op : ℕ) (v : Value) → monadic_kind op (kind_of v) ≡ None → monadic_of op v ≡ Err St.Stuck
 monadic_untyped op v e = agree_untyped (monadic_agree op v) e

@@ -5,7 +5,7 @@ ghost use Rattle.std.specs.Prelude.{◌≡◌};
 ghost use Rattle.operators.specs.Operators.{compare_of, integers_of, sets_of, booleans_of, membership_of, monadic_of};
 ghost use Rattle.operators.specs.Operators.{decides as decides_of};
 
-use values::{Answer, Value};
+use values::{Stop, Value};
 
 // Operators 7 to 12, from whether the left is less and whether the two are equal.
 fn compare(op: u16, less: bool, equal: bool) -> bool
@@ -22,69 +22,69 @@ fn compare(op: u16, less: bool, equal: bool) -> bool
 }
 
 // An operator on two INTEGERs.
-pub fn integers(op: u16, x: i32, y: i32) -> Answer
+pub fn integers(op: u16, x: i32, y: i32) -> Result<Value, Stop>
     ensures { result ≡ integers_of op x y }
 {
     match op {
         1..=5 => integers::arithmetic(op, x, y),
-        7..=12 => Answer::Val(Value::Bool(compare(op, x < y, x == y))),
+        7..=12 => Ok(Value::Bool(compare(op, x < y, x == y))),
         16 => sets::range(x, y),
-        _ => Answer::Stuck,
+        _ => Err(Stop::Stuck),
     }
 }
 
 // An operator on two SETs.
-pub fn sets(op: u16, s: u32, t: u32) -> Answer
+pub fn sets(op: u16, s: u32, t: u32) -> Result<Value, Stop>
     ensures { result ≡ sets_of op s t }
 {
     match op {
-        1 => Answer::Val(Value::Set(s | t)),
-        2 => Answer::Val(Value::Set(s & sets::complement(t))),
-        3 => Answer::Val(Value::Set(s & t)),
-        6 => Answer::Val(Value::Set(s ^ t)),
-        7..=8 => Answer::Val(Value::Bool(compare(op, false, s == t))),
-        _ => Answer::Stuck,
+        1 => Ok(Value::Set(s | t)),
+        2 => Ok(Value::Set(s & sets::complement(t))),
+        3 => Ok(Value::Set(s & t)),
+        6 => Ok(Value::Set(s ^ t)),
+        7..=8 => Ok(Value::Bool(compare(op, false, s == t))),
+        _ => Err(Stop::Stuck),
     }
 }
 
 // An operator on two BOOLEANs.
-pub fn booleans(op: u16, p: bool, q: bool) -> Answer
+pub fn booleans(op: u16, p: bool, q: bool) -> Result<Value, Stop>
     ensures { result ≡ booleans_of op p q }
 {
     match op {
-        7..=8 => Answer::Val(Value::Bool(compare(op, false, p == q))),
-        13 => Answer::Val(Value::Bool(p & q)),
-        14 => Answer::Val(Value::Bool(p | q)),
-        _ => Answer::Stuck,
+        7..=8 => Ok(Value::Bool(compare(op, false, p == q))),
+        13 => Ok(Value::Bool(p & q)),
+        14 => Ok(Value::Bool(p | q)),
+        _ => Err(Stop::Stuck),
     }
 }
 
 // An operator on an INTEGER and a SET.
-pub fn membership(op: u16, x: i32, t: u32) -> Answer
+pub fn membership(op: u16, x: i32, t: u32) -> Result<Value, Stop>
     ensures { result ≡ membership_of op x t }
 {
     match op {
         15 => sets::contains(x, t),
-        _ => Answer::Stuck,
+        _ => Err(Stop::Stuck),
     }
 }
 
 // A monadic operator.
-pub fn monadic(op: u16, operand: Value) -> Answer
+pub fn monadic(op: u16, operand: Value) -> Result<Value, Stop>
     ensures { result ≡ monadic_of op operand }
 {
     match operand {
         Value::Bool(p) => match op {
-            2 => Answer::Val(Value::Bool(!p)),
-            _ => Answer::Stuck,
+            2 => Ok(Value::Bool(!p)),
+            _ => Err(Stop::Stuck),
         },
         Value::Int(x) => match op {
             1 => integers::subtract(0, x),
-            _ => Answer::Stuck,
+            _ => Err(Stop::Stuck),
         },
         Value::Set(s) => match op {
-            1 => Answer::Val(Value::Set(sets::complement(s))),
-            _ => Answer::Stuck,
+            1 => Ok(Value::Set(sets::complement(s))),
+            _ => Err(Stop::Stuck),
         },
     }
 }

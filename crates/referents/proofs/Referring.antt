@@ -15,9 +15,7 @@ use Rattle.prelude.proofs.Choice.{choose_yes, also_left, also_right, also_pass}
 use Rattle.image.specs.Rows.{rows_of}
 use Rattle.relations.specs.Extends.{extends}
 use Rattle.relations.proofs.Extension.{extends_missing}
-use Rattle.semantics.specs.declared.Mark.{Mark}
-use Rattle.semantics.specs.declared.Mark.TheVariants.{Number, Nothing}
-use Rattle.semantics.specs.Memory.{ADDRESS, mark_of, bare, cell_at, mark_at}
+use Rattle.semantics.specs.Memory.{ADDRESS, mark_of, bare, cell_at, mark_at, Mark}
 use Rattle.semantics.specs.Layout.{Program}
 use Rattle.checker.proofs.Accepted.{AcceptedTables}
 use Rattle.asking.specs.Asking.{room_of, object_at}
@@ -25,6 +23,7 @@ use Rattle.asking.specs.State.{is_number, natural_of, reference_kept}
 use Rattle.unwinding.specs.Going.{Oldest}
 use Rattle.unwinding.proofs.Over.{oldest_tail}
 use Rattle.referents.proofs.Frames.{Existing, object_past, object_oldest}
+use Rattle.std.specs.Prelude.{Some, None}
 
 -- ---- numbers as the code reads them
 
@@ -34,17 +33,17 @@ unfolding mark_at bare cell_at
 mark_there top store a h = choose_yes _ _ _ (lt-ltb a top h)
 
 -- a number that is read
-mark_number_lem : (z : ℤ) {n : ℕ} → mark_of z ≡ Number n → (is_number z (natural_of z) ≡ true) × (natural_of z ≡ n)
+mark_number_lem : (z : ℤ) {n : ℕ} → mark_of z ≡ Some n → (is_number z (natural_of z) ≡ true) × (natural_of z ≡ n)
 unfolding mark_of is_number natural_of choose
 mark_number_lem (pos m) {n} e = go (ltb m 65536) e
   where
-    go : (b : Bool) → choose b (Number m) Nothing ≡ Number n → (eqb m m ≡ true) × (m ≡ n)
+    go : (b : Bool) → choose b (Some m) None ≡ Some n → (eqb m m ≡ true) × (m ≡ n)
     go true h = (eq-eqb m m refl, cc)
     go false h = let z : ◌≡◌ {A = ℕ} 0 1 = cc in absurd (omega arith)
 mark_number_lem (negsuc m) e = let z : ◌≡◌ {A = ℕ} 0 1 = cc in absurd (omega arith)
 
 -- one that is not has more than 16 bits, or is negative
-mark_nothing : (z : ℤ) → mark_of z ≡ Nothing → 65536 ≤ natural_of z
+mark_nothing : (z : ℤ) → mark_of z ≡ None → 65536 ≤ natural_of z
 unfolding mark_of natural_of choose
 mark_nothing (pos m) e = go (dec_lt m 65536)
   where
@@ -87,12 +86,12 @@ module _ (g : Program) (older : List ℕ) (r : ℕ) where
     abbrev Read : Mark → ℕ → Type 0
     Read m at = (kind : ℕ) → m ≡ mark_at bare top store kind at
 
-    number_read : {m : Mark} {at n : ℕ} → at < top → Read m at → m ≡ Number n
+    number_read : {m : Mark} {at n : ℕ} → at < top → Read m at → m ≡ Some n
         → (is_number (get_or store at (pos 0)) (natural_of (get_or store at (pos 0))) ≡ true)
         × (natural_of (get_or store at (pos 0)) ≡ n)
     number_read {at = at} h read e = mark_number_lem _ (sym (mark_there top store at h) ∙ sym (read ADDRESS) ∙ e)
 
-    nothing_read : {m : Mark} {at : ℕ} → at < top → Read m at → m ≡ Nothing → 65536 ≤ natural_of (get_or store at (pos 0))
+    nothing_read : {m : Mark} {at : ℕ} → at < top → Read m at → m ≡ None → 65536 ≤ natural_of (get_or store at (pos 0))
     nothing_read {at = at} h read e = mark_nothing _ (sym (mark_there top store at h) ∙ sym (read ADDRESS) ∙ e)
 
     -- the second cell holds no type that extends the parameter's
@@ -100,14 +99,14 @@ module _ (g : Program) (older : List ℕ) (r : ℕ) where
     other_type e =
         sym (cells_are ∙ also_right (is_number x (natural_of x)) (also_right (is_number y (natural_of y)) (also_left _ e)))
 
-    pub no_type : {m : Mark} → Read m (a + 1) → m ≡ Nothing → rows_of g.types ≤ 64 → r < rows_of g.types
+    pub no_type : {m : Mark} → Read m (a + 1) → m ≡ None → rows_of g.types ≤ 64 → r < rows_of g.types
         → false ≡ reference_kept g older r (drop a store)
     no_type read e few low =
         let high = nothing_read (omega arith) read e in
         other_type (extends_missing g.types (natural_of y) r (omega arith)
         ∙ ne_eqb (natural_of y) r (λ same. absurd (omega arith)))
 
-    pub not_extended : {m : Mark} {w : ℕ} → Read m (a + 1) → m ≡ Number w → {e : Bool} → e ≡ extends g.types w r
+    pub not_extended : {m : Mark} {w : ℕ} → Read m (a + 1) → m ≡ Some w → {e : Bool} → e ≡ extends g.types w r
         → e ≡ false → false ≡ reference_kept g older r (drop a store)
     not_extended read is asked fails =
         let (number, value) = number_read (omega arith) read is in
@@ -123,16 +122,16 @@ module _ (g : Program) (older : List ℕ) (r : ℕ) where
           ∙ also_right (is_number x (natural_of x))
           (also_right (is_number y (natural_of y)) (also_right (extends g.types (natural_of y) r) far)))
 
-      pub no_address : {m : Mark} → Read m a → m ≡ Nothing → base < 65536
+      pub no_address : {m : Mark} → Read m a → m ≡ None → base < 65536
           → false ≡ reference_kept g older r (drop a store)
       no_address read e low = let high = nothing_read (omega arith) read e in past (omega arith)
 
-      pub too_high : {m : Mark} {n : ℕ} → Read m a → m ≡ Number n → base < n
+      pub too_high : {m : Mark} {n : ℕ} → Read m a → m ≡ Some n → base < n
           → false ≡ reference_kept g older r (drop a store)
       too_high read is h = let (number, value) = number_read (omega arith) read is in past (omega (arith, value))
 
       -- both hold numbers, and an object is looked for among all frames
-      pub refers : {m o : Mark} {n w : ℕ} → Read m a → m ≡ Number n → Read o (a + 1) → o ≡ Number w
+      pub refers : {m o : Mark} {n w : ℕ} → Read m a → m ≡ Some n → Read o (a + 1) → o ≡ Some w
           → {e : Bool} → e ≡ extends g.types w r → e ≡ true → n ≤ base
           → {p : ℕ} {qs : List ℕ} → Oldest (p ∷ older) qs → {b : Bool} → b ≡ object_at g w qs n
           → b ≡ reference_kept g older r (drop a store)

@@ -21,7 +21,6 @@ ghost use Rattle.referents.specs.Reading.{Lent, Framed, Stacked, Asked};
 use access::Loaded;
 use image::Row;
 use objects::{ROWS, Words};
-use semantics::Mark;
 
 // ---- objects in variables
 
@@ -164,10 +163,10 @@ impl<'a> State<'a> {
             → result ≡ reference_kept (program_of self.now.loaded.image.now) older r (drop a self.now.store.now) }
     {
         let store = self.store;
-        let Mark::Number(address) = cells::mark_at(store, self.top, a) else {
+        let Some(address) = cells::mark_at(store, self.top, a) else {
             return false;
         };
-        let Mark::Number(dynamic) = cells::mark_at(store, self.top, a + 1) else {
+        let Some(dynamic) = cells::mark_at(store, self.top, a + 1) else {
             return false;
         };
         let at = address as u32;

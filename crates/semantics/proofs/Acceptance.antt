@@ -1,27 +1,24 @@
 -- Document 01's starred cases as one table: the paper's words, and what the definitions give.
 use Rattle.checker.specs.Check.{refused_at}
-use Rattle.std.specs.Prelude.{Ok}
+use Rattle.std.specs.Prelude.{Ok, Err}
 use mathlib.Core.Path.{◌≡◌, refl}
 use mathlib.Core.Bool.{true, false}
 use mathlib.Core.List.{List, [], ◌∷◌}
 use Prim.Native.Nat.{ℕ}
 use lib.IntN.{ℤ, pos, neg_ℤ}
 use Rattle.prelude.specs.Parts.{joined}
-use Rattle.values.specs.Values.{trap_number}
+use Rattle.values.specs.Values.{trap_number, Answer}
 use Rattle.values.specs.declared.Value.{Value}
 use Rattle.values.specs.declared.Value.TheVariants as Vs
 use Rattle.values.specs.declared.Trap.TheVariants as Ts
-use Rattle.values.specs.declared.Answer.{Answer}
-use Rattle.values.specs.declared.Answer.TheVariants as As
+use Rattle.values.specs.declared.Stop.TheVariants as St
 use Rattle.operators.specs.Operators.{dyadic_of, monadic_of}
 use Rattle.shapes.specs.Sizes.{size_of, layout_of}
 use Rattle.relations.specs.Extends.{extends}
 use Rattle.types.specs.Question.{question4}
 use Rattle.checker.specs.Check.{check_of, number_of}
-use Rattle.semantics.specs.declared.Found.{Found}
-use Rattle.semantics.specs.declared.Found.TheVariants as Fs
 use Rattle.semantics.specs.Memory.{Cell, tagged}
-use Rattle.semantics.specs.Finding.{object, find_of, eval_of}
+use Rattle.semantics.specs.Finding.{object, find_of, eval_of, Found}
 use Rattle.semantics.specs.Stepping.{State}
 use Rattle.semantics.specs.Running.{program_of, ran_of, result_of, store_after, output_after}
 use Rattle.semantics.proofs.Opened.{rows, shapes, sizes, integers, operators, run}
@@ -38,51 +35,51 @@ minus n = Vs.Int (neg_ℤ (pos n))
 
 -- 1. "-5 DIV 3 = -2, MOD 1; 5 by 3: 1, 2."
 pub case_1 :
-    (dyadic_of 4 (minus 5) (int 3) ≡ As.Val (minus 2))
-    × (dyadic_of 5 (minus 5) (int 3) ≡ As.Val (int 1))
-    × (dyadic_of 4 (int 5) (int 3) ≡ As.Val (int 1))
-    × (dyadic_of 5 (int 5) (int 3) ≡ As.Val (int 2))
+    (dyadic_of 4 (minus 5) (int 3) ≡ Ok (minus 2))
+    × (dyadic_of 5 (minus 5) (int 3) ≡ Ok (int 1))
+    × (dyadic_of 4 (int 5) (int 3) ≡ Ok (int 1))
+    × (dyadic_of 5 (int 5) (int 3) ≡ Ok (int 2))
 unfolding rows integers operators
 case_1 = (refl, refl, refl, refl)
 
 -- 2. "-(-2147483648): trap 4; that DIV 1: itself."
 pub case_2 :
-    (monadic_of 1 (minus 2147483648) ≡ As.Trap Ts.Overflow)
+    (monadic_of 1 (minus 2147483648) ≡ Err (St.Trap Ts.Overflow))
     × (trap_number Ts.Overflow ≡ 4)
-    × (dyadic_of 4 (minus 2147483648) (int 1) ≡ As.Val (minus 2147483648))
+    × (dyadic_of 4 (minus 2147483648) (int 1) ≡ Ok (minus 2147483648))
 unfolding rows integers operators
 case_2 = (refl, refl, refl)
 
 -- 3. "7 DIV 0: trap 5; 7 DIV -1 = -7."
 pub case_3 :
-    (dyadic_of 4 (int 7) (int 0) ≡ As.Trap Ts.Divisor)
+    (dyadic_of 4 (int 7) (int 0) ≡ Err (St.Trap Ts.Divisor))
     × (trap_number Ts.Divisor ≡ 5)
-    × (dyadic_of 4 (int 7) (minus 1) ≡ As.Val (minus 7))
+    × (dyadic_of 4 (int 7) (minus 1) ≡ Ok (minus 7))
 unfolding rows integers operators
 case_3 = (refl, refl, refl)
 
 -- "-2147483648 DIV -1 gives trap 4, and its MOD is 0."
 pub case_overflow :
-    (dyadic_of 4 (minus 2147483648) (minus 1) ≡ As.Trap Ts.Overflow)
+    (dyadic_of 4 (minus 2147483648) (minus 1) ≡ Err (St.Trap Ts.Overflow))
     × (trap_number Ts.Overflow ≡ 4)
-    × (dyadic_of 5 (minus 2147483648) (minus 1) ≡ As.Val (int 0))
+    × (dyadic_of 5 (minus 2147483648) (minus 1) ≡ Ok (int 0))
 unfolding rows integers operators
 case_overflow = (refl, refl, refl)
 
 -- 4. "0..3 is 15, 3..0 is 0, 31..31 is 2147483648, 0..32 trap 6."
 pub case_4 :
-    (dyadic_of 16 (int 0) (int 3) ≡ As.Val (Vs.Set 15))
-    × (dyadic_of 16 (int 3) (int 0) ≡ As.Val (Vs.Set 0))
-    × (dyadic_of 16 (int 31) (int 31) ≡ As.Val (Vs.Set 2147483648))
-    × (dyadic_of 16 (int 0) (int 32) ≡ As.Trap Ts.Bound)
+    (dyadic_of 16 (int 0) (int 3) ≡ Ok (Vs.Set 15))
+    × (dyadic_of 16 (int 3) (int 0) ≡ Ok (Vs.Set 0))
+    × (dyadic_of 16 (int 31) (int 31) ≡ Ok (Vs.Set 2147483648))
+    × (dyadic_of 16 (int 0) (int 32) ≡ Err (St.Trap Ts.Bound))
     × (trap_number Ts.Bound ≡ 6)
 unfolding rows integers operators
 case_4 = (refl, refl, refl, refl, refl)
 
 -- 5. "-{} is 4294967295; 32 IN it: trap 6."
 pub case_5 :
-    (monadic_of 1 (Vs.Set 0) ≡ As.Val (Vs.Set 4294967295))
-    × (dyadic_of 15 (int 32) (Vs.Set 4294967295) ≡ As.Trap Ts.Bound)
+    (monadic_of 1 (Vs.Set 0) ≡ Ok (Vs.Set 4294967295))
+    × (dyadic_of 15 (int 32) (Vs.Set 4294967295) ≡ Err (St.Trap Ts.Bound))
     × (trap_number Ts.Bound ≡ 6)
 unfolding rows integers operators
 case_5 = (refl, refl, refl)
@@ -131,8 +128,8 @@ skipping = joined (
 -- 6. "FALSE & (7 DIV 0 = 1): FALSE." The right operand by itself traps; the program that asks both finishes.
 pub case_6 :
     (check_of skipping ≡ Ok tt)
-    × (value_after skipping 0 5 ≡ As.Trap Ts.Divisor)
-    × (value_after skipping 0 6 ≡ As.Val (Vs.Bool false))
+    × (value_after skipping 0 5 ≡ Err (St.Trap Ts.Divisor))
+    × (value_after skipping 0 6 ≡ Ok (Vs.Bool false))
     × (result_of skipping [] (zeros 32) [] 100 ≡ results 0 0 1 0 0 1 2 0 0 0 3 3)
 unfolding run
 case_6 = (refl, refl, refl, refl)
@@ -194,7 +191,7 @@ changing = joined (
 -- assignment in row 3. The test is node 2, asked in the state after the call.
 pub case_8 :
     (check_of changing ≡ Ok tt)
-    × (value_after changing 1 2 ≡ As.Val (Vs.Bool true))
+    × (value_after changing 1 2 ≡ Ok (Vs.Bool true))
     × (result_of changing [] (zeros 32) [] 100 ≡ results 0 0 2 3 0 3 3 0 0 6 11 11)
 unfolding run
 case_8 = (refl, refl, refl)
@@ -231,10 +228,10 @@ pub case_9 :
     let at_1 = indexing 65535 65535 in
     (found_after at3 0 2 ≡ object 3 1)
     × (result_of at3 [] (zeros 32) (zeros 1) 100 ≡ results 0 0 1 0 0 1 2 0 1 4 7 7)
-    × (found_after at4 0 2 ≡ Fs.Trap Ts.Index)
+    × (found_after at4 0 2 ≡ Err (St.Trap Ts.Index))
     × (result_of at4 [] (zeros 32) (zeros 1) 100 ≡ results 0 0 2 1 0 0 1 0 0 4 7 7)
-    × (value_after at_1 0 1 ≡ As.Val (minus 1))
-    × (found_after at_1 0 2 ≡ Fs.Trap Ts.Index)
+    × (value_after at_1 0 1 ≡ Ok (minus 1))
+    × (found_after at_1 0 2 ≡ Err (St.Trap Ts.Index))
     × (result_of at_1 [] (zeros 32) (zeros 1) 100 ≡ results 0 0 2 1 0 0 1 0 0 4 7 7)
 unfolding run
 case_9 = (refl, refl, refl, refl, refl, refl, refl)

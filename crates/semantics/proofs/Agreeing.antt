@@ -13,22 +13,18 @@ use Rattle.prelude.proofs.Parts.{take_map, map_append}
 use Rattle.image.specs.declared.Row.{Row}
 use Rattle.image.specs.Rows.{row_at}
 use Rattle.shapes.specs.Forms.{kind_in}
-use Rattle.values.specs.Values.{bind}
+use Rattle.values.specs.Values.{bind, Answer}
 use Rattle.values.specs.declared.Value.{Value}
-use Rattle.values.specs.declared.Answer.{Answer}
-use Rattle.values.specs.declared.Answer.TheVariants as As
+use Rattle.values.specs.declared.Stop.TheVariants as St
 use Rattle.operators.specs.Operators.{applied_to}
 use Rattle.semantics.specs.declared.Place.{Place}
-use Rattle.semantics.specs.declared.Found.{Found}
-use Rattle.semantics.specs.declared.Found.TheVariants as Fs
-use Rattle.semantics.specs.declared.Mark.{Mark}
-use Rattle.semantics.specs.declared.Mark.TheVariants.{Number, Nothing}
-use Rattle.semantics.specs.Memory.{ADDRESS, TYPE, Cell, tagged, bare, cell_at}
+use Rattle.semantics.specs.Memory.{ADDRESS, TYPE, Cell, tagged, bare, cell_at, Mark}
 use Rattle.semantics.specs.Memory.{value_at, mark_at, part_at, overwrite}
 use Rattle.semantics.specs.Layout.{Program, place_of}
 use Rattle.semantics.specs.Finding.{reach, content, index, with_mark, parameter_place, variable_place, array_place}
-use Rattle.semantics.specs.Finding.{Meaning, no_meaning, expression, designator, meaning_by}
+use Rattle.semantics.specs.Finding.{Meaning, no_meaning, expression, designator, meaning_by, Found}
 use Rattle.semantics.specs.Finding.{meaning_of, find_of, eval_of}
+use Rattle.std.specs.Prelude.{Ok, Err, Some, None}
 
 -- ---- agreement
 
@@ -38,13 +34,13 @@ pub data Agrees {X : Type 0} (none : X) : X → X → Type 0 where
   same : {x : X} → Agrees none x x
 
 abbrev pub Answers : Answer → Answer → Type 0
-Answers = Agrees As.Stuck
+Answers = Agrees (Err St.Stuck)
 
 abbrev pub Founds : Found → Found → Type 0
-Founds = Agrees Fs.Stuck
+Founds = Agrees (Err St.Stuck)
 
 abbrev pub Marks : Mark → Mark → Type 0
-Marks = Agrees Nothing
+Marks = Agrees None
 
 -- what a node means, place and value
 pub record Meanings (x y : Meaning) : Type 0 where
@@ -69,25 +65,25 @@ pub agrees_bind : {x y : Answer} (k l : Value → Answer) → Answers x y → ((
     → Answers (bind x k) (bind y l)
 unfolding bind
 agrees_bind k l lost f = lost
-agrees_bind k l (same {x = As.Val v}) f = f v
-agrees_bind k l (same {x = As.Trap t}) f = same
-agrees_bind k l (same {x = As.Stuck}) f = lost
+agrees_bind k l (same {x = Ok v}) f = f v
+agrees_bind k l (same {x = Err (St.Trap t)}) f = same
+agrees_bind k l (same {x = Err St.Stuck}) f = lost
 
 pub agrees_reach : {x y : Found} (k l : Place → Found) → Founds x y → ((p : Place) → Founds (k p) (l p))
     → Founds (reach x k) (reach y l)
 unfolding reach
 agrees_reach k l lost f = lost
-agrees_reach k l (same {x = Fs.At p}) f = f p
-agrees_reach k l (same {x = Fs.Trap t}) f = same
-agrees_reach k l (same {x = Fs.Stuck}) f = lost
+agrees_reach k l (same {x = Ok p}) f = f p
+agrees_reach k l (same {x = Err (St.Trap t)}) f = same
+agrees_reach k l (same {x = Err St.Stuck}) f = lost
 
 pub agrees_content : {x y : Found} (k l : Place → Answer) → Founds x y → ((p : Place) → Answers (k p) (l p))
     → Answers (content x k) (content y l)
 unfolding content
 agrees_content k l lost f = lost
-agrees_content k l (same {x = Fs.At p}) f = f p
-agrees_content k l (same {x = Fs.Trap t}) f = same
-agrees_content k l (same {x = Fs.Stuck}) f = lost
+agrees_content k l (same {x = Ok p}) f = f p
+agrees_content k l (same {x = Err (St.Trap t)}) f = same
+agrees_content k l (same {x = Err St.Stuck}) f = lost
 
 pub agrees_index : {x y : Answer} (k : ℤ → Found) → Answers x y → Founds (index x k) (index y k)
 unfolding index
@@ -98,8 +94,8 @@ pub agrees_mark : {x y : Mark} (k l : ℕ → Found) → Marks x y → ((n : ℕ
     → Founds (with_mark x k) (with_mark y l)
 unfolding with_mark
 agrees_mark k l lost f = lost
-agrees_mark k l (same {x = Number n}) f = f n
-agrees_mark k l (same {x = Nothing}) f = lost
+agrees_mark k l (same {x = Some n}) f = f n
+agrees_mark k l (same {x = None}) f = lost
 
 -- the right operand may be lost where the left one decides
 pub agrees_applied : (op : ℕ) (v : Value) {x y : Answer} → Answers x y → Answers (applied_to op v x) (applied_to op v y)

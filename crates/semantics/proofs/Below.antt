@@ -11,11 +11,10 @@ use Rattle.prelude.specs.Choice.{choose}
 use Rattle.prelude.proofs.Rec.{rec_rel}
 use Rattle.image.specs.declared.Row.{Row}
 use Rattle.image.specs.Rows.{row_at}
-use Rattle.semantics.specs.declared.Found.{Found}
 use Rattle.semantics.specs.Memory.{Memory, cell_at, value_at, mark_at}
 use Rattle.semantics.specs.Layout.{Program}
 use Rattle.semantics.specs.Finding.{parameter_place, variable_place, Meaning, no_meaning, designator, meaning_by, meaning_of}
-use Rattle.semantics.specs.Finding.{find_of, eval_of}
+use Rattle.semantics.specs.Finding.{find_of, eval_of, Found}
 
 module _ {X : Type 0} (m : Memory X) (g : Program) (base top : ℕ) (cells others : List X)
     (same : (a : ℕ) → a < top → cell_at m others a ≡ cell_at m cells a) where

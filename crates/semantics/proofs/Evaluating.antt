@@ -1,7 +1,7 @@
 -- Finding and evaluating from a sound state: an object of the node's type, a value of its kind, or a trap; and what
 -- cells below top read as.
 use Rattle.relations.specs.Fields.{field_at}
-use Rattle.std.specs.Prelude.{Option, Some}
+use Rattle.std.specs.Prelude.{Option, Some, Ok, Err}
 use mathlib.Core.Path.{◌≡◌, refl, sym, ◌∙◌, subst}
 use mathlib.Core.Bool.{true}
 use mathlib.Core.List.{[], List, ◌∷◌}
@@ -27,12 +27,11 @@ use Rattle.types.proofs.Accepted.{scalar_row}
 use Rattle.relations.specs.Extends.{extends}
 use Rattle.relations.specs.Fields.{field_of}
 use Rattle.relations.proofs.Extension.{extends_refl, extends_trans}
-use Rattle.values.specs.Values.{BOOLEAN, INTEGER, Scalar, Scalar.a_boolean, Scalar.an_integer, kind_of, InRange}
+use Rattle.values.specs.Values.{BOOLEAN, INTEGER, Scalar, Scalar.a_boolean, Scalar.an_integer, kind_of, InRange, Answer}
 use Rattle.values.specs.Values.{Gives, Gives.value, Gives.trapped, bind, cell_of}
 use Rattle.values.specs.declared.Value.{Value}
 use Rattle.values.specs.declared.Trap.{Trap}
-use Rattle.values.specs.declared.Answer.{Answer}
-use Rattle.values.specs.declared.Answer.TheVariants as As
+use Rattle.values.specs.declared.Stop.TheVariants as St
 use Rattle.values.proofs.Cells.{cell_held}
 use Rattle.values.proofs.Giving.{gives_boolean}
 use Rattle.values.proofs.Ranges.{constant_typed}
@@ -57,12 +56,9 @@ use Rattle.owners.proofs.Accepted.{own_variable_lem, variable_own, field_own, el
 use Rattle.owners.proofs.Accepted.{monadic_own, test_own, argument_own}
 use Rattle.checker.proofs.Accepted.{AcceptedTables}
 use Rattle.semantics.specs.declared.Place.{Place}
-use Rattle.semantics.specs.declared.Found.{Found}
-use Rattle.semantics.specs.declared.Found.TheVariants as Fs
-use Rattle.semantics.specs.declared.Mark.TheVariants.{Number}
 use Rattle.semantics.specs.Memory.{ADDRESS, TYPE, Cell, tagged, mark_of, cell_at, value_at, mark_at}
 use Rattle.semantics.specs.Layout.{Program, place_of}
-use Rattle.semantics.specs.Finding.{reach, content, index, with_mark, object, parameter_place, variable_place}
+use Rattle.semantics.specs.Finding.{reach, content, index, with_mark, object, parameter_place, variable_place, Found}
 use Rattle.semantics.specs.Finding.{field_place, element_place, array_place, guard_place, test_of, Meaning}
 use Rattle.semantics.specs.Finding.{no_meaning, designator, meaning_by, meaning_of, find_of, eval_of}
 use Rattle.semantics.specs.Stepping.{State}
@@ -79,8 +75,8 @@ use Rattle.semantics.proofs.Kinship.{extends_other, extension_field, global_low}
 -- an object of type x was found, or a trap ends the step
 pub data FoundOk (g : Program) (fs : List Frame) (x : ℕ) : Found → Type 0 where
   found_ok : {place : Place} → place.declared ≡ x → extends g.types place.dynamic place.declared ≡ true
-      → Object g fs place.address place.dynamic → FoundOk g fs x (Fs.At place)
-  found_trap : {t : Trap} → FoundOk g fs x (Fs.Trap t)
+      → Object g fs place.address place.dynamic → FoundOk g fs x (Ok place)
+  found_trap : {t : Trap} → FoundOk g fs x (Err (St.Trap t))
 
 -- node row r is a designator, or an argument that holds one
 pub data Designates (g : Program) (r : ℕ) : Type 0 where
@@ -132,14 +128,14 @@ cell_there top cells {a = a} h p low =
     rw (← cell_below cells d a top low) (matched_at d h p)
 
 -- a link, an address or a type reads as its number
-marked_number : (c : Cell) (k n : ℕ) → n < 65536 → Fits c (exactly k n) → tagged.marked k c ≡ Number n
+marked_number : (c : Cell) (k n : ℕ) → n < 65536 → Fits c (exactly k n) → tagged.marked k c ≡ Some n
 unfolding tagged mark_of
 marked_number c k n small (fits_exactly kind e) =
     choose_yes _ _ _ (eq-eqb k c.kind (sym kind)) ∙ rw e (choose_yes _ _ _ (lt-ltb n _ small))
 
 -- such a cell below top
 pub mark_there : (top : ℕ) (cells : List Cell) {w ws : List Want} {k n a : ℕ} → Matched Fits (take top cells) w
-    → Part w a (exactly k n ∷ ws) → a < top → n < 65536 → mark_at tagged top cells k a ≡ Number n
+    → Part w a (exactly k n ∷ ws) → a < top → n < 65536 → mark_at tagged top cells k a ≡ Some n
 unfolding mark_at
 mark_there top cells {k = k} {n} {a} h p low small =
     choose_yes _ _ _ (lt-ltb a top low)
@@ -228,7 +224,7 @@ module _ (g : Program)
   unfolding tagged
   held_value x c (fits_value {v = v} kind e) =
       let held = cell_held x c.number e in
-      rw (choose_yes _ (cell_of x c.number) As.Stuck (eq-eqb x c.kind (sym kind)), e)
+      rw (choose_yes _ (cell_of x c.number) (Err St.Stuck) (eq-eqb x c.kind (sym kind)), e)
       (value held.kind held.range)
 
   -- ---- an object's value
@@ -245,7 +241,7 @@ module _ (g : Program)
       let c : Cell = cell_at tagged cells place.address in
       let gives = held_value (kind_in g.types place.declared) c
       (cell_there top cells sound.holding one inside) in
-      rw (choose_yes _ (tagged.held (kind_in g.types place.declared) c) As.Stuck
+      rw (choose_yes _ (tagged.held (kind_in g.types place.declared) c) (Err St.Stuck)
       (lt-ltb place.address top inside))
       (rw declared (rw declared at gives))
 
@@ -396,7 +392,7 @@ module _ (g : Program)
       reach_ok (λ whole. array_place g whole answer) is (λ place declared extended thing.
       let here : (row_at g.types place.declared).kind ≡ 3 = rw declared array in
       rw (
-        choose_yes _ (index answer (element_place g place (row_at g.types place.declared))) Fs.Stuck
+        choose_yes _ (index answer (element_place g place (row_at g.types place.declared))) (Err St.Stuck)
             (eq-eqb _ 3 here),
         ← declared,
       )
@@ -420,11 +416,11 @@ module _ (g : Program)
 
   expression_ok : (r x : ℕ) {answer : Answer} → (is_designator g.nodes r ≡ true → ⊥)
       → ((row_at g.nodes r).kind ≡ 8 → ⊥) → Scalar x → Gives x answer
-      → MeaningOk g frames r x (record { place = Fs.Stuck; value = answer })
+      → MeaningOk g frames r x (record { place = Err St.Stuck; value = answer })
   expression_ok r x plain other scalar gives =
       record { place = λ d. no d; value = λ h. rw (kind_row g ok scalar) gives }
     where
-      no : Designates g r → FoundOk g frames x Fs.Stuck
+      no : Designates g r → FoundOk g frames x (Err St.Stuck)
       no (itself e) = absurd (plain e)
       no (as_argument k e) = absurd (other k)
 

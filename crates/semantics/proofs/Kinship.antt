@@ -1,6 +1,6 @@
 -- Laws of extension, of guards, and of the globals that come first.
 use Rattle.relations.specs.Fields.{field_at}
-use Rattle.std.specs.Prelude.{Some}
+use Rattle.std.specs.Prelude.{Some, Ok, Err}
 use mathlib.Core.Path.{◌≡◌, refl}
 use mathlib.Core.Bool.{Bool, true, false}
 use mathlib.Core.List.{List}
@@ -23,11 +23,10 @@ use Rattle.relations.proofs.Fielding.{field_more}
 use Rattle.frames.specs.Variables.{is_global, globals_from, globals_of}
 use Rattle.frames.proofs.Accepted.{VariableRow}
 use Rattle.values.specs.declared.Trap.TheVariants as Ts
+use Rattle.values.specs.declared.Stop.TheVariants as St
 use Rattle.semantics.specs.declared.Place.{Place}
-use Rattle.semantics.specs.declared.Found.{Found}
-use Rattle.semantics.specs.declared.Found.TheVariants as Fs
 use Rattle.semantics.specs.Layout.{Program}
-use Rattle.semantics.specs.Finding.{guard_place}
+use Rattle.semantics.specs.Finding.{guard_place, Found}
 
 -- ---- extension
 
@@ -71,15 +70,15 @@ module _ (t f : List ℕ) (kept : TypesKept t f) where
 -- an object passes a guard to type b just where its dynamic type extends b
 module _ (g : Program) (b : ℕ) (place : Place) where
   abbrev guarded : Found
-  guarded = Fs.At (record { address = place.address; declared = b; dynamic = place.dynamic })
+  guarded = Ok (record { address = place.address; declared = b; dynamic = place.dynamic })
 
   pub guard_passes : extends g.types place.dynamic b ≡ true → guard_place g b place ≡ guarded
   unfolding guard_place
-  guard_passes e = choose_yes (extends g.types place.dynamic b) guarded (Fs.Trap Ts.Guard) e
+  guard_passes e = choose_yes (extends g.types place.dynamic b) guarded (Err (St.Trap Ts.Guard)) e
 
-  pub guard_traps : extends g.types place.dynamic b ≡ false → guard_place g b place ≡ Fs.Trap Ts.Guard
+  pub guard_traps : extends g.types place.dynamic b ≡ false → guard_place g b place ≡ Err (St.Trap Ts.Guard)
   unfolding guard_place
-  guard_traps e = choose_no (extends g.types place.dynamic b) guarded (Fs.Trap Ts.Guard) e
+  guard_traps e = choose_no (extends g.types place.dynamic b) guarded (Err (St.Trap Ts.Guard)) e
 
 -- ---- globals
 

@@ -14,22 +14,19 @@ use Rattle.prelude.specs.Choice.{choose}
 use Rattle.image.specs.declared.Row.{Row}
 use Rattle.values.specs.declared.Value.{Value}
 use Rattle.values.specs.declared.Trap.{Trap}
-use Rattle.values.specs.declared.Answer.{Answer}
-use Rattle.values.specs.declared.Answer.TheVariants as As
+use Rattle.values.specs.declared.Stop.TheVariants as St
 use Rattle.values.proofs.Cases.{boolean_alike, integer_alike}
-use Rattle.semantics.specs.declared.Found.{Found}
-use Rattle.semantics.specs.declared.Found.TheVariants as Fs
 use Rattle.semantics.specs.declared.Place.{Place}
-use Rattle.semantics.specs.declared.Mark.{Mark}
-use Rattle.semantics.specs.declared.Mark.TheVariants.{Number, Nothing}
-use Rattle.semantics.specs.Memory.{LINK, Memory, cell_at, mark_at, part_at, overwrite}
+use Rattle.semantics.specs.Memory.{LINK, Memory, cell_at, mark_at, part_at, overwrite, Mark}
 use Rattle.semantics.specs.Layout.{Program}
-use Rattle.semantics.specs.Finding.{find_of, eval_of}
+use Rattle.semantics.specs.Finding.{find_of, eval_of, Found}
 use Rattle.semantics.specs.Stepping.{State, Next, Next.goes, Next.finished, Next.trapped, Next.stuck, on_place, on_value}
 use Rattle.semantics.specs.Stepping.{on_mark, go_to, following, with_cells, written, on_part}
 use Rattle.semantics.specs.Stepping.{after_read, copied, assigned, jumped, returned, received, sent, halted}
 use Rattle.semantics.proofs.Holding.{put_length}
 use Rattle.semantics.proofs.Below.{find_below, eval_below, mark_below}
+use Rattle.std.specs.Prelude.{Ok, Err, Some, None}
+use Rattle.values.specs.Values.{Answer}
 
 -- ---- cells
 
@@ -83,22 +80,22 @@ module _ {X : Type 0} (rest : List X) (n : ℕ) where
     place_longer : (x : Found) (k k' : Place → Next X) → ((p : Place) → Longer rest n (k p) (k' p))
         → Longer rest n (on_place s x k) (on_place (longer rest s) x k')
     unfolding on_place
-    place_longer (Fs.At p) k k' h = h p
-    place_longer (Fs.Trap t) k k' h = longer_trap size refl
-    place_longer Fs.Stuck k k' h = longer_stuck size refl
+    place_longer (Ok p) k k' h = h p
+    place_longer (Err (St.Trap t)) k k' h = longer_trap size refl
+    place_longer (Err St.Stuck) k k' h = longer_stuck size refl
 
     value_longer : (x : Answer) (k k' : Value → Next X) → ((v : Value) → Longer rest n (k v) (k' v))
         → Longer rest n (on_value s x k) (on_value (longer rest s) x k')
     unfolding on_value
-    value_longer (As.Val v) k k' h = h v
-    value_longer (As.Trap t) k k' h = longer_trap size refl
-    value_longer As.Stuck k k' h = longer_stuck size refl
+    value_longer (Ok v) k k' h = h v
+    value_longer (Err (St.Trap t)) k k' h = longer_trap size refl
+    value_longer (Err St.Stuck) k k' h = longer_stuck size refl
 
     number_longer : (x : Mark) (k k' : ℕ → Next X) → ((r : ℕ) → Longer rest n (k r) (k' r))
         → Longer rest n (on_mark s x k) (on_mark (longer rest s) x k')
     unfolding on_mark
-    number_longer (Number r) k k' h = h r
-    number_longer Nothing k k' h = longer_stuck size refl
+    number_longer (Some r) k k' h = h r
+    number_longer None k k' h = longer_stuck size refl
 
 -- ---- the statements, from a state whose newest frame lies in the shorter store
 
@@ -133,8 +130,8 @@ module _ {X : Type 0} (m : Memory X) (g : Program) (rest : List X) (n : ℕ) (s 
       (go (ltb a s.at.top) refl)
     where
       go : (b : Bool) → ltb a s.at.top ≡ b
-          → Longer rest n (on_mark s (choose b (m.marked LINK (cell_at m s.cells a)) Nothing) k)
-          (on_mark (longer rest s) (choose b (m.marked LINK (cell_at m s.cells a)) Nothing) k')
+          → Longer rest n (on_mark s (choose b (m.marked LINK (cell_at m s.cells a)) None) k)
+          (on_mark (longer rest s) (choose b (m.marked LINK (cell_at m s.cells a)) None) k')
       go true low = number_longer rest n s size _ k k' (λ r. h r (ltb-true _ _ low))
       go false low = unfold on_mark in longer_stuck size refl
 

@@ -19,10 +19,9 @@ use Rattle.shapes.specs.Sizes.{size_of}
 use Rattle.relations.specs.Extends.{extends}
 use Rattle.relations.proofs.Extension.{extends_refl}
 use Rattle.values.specs.Values.{BOOLEAN, INTEGER, Scalar, Scalar.a_boolean, Scalar.an_integer, kind_of, is_integer}
-use Rattle.values.specs.Values.{InRange, InRange.integer, Gives, Gives.value, Gives.trapped as gives_trap}
+use Rattle.values.specs.Values.{InRange, InRange.integer, Gives, Gives.value, Gives.trapped as gives_trap, Answer}
 use Rattle.values.specs.declared.Value.{Value}
 use Rattle.values.specs.declared.Value.TheVariants as Vs
-use Rattle.values.specs.declared.Answer.{Answer}
 use Rattle.values.proofs.Cells.{cell_back}
 use Rattle.values.proofs.Cases.{boolean_only, integer_only}
 use Rattle.values.proofs.Scalars.{below_scalar}
@@ -44,12 +43,9 @@ use Rattle.statements.proofs.Accepted.{JumpRow, GotoRow, ReadRow, ValueRow, Targ
 use Rattle.rules.proofs.Accepted.{assign_ruled, jump_ruled, read_ruled, write_ruled, halt_ruled}
 use Rattle.checker.proofs.Accepted.{AcceptedTables}
 use Rattle.semantics.specs.declared.Place.{Place}
-use Rattle.semantics.specs.declared.Found.{Found}
-use Rattle.semantics.specs.declared.Mark.{Mark}
-use Rattle.semantics.specs.declared.Mark.TheVariants.{Number}
-use Rattle.semantics.specs.Memory.{LINK, Cell, tagged, mark_at, part_at, overwrite}
+use Rattle.semantics.specs.Memory.{LINK, Cell, tagged, mark_at, part_at, overwrite, Mark}
 use Rattle.semantics.specs.Layout.{Program}
-use Rattle.semantics.specs.Finding.{find_of, eval_of}
+use Rattle.semantics.specs.Finding.{find_of, eval_of, Found}
 use Rattle.semantics.specs.Stepping.{State, Next, Next.goes, on_place, on_value, on_mark}
 use Rattle.semantics.specs.Stepping.{go_to, following, with_cells, written, on_part, copied, assigned, jumped}
 use Rattle.semantics.specs.Stepping.{returned, input_at, after_read, received, sent, halted, perform, step_of}
@@ -103,7 +99,7 @@ module _ (g : Program) (s : State Cell) where
     on_value_ok k (value {v = v} kind range) f = f v kind range
     on_value_ok k gives_trap f = ok_trapped same
 
-  pub on_mark_ok : {m : Mark} {n : ℕ} (k : ℕ → Next Cell) → m ≡ Number n → NextOk g s (k n) → NextOk g s (on_mark s m k)
+  pub on_mark_ok : {m : Mark} {n : ℕ} (k : ℕ → Next Cell) → m ≡ Some n → NextOk g s (k n) → NextOk g s (on_mark s m k)
   unfolding on_mark
   on_mark_ok k e h = rw e h
 

@@ -18,23 +18,20 @@ use Rattle.frames.specs.Procedures.{first_variable}
 use Rattle.values.specs.declared.Value.{Value}
 use Rattle.values.specs.declared.Trap.{Trap}
 use Rattle.values.specs.declared.Trap.TheVariants as Ts
-use Rattle.values.specs.declared.Answer.{Answer}
-use Rattle.values.specs.declared.Answer.TheVariants as As
-use Rattle.values.specs.Values.{trap_number}
+use Rattle.values.specs.Values.{trap_number, Answer}
+use Rattle.values.specs.declared.Stop.TheVariants as St
 use Rattle.values.proofs.Ranges.{halt_number}
 use Rattle.values.proofs.Cases.{boolean_has, integer_has}
 use Rattle.semantics.specs.declared.Place.{Place}
-use Rattle.semantics.specs.declared.Found.{Found}
-use Rattle.semantics.specs.declared.Found.TheVariants as Fs
-use Rattle.semantics.specs.declared.Mark.{Mark}
-use Rattle.semantics.specs.declared.Mark.TheVariants.{Number, Nothing}
-use Rattle.semantics.specs.Memory.{LINK, Memory, cell_at, mark_at}
+use Rattle.semantics.specs.Memory.{LINK, Memory, cell_at, mark_at, Mark}
 use Rattle.semantics.specs.Layout.{Program, new_top}
 use Rattle.semantics.specs.Stepping.{State, Next, Next.goes, Next.finished, Next.trapped, Next.stuck}
 use Rattle.semantics.specs.Stepping.{on_place, on_value, on_mark, go_to, following, with_cells}
 use Rattle.semantics.specs.Stepping.{written, on_part, after_read, copied, assigned, argument_cells, passed, entered}
 use Rattle.semantics.specs.Stepping.{called, jumped, returned, received, sent, halted, perform, step_of}
 use Rattle.semantics.specs.Running.{asked_by, raised}
+use Rattle.std.specs.Prelude.{Ok, Err, Some, None}
+use Rattle.semantics.specs.Finding.{Found}
 
 -- "output places from written on keep their numbers", and a count within its lent list stays within it: from a state to
 -- a later one
@@ -99,21 +96,21 @@ module _ {X : Type 0} (input : List ℤ) where
     place_reports : (found : Found) (k : Place → Next X) → ((place : Place) → Reports asked s (k place))
         → Reports asked s (on_place s' found k)
     unfolding on_place
-    place_reports (Fs.At place) k f = f place
-    place_reports (Fs.Trap t) k f = reports_trapped kept (no_number t)
-    place_reports Fs.Stuck k f = reports_stuck kept
+    place_reports (Ok place) k f = f place
+    place_reports (Err (St.Trap t)) k f = reports_trapped kept (no_number t)
+    place_reports (Err St.Stuck) k f = reports_stuck kept
 
     value_reports : (answer : Answer) (k : Value → Next X) → ((v : Value) → Reports asked s (k v))
         → Reports asked s (on_value s' answer k)
     unfolding on_value
-    value_reports (As.Val v) k f = f v
-    value_reports (As.Trap t) k f = reports_trapped kept (no_number t)
-    value_reports As.Stuck k f = reports_stuck kept
+    value_reports (Ok v) k f = f v
+    value_reports (Err (St.Trap t)) k f = reports_trapped kept (no_number t)
+    value_reports (Err St.Stuck) k f = reports_stuck kept
 
     mark_reports : (mark : Mark) (k : ℕ → Next X) → ((n : ℕ) → Reports asked s (k n)) → Reports asked s (on_mark s' mark k)
     unfolding on_mark
-    mark_reports (Number n) k f = f n
-    mark_reports Nothing k f = reports_stuck kept
+    mark_reports (Some n) k f = f n
+    mark_reports None k f = reports_stuck kept
 
     part_reports : (a n : ℕ) (k : List X → Next X) → ((part : List X) → Reports asked s (k part))
         → Reports asked s (on_part s' a n k)
@@ -202,7 +199,7 @@ module _ {X : Type 0} (input : List ℤ) where
     link_reports a k f = go (ltb a s.at.top) refl
       where
         go : (b : Bool) → ltb a s.at.top ≡ b
-            → Reports 0 s (on_mark s (choose b (m.marked LINK (cell_at m s.cells a)) Nothing) k)
+            → Reports 0 s (on_mark s (choose b (m.marked LINK (cell_at m s.cells a)) None) k)
         go true low = mark_reports here _ k (λ n. f n (ltb-true _ _ low))
         go false low = unfold on_mark in reports_stuck here
 

@@ -9,17 +9,12 @@ use Rattle.image.specs.declared.Row.{Row}
 use Rattle.image.specs.Rows.{row_at}
 use Rattle.values.specs.declared.Value.{Value}
 use Rattle.values.specs.declared.Trap.{Trap}
-use Rattle.values.specs.declared.Answer.{Answer}
-use Rattle.values.specs.declared.Answer.TheVariants as As
+use Rattle.values.specs.declared.Stop.TheVariants as St
 use Rattle.values.proofs.Cases.{boolean_alike, integer_alike}
 use Rattle.semantics.specs.declared.Place.{Place}
-use Rattle.semantics.specs.declared.Found.{Found}
-use Rattle.semantics.specs.declared.Found.TheVariants as Fs
-use Rattle.semantics.specs.declared.Mark.{Mark}
-use Rattle.semantics.specs.declared.Mark.TheVariants.{Number, Nothing}
-use Rattle.semantics.specs.Memory.{LINK, ADDRESS, TYPE, Cell, tagged, bare, part_at, overwrite}
+use Rattle.semantics.specs.Memory.{LINK, ADDRESS, TYPE, Cell, tagged, bare, part_at, overwrite, Mark}
 use Rattle.semantics.specs.Layout.{Program, place_of}
-use Rattle.semantics.specs.Finding.{find_of, eval_of}
+use Rattle.semantics.specs.Finding.{find_of, eval_of, Found}
 use Rattle.semantics.specs.Stepping.{State, Next, Next.goes, Next.finished, Next.trapped, Next.stuck}
 use Rattle.semantics.specs.Stepping.{on_place, on_value, on_mark, go_to}
 use Rattle.semantics.specs.Stepping.{following, with_cells, written, on_part}
@@ -31,6 +26,8 @@ use Rattle.semantics.proofs.Agreeing.{Answers, Founds, Marks, lost, same, choose
 use Rattle.semantics.proofs.Agreeing.{numbers, part_numbers, overwrite_numbers}
 use Rattle.semantics.proofs.Agreeing.{put_number, mark_number_lem, blank_numbers, loose_numbers}
 use Rattle.semantics.proofs.Agreeing.{mark_agrees, find_agrees, eval_agrees}
+use Rattle.std.specs.Prelude.{Ok, Err, Some, None}
+use Rattle.values.specs.Values.{Answer}
 
 -- ---- states
 
@@ -53,25 +50,25 @@ module _ (s : State Cell) where
       → Follows (on_place s x k) (on_place (erase s) y l)
   unfolding on_place
   follows_place k l lost f = astray
-  follows_place k l (same {x = Fs.At p}) f = f p
-  follows_place k l (same {x = Fs.Trap t}) f = traps refl
-  follows_place k l (same {x = Fs.Stuck}) f = astray
+  follows_place k l (same {x = Ok p}) f = f p
+  follows_place k l (same {x = Err (St.Trap t)}) f = traps refl
+  follows_place k l (same {x = Err St.Stuck}) f = astray
 
   pub follows_value : {x y : Answer} (k : Value → Next Cell) (l : Value → Next ℤ) → Answers x y
       → ((v : Value) → Follows (k v) (l v))
       → Follows (on_value s x k) (on_value (erase s) y l)
   unfolding on_value
   follows_value k l lost f = astray
-  follows_value k l (same {x = As.Val v}) f = f v
-  follows_value k l (same {x = As.Trap t}) f = traps refl
-  follows_value k l (same {x = As.Stuck}) f = astray
+  follows_value k l (same {x = Ok v}) f = f v
+  follows_value k l (same {x = Err (St.Trap t)}) f = traps refl
+  follows_value k l (same {x = Err St.Stuck}) f = astray
 
   pub follows_mark : {x y : Mark} (k : ℕ → Next Cell) (l : ℕ → Next ℤ) → Marks x y → ((n : ℕ) → Follows (k n) (l n))
       → Follows (on_mark s x k) (on_mark (erase s) y l)
   unfolding on_mark
   follows_mark k l lost f = astray
-  follows_mark k l (same {x = Number n}) f = f n
-  follows_mark k l (same {x = Nothing}) f = astray
+  follows_mark k l (same {x = Some n}) f = f n
+  follows_mark k l (same {x = None}) f = astray
 
 -- ---- cells written and read
 

@@ -1,6 +1,6 @@
 -- Sound states of the tagged machine. The frames are ghost data: what they say is of the cells, by place.
 use Rattle.relations.specs.Fields.{field_at}
-use Rattle.std.specs.Prelude.{Some}
+use Rattle.std.specs.Prelude.{Some, Ok}
 use Rattle.std.specs.Prelude.{ℕ, ◌+◌, ◌*◌, ◌≤◌, ◌<◌, ◌≡◌, true, List, [], ◌∷◌, ◌++◌, map, pos, length, take}
 use Rattle.prelude.specs.Parts.{joined}
 use Rattle.image.specs.Rows.{row_at, rows_of}
@@ -13,7 +13,6 @@ use Rattle.names.specs.Names.{rows_from}
 use Rattle.places.specs.Places.{room_from, place_in}
 use Rattle.values.specs.Values.{cell_of}
 use Rattle.values.specs.declared.Value.{Value}
-use Rattle.values.specs.declared.Answer.TheVariants as As
 use Rattle.semantics.specs.Memory.{LINK, ADDRESS, TYPE, Cell}
 use Rattle.semantics.specs.Layout.{Program, kinds_from}
 use Rattle.semantics.specs.Stepping.{State}
@@ -27,7 +26,7 @@ pub data Want : Type 0 where
 
 -- "every variable cell has its layout's kind and range"
 pub data Fits : Cell → Want → Type 0 where
-  fits_value : {c : Cell} {k : ℕ} {v : Value} → c.kind ≡ k → cell_of k c.number ≡ As.Val v → Fits c (any_value k)
+  fits_value : {c : Cell} {k : ℕ} {v : Value} → c.kind ≡ k → cell_of k c.number ≡ Ok v → Fits c (any_value k)
   fits_exactly : {c : Cell} {k n : ℕ} → c.kind ≡ k → c.number ≡ pos n → Fits c (exactly k n)
 
 -- lists of one length, related place by place

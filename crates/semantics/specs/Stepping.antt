@@ -1,5 +1,6 @@
 -- One step: the eight statements.
 use Rattle.std.specs.Prelude.{ℕ, zero, suc, ◌+◌, Bool, not, List, [], ◌∷◌, map, ltb, leb, eqb, ℤ, pos, length, get_or, set}
+use Rattle.std.specs.Prelude.{Ok, Err, Some, None}
 use Rattle.prelude.specs.Choice.{choose, ◌also◌}
 use Rattle.image.specs.declared.Row.{Row}
 use Rattle.image.specs.Rows.{row_at}
@@ -8,22 +9,17 @@ use Rattle.shapes.specs.Sizes.{size_of}
 use Rattle.frames.specs.Procedures.{first_variable}
 use Rattle.statements.specs.Statements.{procedure_at}
 use Rattle.places.specs.Places.{room_from}
-use Rattle.values.specs.Values.{is_integer, as_boolean, as_integer}
+use Rattle.values.specs.Values.{is_integer, as_boolean, as_integer, Answer}
 use Rattle.values.specs.declared.Value.{Value}
 use Rattle.values.specs.declared.Value.TheVariants as Vs
 use Rattle.values.specs.declared.Trap.{Trap}
 use Rattle.values.specs.declared.Trap.TheVariants as Ts
-use Rattle.values.specs.declared.Answer.{Answer}
-use Rattle.values.specs.declared.Answer.TheVariants as As
+use Rattle.values.specs.declared.Stop.TheVariants as St
 use Rattle.semantics.specs.declared.Registers.{Registers}
 use Rattle.semantics.specs.declared.Place.{Place}
-use Rattle.semantics.specs.declared.Found.{Found}
-use Rattle.semantics.specs.declared.Found.TheVariants as Fs
-use Rattle.semantics.specs.declared.Mark.{Mark}
-use Rattle.semantics.specs.declared.Mark.TheVariants.{Number, Nothing}
-use Rattle.semantics.specs.Memory.{LINK, ADDRESS, TYPE, Memory, mark_at, part_at, overwrite}
+use Rattle.semantics.specs.Memory.{LINK, ADDRESS, TYPE, Memory, mark_at, part_at, overwrite, Mark}
 use Rattle.semantics.specs.Layout.{Program, place_of, new_top, kinds_from}
-use Rattle.semantics.specs.Finding.{find_of, eval_of}
+use Rattle.semantics.specs.Finding.{find_of, eval_of, Found}
 
 -- "State: cells below top, row, base, top, counts read, written, steps." The cells are the whole lent store's; the
 -- steps are counted by the run.
@@ -54,18 +50,18 @@ module _ {X : Type 0} where
   -- ---- "A trap in an operand ends the step with that trap."
 
   unfoldable pub on_place : State X → Found → (Place → Next X) → Next X
-  on_place s (Fs.At place) next = next place
-  on_place s (Fs.Trap t) next = trapped t (pos 0) s
-  on_place s Fs.Stuck next = stuck s
+  on_place s (Ok place) next = next place
+  on_place s (Err (St.Trap t)) next = trapped t (pos 0) s
+  on_place s (Err St.Stuck) next = stuck s
 
   unfoldable pub on_value : State X → Answer → (Value → Next X) → Next X
-  on_value s (As.Val v) next = next v
-  on_value s (As.Trap t) next = trapped t (pos 0) s
-  on_value s As.Stuck next = stuck s
+  on_value s (Ok v) next = next v
+  on_value s (Err (St.Trap t)) next = trapped t (pos 0) s
+  on_value s (Err St.Stuck) next = stuck s
 
   unfoldable pub on_mark : State X → Mark → (ℕ → Next X) → Next X
-  on_mark s (Number n) next = next n
-  on_mark s Nothing next = stuck s
+  on_mark s (Some n) next = next n
+  on_mark s None next = stuck s
 
   -- "the next row follows", or a jump's
   unfoldable pub go_to : State X → ℕ → State X

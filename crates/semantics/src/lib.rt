@@ -1,8 +1,6 @@
 // What the machine's definitions and its code share: numbers, places and answers.
 #![tactic(auto)]
 
-use values::Trap;
-
 // Where a run stands: the next statement, the newest frame and its end, and what was read and written.
 #[repr(C)]
 #[derive(Clone, Copy)]
@@ -20,21 +18,6 @@ pub struct Place {
     pub address: u32,
     pub declared: u16,
     pub dynamic: u16,
-}
-
-// What finding a designator gives.
-#[derive(Clone, Copy)]
-pub enum Found {
-    At(Place),
-    Trap(Trap),
-    Stuck,
-}
-
-// The number of a link, an address or a type.
-#[derive(Clone, Copy)]
-pub enum Mark {
-    Number(u16),
-    Nothing,
 }
 
 // The numbers of a run; `fault` is the row of refusal, `at` is where the run ended, `mark` how many cells it needed.

@@ -16,9 +16,9 @@ use Rattle.values.specs.Values.{BOOLEAN, SET, Gives}
 use Rattle.sets.specs.Sets.{is_element, contains_of, elements_of, range_of, complement_of}
 use Rattle.values.specs.Values.Gives.{trapped}
 use Rattle.values.specs.declared.Value.TheVariants as Vs
-use Rattle.values.specs.declared.Answer.TheVariants as As
 use Rattle.values.proofs.Numbers.{plain32, to_unsigned}
 use Rattle.values.proofs.Giving.{gives_boolean, gives_set, gives_one}
+use Rattle.std.specs.Prelude.{Ok}
 
 -- ---- a number from 0 to 31, by the test
 
@@ -64,6 +64,6 @@ range_gives x y =
     gives_one (is_element x also is_element y)
     (λ h. gives_set _ (elements_fit _ _ (element_below y (also_true (is_element x) (is_element y) h).1))) (λ h. trapped)
 
-pub complement_gives : (s : ℕ) → Gives SET (As.Val (Vs.Set (complement_of s)))
+pub complement_gives : (s : ℕ) → Gives SET (Ok (Vs.Set (complement_of s)))
 unfolding complement_of
 complement_gives s = gives_set (4294967295 - s) (omega arith)

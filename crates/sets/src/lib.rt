@@ -4,7 +4,7 @@
 ghost use Rattle.std.specs.Prelude.{◌≡◌, ◌<◌};
 ghost use Rattle.sets.specs.Sets.{is_element, contains_of, elements_of, range_of, complement_of};
 
-use values::{Answer, Trap, Value};
+use values::{Stop, Trap, Value};
 
 // Whether x is an element that a SET can have.
 fn is_element(x: i32) -> bool
@@ -14,15 +14,15 @@ fn is_element(x: i32) -> bool
 }
 
 // x IN s, or trap 6 where x is outside 0 to 31.
-pub fn contains(x: i32, s: u32) -> Answer
+pub fn contains(x: i32, s: u32) -> Result<Value, Stop>
     ensures { result ≡ contains_of x s }
 {
     if !is_element(x) {
-        return Answer::Trap(Trap::Bound);
+        return Err(Stop::Trap(Trap::Bound));
     }
     let i = x as u32;
     let member = (s >> i) % 2 == 1;
-    Answer::Val(Value::Bool(member))
+    Ok(Value::Bool(member))
 }
 
 // The elements a to b.
@@ -39,18 +39,18 @@ fn elements(a: u32, b: u32) -> u32
 }
 
 // The set a..b, or trap 6 where a bound is outside 0 to 31.
-pub fn range(x: i32, y: i32) -> Answer
+pub fn range(x: i32, y: i32) -> Result<Value, Stop>
     ensures { result ≡ range_of x y }
 {
     if !is_element(x) {
-        return Answer::Trap(Trap::Bound);
+        return Err(Stop::Trap(Trap::Bound));
     }
     if !is_element(y) {
-        return Answer::Trap(Trap::Bound);
+        return Err(Stop::Trap(Trap::Bound));
     }
     let a = x as u32;
     let b = y as u32;
-    Answer::Val(Value::Set(elements(a, b)))
+    Ok(Value::Set(elements(a, b)))
 }
 
 // The elements that s does not have.

@@ -17,24 +17,17 @@ use Rattle.prelude.specs.Choice.{choose}
 use Rattle.prelude.proofs.Choice.{choose_yes, choose_no, choose_cases}
 use Rattle.values.specs.declared.Value.{Value}
 use Rattle.values.specs.declared.Value.TheVariants as Vs
-use Rattle.values.specs.declared.Answer.{Answer}
-use Rattle.values.specs.declared.Answer.TheVariants as As
-use Rattle.values.specs.Values.{number_of, as_boolean, as_integer}
+use Rattle.values.specs.Values.{number_of, as_boolean, as_integer, Answer}
 use Rattle.values.specs.contracts.Value.{the_type as value_type}
-use Rattle.values.specs.contracts.Answer.{the_type as answer_type}
+use Rattle.values.specs.declared.Stop.TheVariants as St
 use Rattle.values.proofs.Binding.{neither}
 use Rattle.values.proofs.Cases.{is_boolean, is_integer_lem, no_boolean, no_integer}
 use Rattle.values.proofs.Numbers.{fits_integer}
 use Rattle.semantics.specs.declared.Registers.{Registers}
 use Rattle.semantics.specs.declared.Place.{Place}
-use Rattle.semantics.specs.declared.Found.{Found}
-use Rattle.semantics.specs.declared.Found.TheVariants as Fs
-use Rattle.semantics.specs.declared.Mark.{Mark}
-use Rattle.semantics.specs.declared.Mark.TheVariants.{Number, Nothing}
-use Rattle.semantics.specs.Memory.{Memory, bare, mark_at, part_at, overwrite}
+use Rattle.semantics.specs.Memory.{Memory, bare, mark_at, part_at, overwrite, Mark}
 use Rattle.semantics.specs.Stepping.{State, Next, Next.goes, Next.stuck, on_place, on_value}
 use Rattle.semantics.specs.Stepping.{on_mark, go_to, following, with_cells, written, on_part, input_at, after_read}
-use Rattle.semantics.specs.contracts.Found.{the_type as found_type}
 use Rattle.cells.proofs.Overwriting.{overwrite_length}
 use Rattle.calling.specs.declared.Step.{Step}
 use Rattle.calling.specs.declared.Step.TheVariants as Steps
@@ -42,6 +35,8 @@ use Rattle.calling.specs.declared.Passing.{Passing}
 use Rattle.calling.specs.Showing.{state_of, Stands, Shows, Shows.shows_goes, Shows.shows_trap, Shows.shows_stuck}
 use Rattle.calling.specs.Passing.{lost_place, lost_value, ended_by}
 use Rattle.stepping.specs.Counting.{at_row}
+use Rattle.std.specs.Prelude.{Ok, Err, Some, None}
+use Rattle.semantics.specs.Finding.{Found}
 
 -- ---- what a step comes to, in other words
 
@@ -59,13 +54,13 @@ module _ {s : State ℤ} {r : Step} {cells output : List ℤ} where
   shows_no {b} x {y} e h = shows_by (choose_no b x y e) h
 
   -- on with an operand's object
-  pub shows_place : {found x : Found} {place : Place} (next : Place → Next ℤ) → found ≡ x → found ≡ Fs.At place
+  pub shows_place : {found x : Found} {place : Place} (next : Place → Next ℤ) → found ≡ x → found ≡ Ok place
       → Shows s (next place) r cells output → Shows s (on_place s x next) r cells output
   unfolding on_place
   shows_place next e t h = rw (← e, t) h
 
   -- with its value
-  pub shows_value : {answer x : Answer} {v : Value} (next : Value → Next ℤ) → answer ≡ x → answer ≡ As.Val v
+  pub shows_value : {answer x : Answer} {v : Value} (next : Value → Next ℤ) → answer ≡ x → answer ≡ Ok v
       → Shows s (next v) r cells output → Shows s (on_value s x next) r cells output
   unfolding on_value
   shows_value next e t h = rw (← e, t) h
@@ -81,7 +76,7 @@ module _ {s : State ℤ} {r : Step} {cells output : List ℤ} where
   shows_boolean next t h = shows_by (is_boolean _ next t) h
 
   -- with a link's
-  pub shows_mark : {mark x : Mark} {n : ℕ} (next : ℕ → Next ℤ) → mark ≡ x → mark ≡ Number n
+  pub shows_mark : {mark x : Mark} {n : ℕ} (next : ℕ → Next ℤ) → mark ≡ x → mark ≡ Some n
       → Shows s (next n) r cells output → Shows s (on_mark s x next) r cells output
   unfolding on_mark
   shows_mark next e t h = rw (← e, t) h
@@ -94,29 +89,29 @@ module _ {s : State ℤ} {r : Step} {cells output : List ℤ} where
 
 -- ---- "A trap in an operand ends the step with that trap."
 
-lost_place_lem : (s : State ℤ) (found : Found) (next : Place → Next ℤ) → OneOf (1 ∷ 2 ∷ []) (tag_of found_type found)
+lost_place_lem : (s : State ℤ) (found : Found) (next : Place → Next ℤ) → ((p : Place) → found ≡ Ok p → ⊥)
     → Shows s (on_place s found next) (ended_by (lost_place found)) s.cells s.output
 unfolding on_place lost_place ended_by
-lost_place_lem s (Fs.At place) next t = neither (omega arith) (omega arith) t
-lost_place_lem s (Fs.Trap u) next t = shows_trap refl refl
-lost_place_lem s Fs.Stuck next t = shows_stuck refl refl
+lost_place_lem s (Ok place) next t = absurd (t place refl)
+lost_place_lem s (Err (St.Trap u)) next t = shows_trap refl refl
+lost_place_lem s (Err St.Stuck) next t = shows_stuck refl refl
 
-lost_value_lem : (s : State ℤ) (answer : Answer) (next : Value → Next ℤ) → OneOf (1 ∷ 2 ∷ []) (tag_of answer_type answer)
+lost_value_lem : (s : State ℤ) (answer : Answer) (next : Value → Next ℤ) → ((v : Value) → answer ≡ Ok v → ⊥)
     → Shows s (on_value s answer next) (ended_by (lost_value answer)) s.cells s.output
 unfolding on_value lost_value ended_by
-lost_value_lem s (As.Val v) next t = neither (omega arith) (omega arith) t
-lost_value_lem s (As.Trap u) next t = shows_trap refl refl
-lost_value_lem s As.Stuck next t = shows_stuck refl refl
+lost_value_lem s (Ok v) next t = absurd (t v refl)
+lost_value_lem s (Err (St.Trap u)) next t = shows_trap refl refl
+lost_value_lem s (Err St.Stuck) next t = shows_stuck refl refl
 
 -- as the code has it: the answer found, what it loses, and how that ends
 module _ {s : State ℤ} {p : Passing} {r : Step} where
   pub shows_lost_place : {found x : Found} (next : Place → Next ℤ) → found ≡ x
-      → OneOf (1 ∷ 2 ∷ []) (tag_of found_type found) → p ≡ lost_place found → r ≡ ended_by p
+      → ((p : Place) → found ≡ Ok p → ⊥) → p ≡ lost_place found → r ≡ ended_by p
       → Shows s (on_place s x next) r s.cells s.output
   shows_lost_place {found} next e t lost ended = rw (ended, lost, ← e) (lost_place_lem s found next t)
 
   pub shows_lost_value : {answer x : Answer} (next : Value → Next ℤ) → answer ≡ x
-      → OneOf (1 ∷ 2 ∷ []) (tag_of answer_type answer) → p ≡ lost_value answer → r ≡ ended_by p
+      → ((v : Value) → answer ≡ Ok v → ⊥) → p ≡ lost_value answer → r ≡ ended_by p
       → Shows s (on_value s x next) r s.cells s.output
   shows_lost_value {answer} next e t lost ended = rw (ended, lost, ← e) (lost_value_lem s answer next t)
 
@@ -134,7 +129,7 @@ module _ {s : State ℤ} where
   shows_no_boolean v next t = shows_by (no_boolean _ v next t) (shows_stuck refl refl)
 
   -- a cell that holds no link
-  pub shows_no_mark : {mark x : Mark} (next : ℕ → Next ℤ) → mark ≡ x → mark ≡ Nothing
+  pub shows_no_mark : {mark x : Mark} (next : ℕ → Next ℤ) → mark ≡ x → mark ≡ None
       → Shows s (on_mark s x next) Steps.Stuck s.cells s.output
   unfolding on_mark
   shows_no_mark next e t = rw (← e, t) (shows_stuck refl refl)
@@ -145,12 +140,12 @@ module _ {s : State ℤ} where
   unfolding on_part
   shows_no_part a n next h = shows_no _ (lt-leb (a + n) s.at.top h) (shows_stuck refl refl)
 
-no_number : {X : Type 0} {n : ℕ} → Nothing ≡ Number n → X
+no_number : {X : Type 0} {n : ℕ} → None ≡ Some n → X
 no_number e = let z : ◌≡◌ {A = ℕ} 0 1 = cc in absurd (omega arith)
 
 -- a cell that holds one lies below top
 pub mark_below : {X : Type 0} (m : Memory X) (top : ℕ) (cells : List X) (kind a : ℕ) {n : ℕ}
-    → mark_at m top cells kind a ≡ Number n → a < top
+    → mark_at m top cells kind a ≡ Some n → a < top
 unfolding mark_at
 mark_below m top cells kind a e = elim (choose_cases (ltb a top) e) [
   | inl h ↦ ltb-true a top h.0

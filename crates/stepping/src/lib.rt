@@ -15,8 +15,8 @@ use access::Loaded;
 use calling::Step;
 use finding::View;
 use image::Row;
-use semantics::{Found, Mark, Place, Registers};
-use values::{Answer, Trap, Value};
+use semantics::{Place, Registers};
+use values::{Trap, Value};
 
 // The same numbers at another row.
 fn at_row(s: Registers, row: u32) -> Registers
@@ -89,18 +89,18 @@ fn assign(loaded: &Loaded, store: &mut [i64], s: Registers, statement: Row) -> S
 {
     let view = View::new(loaded, store, s);
     let found = view.locate(statement.a as u32);
-    let Found::At(target) = found else {
+    let Ok(target) = found else {
         return calling::ended_by(calling::lost_place(found));
     };
     if loaded.is_single(target.declared) {
         let answer = finding::fresh(view.eval(statement.b as u32));
-        let Answer::Val(value) = answer else {
+        let Ok(value) = answer else {
             return calling::ended_by(calling::lost_value(answer));
         };
         return write_cell(store, s, target.address, values::number_of(value));
     }
     let origin = finding::fresh_place(view.find(statement.b as u32));
-    let Found::At(source) = origin else {
+    let Ok(source) = origin else {
         return calling::ended_by(calling::lost_place(origin));
     };
     copy_object(loaded, store, s, target, source)
@@ -115,7 +115,7 @@ fn jump(loaded: &Loaded, store: &[i64], s: Registers, statement: Row) -> Step
         result store.now output }
 {
     let answer = View::new(loaded, store, s).eval(statement.a as u32);
-    let Answer::Val(value) = answer else {
+    let Ok(value) = answer else {
         return calling::ended_by(calling::lost_value(answer));
     };
     let Value::Bool(holds) = value else {
@@ -137,10 +137,10 @@ fn give_back(loaded: &Loaded, store: &[i64], s: Registers) -> Step
     if procedure == 0 {
         return Step::Finished;
     }
-    let Mark::Number(back) = cells::mark_at(store, s.top, s.base + 1) else {
+    let Some(back) = cells::mark_at(store, s.top, s.base + 1) else {
         return Step::Stuck;
     };
-    let Mark::Number(older) = cells::mark_at(store, s.top, s.base + 2) else {
+    let Some(older) = cells::mark_at(store, s.top, s.base + 2) else {
         return Step::Stuck;
     };
     Step::Goes(Registers {
@@ -161,7 +161,7 @@ fn receive(loaded: &Loaded, input: &[i32], store: &mut [i64], s: Registers, stat
         (state_of s store.old output)) result store.new output }
 {
     let found = View::new(loaded, store, s).find(statement.a as u32);
-    let Found::At(target) = found else {
+    let Ok(target) = found else {
         return calling::ended_by(calling::lost_place(found));
     };
     if input.len() <= s.read as usize {
@@ -187,7 +187,7 @@ fn send(loaded: &Loaded, store: &[i64], output: &mut [i32], s: Registers, statem
         (state_of s store.now output.old)) result store.now output.new }
 {
     let answer = View::new(loaded, store, s).eval(statement.a as u32);
-    let Answer::Val(value) = answer else {
+    let Ok(value) = answer else {
         return calling::ended_by(calling::lost_value(answer));
     };
     let Value::Int(number) = value else {
@@ -213,7 +213,7 @@ fn halt(loaded: &Loaded, store: &[i64], s: Registers, statement: Row) -> Step
         result store.now output }
 {
     let answer = View::new(loaded, store, s).eval(statement.a as u32);
-    let Answer::Val(value) = answer else {
+    let Ok(value) = answer else {
         return calling::ended_by(calling::lost_value(answer));
     };
     let Value::Int(number) = value else {

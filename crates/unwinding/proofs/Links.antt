@@ -11,9 +11,9 @@ use lib.IntN.{ℤ, pos, negsuc}
 use lib.ListN.{get_or}
 use Rattle.prelude.specs.Choice.{choose}
 use Rattle.prelude.proofs.Choice.{choose_yes, same_truth}
-use Rattle.semantics.specs.declared.Mark.TheVariants.{Number, Nothing}
 use Rattle.semantics.specs.Memory.{mark_of, bare, cell_at, mark_at}
 use Rattle.unwinding.specs.Links.{mark_number, link_at, spot_of}
+use Rattle.std.specs.Prelude.{Some, None}
 
 -- a number of 16 bits is read as it is
 pub link_is : (top : ℕ) (store : List ℤ) (a n : ℕ) → a < top → get_or store a (pos 0) ≡ pos n → n < 65536
@@ -27,7 +27,7 @@ number_back : (z : ℤ) (n : ℕ) → mark_number (mark_of z) ≡ n → n < 6553
 unfolding mark_number mark_of choose
 number_back (pos m) n e low = go (ltb m 65536) e
   where
-    go : (b : Bool) → mark_number (choose b (Number m) Nothing) ≡ n → pos m ≡ pos n
+    go : (b : Bool) → mark_number (choose b (Some m) None) ≡ n → pos m ≡ pos n
     go true h = ap pos h
     go false h = absurd (omega arith)
 number_back (negsuc m) n e low = absurd (omega arith)
@@ -38,7 +38,7 @@ pub link_back : (top : ℕ) (store : List ℤ) (a n : ℕ) → link_at top store
 unfolding link_at mark_at bare cell_at choose mark_number
 link_back top store a n e low = go (ltb a top) e
   where
-    go : (b : Bool) → mark_number (choose b (mark_of (get_or store a (pos 0))) Nothing) ≡ n → get_or store a (pos 0) ≡ pos n
+    go : (b : Bool) → mark_number (choose b (mark_of (get_or store a (pos 0))) None) ≡ n → get_or store a (pos 0) ≡ pos n
     go true h = number_back (get_or store a (pos 0)) n h low
     go false h = absurd (omega arith)
 

@@ -1,19 +1,17 @@
 -- Links as the code reads them.
-use Rattle.std.specs.Prelude.{ℕ, ◌+◌, ◌/◌, ◌%◌, Bool, List, [], ltb, eqb, ℤ}
+use Rattle.std.specs.Prelude.{ℕ, ◌+◌, ◌/◌, ◌%◌, Bool, List, [], ltb, eqb, ℤ, Some, None}
 use Rattle.prelude.specs.Choice.{◌also◌}
 use Rattle.image.specs.Rows.{rows_of}
 use Rattle.places.specs.Places.{frame_size}
-use Rattle.semantics.specs.declared.Mark.{Mark}
-use Rattle.semantics.specs.declared.Mark.TheVariants.{Number, Nothing}
-use Rattle.semantics.specs.Memory.{LINK, bare, mark_at}
+use Rattle.semantics.specs.Memory.{LINK, bare, mark_at, Mark}
 use Rattle.semantics.specs.Layout.{Program}
 use Rattle.asking.specs.Asking.{room_of}
 use Rattle.unwinding.specs.declared.Spot.{Spot}
 
 -- a link's number; where there is none, one that no row has and at which no frame can begin
 unfoldable pub mark_number : Mark → ℕ
-mark_number (Number n) = n
-mark_number Nothing = 65535
+mark_number (Some n) = n
+mark_number None = 65535
 
 -- the number of the link in the cell at a, below top
 unfoldable pub link_at : ℕ → List ℤ → ℕ → ℕ

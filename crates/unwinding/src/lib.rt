@@ -17,7 +17,6 @@ ghost use Rattle.unwinding.specs.Going.{Oldest};
 ghost use Rattle.unwinding.specs.Next.{NEXT, first_or, next_of};
 
 use access::Loaded;
-use semantics::Mark;
 
 // A frame: its procedure, and where it begins.
 #[derive(Clone, Copy)]
@@ -45,7 +44,7 @@ fn link(store: &[i64], top: u32, at: u32) -> u16
     requires { top ≤ length store.now }
     ensures { result ≡ link_at top store.now at }
 {
-    let Mark::Number(n) = cells::mark_at(store, top, at) else {
+    let Some(n) = cells::mark_at(store, top, at) else {
         return 65535;
     };
     n

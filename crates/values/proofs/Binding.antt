@@ -6,23 +6,21 @@ use Prim.Native.Nat.{ℕ}
 use native.Mathlib.Omega.{arith}
 use denote.Enum.Declared.{tag_of}
 use types.Run.{OneOf}
-use Rattle.values.specs.Values.{bind}
+use Rattle.values.specs.Values.{bind, Answer}
 use Rattle.values.specs.declared.Value.{Value}
-use Rattle.values.specs.declared.Answer.{Answer}
-use Rattle.values.specs.declared.Answer.TheVariants as As
 use Rattle.values.specs.contracts.Answer.{the_type as answer_type}
+use Rattle.std.specs.Prelude.{Ok, Err}
 
 -- a tag that is neither of two is not among them
 pub neither : {a b c : ℕ} {X : Type 0} → (a ≡ b → ⊥) → (a ≡ c → ⊥) → OneOf (b ∷ c ∷ []) a → X
 neither p q t = absurd (⊎_elim p q t)
 
 -- an answer with a value goes on with it, and another is handed on
-pub bind_value : {a : Answer} {v : Value} → a ≡ As.Val v → (next : Value → Answer) → bind a next ≡ next v
+pub bind_value : {a : Answer} {v : Value} → a ≡ Ok v → (next : Value → Answer) → bind a next ≡ next v
 unfolding bind
 bind_value e next = rw e
 
 pub bind_other : (a : Answer) → OneOf (1 ∷ 2 ∷ []) (tag_of answer_type a) → (next : Value → Answer) → bind a next ≡ a
 unfolding bind
-bind_other (As.Val v) t next = neither (omega arith) (omega arith) t
-bind_other (As.Trap u) t next = refl
-bind_other As.Stuck t next = refl
+bind_other (Ok v) t next = neither (omega arith) (omega arith) t
+bind_other (Err stop) t next = refl

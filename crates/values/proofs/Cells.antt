@@ -13,7 +13,8 @@ use Rattle.values.specs.Values.{BOOLEAN, INTEGER, SET, kind_of, number_of, InRan
 use Rattle.values.specs.Values.{integer_cell, set_cell, cell_of}
 use Rattle.values.specs.Values.InRange.{boolean, integer, set}
 use Rattle.values.specs.declared.Value.{Value}
-use Rattle.values.specs.declared.Answer.TheVariants as As
+use Rattle.values.specs.declared.Stop.TheVariants as St
+use Rattle.std.specs.Prelude.{Ok, Err}
 
 -- a value of kind k, in its range, for which a cell holds z
 pub record Held (k : ℕ) (z : ℤ) (v : Value) : Type 0 where
@@ -22,16 +23,16 @@ pub record Held (k : ℕ) (z : ℤ) (v : Value) : Type 0 where
   pub range : InRange v
 
 -- Stuck is no value
-pub no_value {ℓ} : {X : Type ℓ} {v : Value} → As.Stuck ≡ As.Val v → X
+pub no_value {ℓ} : {X : Type ℓ} {v : Value} → Err St.Stuck ≡ Ok v → X
 no_value e = let z : ◌≡◌ {A = ℕ} 0 1 = cc in absurd (omega arith)
 
-same_value_lem : {v w : Value} → As.Val v ≡ As.Val w → v ≡ w
+same_value_lem : {v w : Value} → Ok v ≡ Ok w → v ≡ w
 same_value_lem e = cc
 
-held : {k : ℕ} {z : ℤ} {v w : Value} → Held k z v → As.Val v ≡ As.Val w → Held k z w
+held : {k : ℕ} {z : ℤ} {v w : Value} → Held k z v → Ok v ≡ Ok w → Held k z w
 held h e = rw (same_value_lem e) at h
 
-pub held_boolean : (z : ℤ) {v : Value} → boolean_cell z ≡ As.Val v → Held BOOLEAN z v
+pub held_boolean : (z : ℤ) {v : Value} → boolean_cell z ≡ Ok v → Held BOOLEAN z v
 unfolding boolean_cell kind_of number_of choose
 held_boolean (negsuc n) e = no_value e
 held_boolean (pos n) e =
@@ -44,7 +45,7 @@ held_boolean (pos n) e =
           ]
     ]
 
-held_integer : (z : ℤ) {v : Value} → integer_cell z ≡ As.Val v → Held INTEGER z v
+held_integer : (z : ℤ) {v : Value} → integer_cell z ≡ Ok v → Held INTEGER z v
 unfolding integer_cell kind_of number_of
 held_integer z e =
     elim (choose_cases (is_integer z) e) [
@@ -52,7 +53,7 @@ held_integer z e =
       | inr h ↦ no_value h.1
     ]
 
-held_set : (z : ℤ) {v : Value} → set_cell z ≡ As.Val v → Held SET z v
+held_set : (z : ℤ) {v : Value} → set_cell z ≡ Ok v → Held SET z v
 unfolding set_cell kind_of number_of
 held_set (negsuc n) e = no_value e
 held_set (pos n) e =
@@ -62,7 +63,7 @@ held_set (pos n) e =
     ]
 
 -- what is read was there
-pub cell_held : (k : ℕ) (z : ℤ) {v : Value} → cell_of k z ≡ As.Val v → Held k z v
+pub cell_held : (k : ℕ) (z : ℤ) {v : Value} → cell_of k z ≡ Ok v → Held k z v
 unfolding cell_of
 cell_held k z e =
     elim (choose_cases (eqb k BOOLEAN) e) [
@@ -79,7 +80,7 @@ cell_held k z e =
     ]
 
 -- a written value reads back
-pub cell_back : {v : Value} → InRange v → cell_of (kind_of v) (number_of v) ≡ As.Val v
+pub cell_back : {v : Value} → InRange v → cell_of (kind_of v) (number_of v) ≡ Ok v
 unfolding cell_of kind_of number_of boolean_cell integer_cell set_cell choose
 cell_back (boolean {b = true}) = refl
 cell_back (boolean {b = false}) = refl

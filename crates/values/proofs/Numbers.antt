@@ -15,7 +15,8 @@ use Rattle.prelude.specs.Choice.{choose}
 use Rattle.prelude.proofs.Choice.{clash}
 use Rattle.values.specs.Values.{is_integer, is_set, boolean_cell, set_cell}
 use Rattle.values.specs.declared.Value.TheVariants as Vs
-use Rattle.values.specs.declared.Answer.TheVariants as As
+use Rattle.values.specs.declared.Stop.TheVariants as St
+use Rattle.std.specs.Prelude.{Ok, Err}
 
 -- ---- a number in lo to hi, below it, above it
 
@@ -131,22 +132,22 @@ minus_top n h k = rw (lt-ltb n 4294967296 k) (omega arith)
 -- ---- cells
 
 -- neither 0 nor 1
-pub no_boolean : (z : ℤ) → (of_z w64 z ≡ 0 → ⊥) → (of_z w64 z ≡ 1 → ⊥) → boolean_cell z ≡ As.Stuck
+pub no_boolean : (z : ℤ) → (of_z w64 z ≡ 0 → ⊥) → (of_z w64 z ≡ 1 → ⊥) → boolean_cell z ≡ Err St.Stuck
 unfolding boolean_cell choose
 no_boolean (pos n) p q = rw (ne_eqb n 0 p, ne_eqb n 1 q)
 no_boolean (negsuc n) p q = refl
 
-pub set_neg : (z : ℤ) → lt_z z (pos 0) ≡ true → set_cell z ≡ As.Stuck
+pub set_neg : (z : ℤ) → lt_z z (pos 0) ≡ true → set_cell z ≡ Err St.Stuck
 unfolding set_cell
 set_neg (pos n) h = absurd (omega (arith, ltb-true))
 set_neg (negsuc n) h = refl
 
-pub set_large : (z : ℤ) → lt_z (pos 4294967295) z ≡ true → set_cell z ≡ As.Stuck
+pub set_large : (z : ℤ) → lt_z (pos 4294967295) z ≡ true → set_cell z ≡ Err St.Stuck
 unfolding set_cell is_set choose
 set_large (pos n) h = rw (le-ltb n 4294967296 (omega (arith, ltb-true)))
 set_large (negsuc n) h = refl
 
-pub set_is : (z : ℤ) → lt_z z (pos 0) ≡ false → lt_z (pos 4294967295) z ≡ false → set_cell z ≡ As.Val (Vs.Set (nat_abs z))
+pub set_is : (z : ℤ) → lt_z z (pos 0) ≡ false → lt_z (pos 4294967295) z ≡ false → set_cell z ≡ Ok (Vs.Set (nat_abs z))
 unfolding set_cell is_set choose
 set_is (pos n) h k = rw (lt-ltb n 4294967296 (omega (arith, ltb-false)))
 set_is (negsuc n) h k = clash h

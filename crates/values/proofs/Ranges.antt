@@ -15,16 +15,16 @@ use Rattle.values.specs.Values.{BOOLEAN, INTEGER, SET, kind_of, InRange, cell_of
 use Rattle.values.specs.Values.{constant_of, trap_number, Gives}
 use Rattle.values.specs.Values.Gives.{value}
 use Rattle.values.specs.declared.Value.{Value}
-use Rattle.values.specs.declared.Answer.TheVariants as As
 use Rattle.values.specs.declared.Trap.{Trap}
 use Rattle.values.specs.declared.Trap.TheVariants as Ts
 use Rattle.values.proofs.Numbers.{minus_top}
 use Rattle.values.proofs.Cells.{no_value, cell_held, held_boolean}
 use Rattle.values.proofs.Giving.{gives_boolean, gives_integer, gives_set, gives_one, gives_kind, gives_range}
+use Rattle.std.specs.Prelude.{Ok}
 
 -- ---- a cell, whatever number it holds
 
-pub cell_range : (k : ℕ) (z : ℤ) {r : Value} → cell_of k z ≡ As.Val r → InRange r
+pub cell_range : (k : ℕ) (z : ℤ) {r : Value} → cell_of k z ≡ Ok r → InRange r
 cell_range k z e = (cell_held k z e).range
 
 -- ---- a constant of two 16-bit numbers
@@ -38,8 +38,8 @@ signed_fits n h = go (ltb n 2147483648) refl
     go true e = record { sfits = ltb-true n 2147483648 e }
     go false e = record { sfits = minus_top n (ltb-false n 2147483648 e) h }
 
-constant_gives : (kind b c : ℕ) → b < 65536 → c < 65536 → {r : Value} → constant_of kind b c ≡ As.Val r
-    → Gives kind (As.Val r)
+constant_gives : (kind b c : ℕ) → b < 65536 → c < 65536 → {r : Value} → constant_of kind b c ≡ Ok r
+    → Gives kind (Ok r)
 unfolding constant_of
 constant_gives kind b c p q e =
     let fits = signed_fits (b * 65536 + c) (omega arith) in
@@ -56,7 +56,7 @@ constant_gives kind b c p q e =
           ]
     ]
 
-module _ (kind b c : ℕ) (p : b < 65536) (q : c < 65536) {r : Value} (e : constant_of kind b c ≡ As.Val r) where
+module _ (kind b c : ℕ) (p : b < 65536) (q : c < 65536) {r : Value} (e : constant_of kind b c ≡ Ok r) where
   pub constant_kind : kind_of r ≡ kind
   constant_kind = gives_kind (constant_gives kind b c p q e)
 

@@ -10,7 +10,8 @@ use Rattle.values.specs.Values.{Scalar, Scalar.a_boolean, Scalar.an_integer, Sca
 use Rattle.values.specs.Values.{is_set, boolean_cell, integer_cell, set_cell, cell_of}
 use Rattle.values.specs.declared.Value.{Value}
 use Rattle.values.specs.declared.Value.TheVariants as Vs
-use Rattle.values.specs.declared.Answer.TheVariants as As
+use Rattle.values.specs.declared.Stop.TheVariants as St
+use Rattle.std.specs.Prelude.{Ok, Err}
 
 -- they are the lowest numbers
 pub scalar_below : {k : ℕ} → Scalar k → k < 3
@@ -32,13 +33,13 @@ value_scalar (Vs.Int z) = an_integer
 value_scalar (Vs.Set s) = a_set
 
 -- a zeroed cell holds a value of each
-pub scalar_zero : {k : ℕ} → Scalar k → (v : Value) × (cell_of k (pos 0) ≡ As.Val v)
+pub scalar_zero : {k : ℕ} → Scalar k → (v : Value) × (cell_of k (pos 0) ≡ Ok v)
 unfolding cell_of boolean_cell integer_cell is_integer set_cell is_set choose
 scalar_zero a_boolean = (Vs.Bool false, refl)
 scalar_zero an_integer = (Vs.Int (pos 0), refl)
 scalar_zero a_set = (Vs.Set 0, refl)
 
 -- and no cell one of another kind
-pub no_scalar_cell : (k : ℕ) (z : ℤ) → 3 ≤ k → cell_of k z ≡ As.Stuck
+pub no_scalar_cell : (k : ℕ) (z : ℤ) → 3 ≤ k → cell_of k z ≡ Err St.Stuck
 unfolding cell_of choose
 no_scalar_cell k z h = rw (ne_eqb k 0 (omega arith), ne_eqb k 1 (omega arith), ne_eqb k 2 (omega arith))

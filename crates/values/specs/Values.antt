@@ -1,13 +1,17 @@
 -- Values of the scalar kinds, answers, and how a cell and a constant hold a value.
-use Rattle.std.specs.Prelude.{ℕ, ◌+◌, ◌*◌, ◌≡◌, Bool, true, false, ltb, eqb, ℤ, pos, negsuc, ◌-ℤ◌}
+use Rattle.std.specs.Prelude.{ℕ, ◌+◌, ◌*◌, ◌≡◌, Bool, true, false, ltb, eqb, ℤ, pos, negsuc, ◌-ℤ◌, Result, Ok, Err}
 use Rattle.std.specs.Int.Signed.{lt_z}
 use Rattle.prelude.specs.Choice.{choose}
 use Rattle.values.specs.declared.Value.{Value}
 use Rattle.values.specs.declared.Value.TheVariants as Vs
 use Rattle.values.specs.declared.Trap.{Trap}
 use Rattle.values.specs.declared.Trap.TheVariants as Ts
-use Rattle.values.specs.declared.Answer.{Answer}
-use Rattle.values.specs.declared.Answer.TheVariants as As
+use Rattle.values.specs.declared.Stop.TheVariants as St
+use Rattle.values.specs.declared.Stop.{Stop}
+
+-- what an evaluation gives: a value, or why there is none, a trap or that no rule applies ("stuck")
+abbrev pub Answer : Type 0
+Answer = Result Value Stop
 
 -- "Rows 0, 1, 2 are kinds 0 BOOLEAN, 1 INTEGER, 2 SET."
 abbrev pub BOOLEAN : ℕ
@@ -69,17 +73,17 @@ number_of (Vs.Set s) = pos s
 -- a cell's number as a BOOLEAN
 unfoldable pub boolean_cell : ℤ → Answer
 boolean_cell (pos n) =
-    choose (eqb n 0) (As.Val (Vs.Bool false)) (choose (eqb n 1) (As.Val (Vs.Bool true)) As.Stuck)
-boolean_cell (negsuc n) = As.Stuck
+    choose (eqb n 0) (Ok (Vs.Bool false)) (choose (eqb n 1) (Ok (Vs.Bool true)) (Err St.Stuck))
+boolean_cell (negsuc n) = Err St.Stuck
 
 -- a cell's number as an INTEGER
 unfoldable pub integer_cell : ℤ → Answer
-integer_cell z = choose (is_integer z) (As.Val (Vs.Int z)) As.Stuck
+integer_cell z = choose (is_integer z) (Ok (Vs.Int z)) (Err St.Stuck)
 
 -- a cell's number as a SET
 unfoldable pub set_cell : ℤ → Answer
-set_cell (pos n) = choose (is_set n) (As.Val (Vs.Set n)) As.Stuck
-set_cell (negsuc n) = As.Stuck
+set_cell (pos n) = choose (is_set n) (Ok (Vs.Set n)) (Err St.Stuck)
+set_cell (negsuc n) = Err St.Stuck
 
 -- A cell's number as a value of a kind. "Where an operand's cell lacks the needed kind or range, .., no rule applies:
 -- stuck"
@@ -87,7 +91,7 @@ unfoldable pub cell_of : ℕ → ℤ → Answer
 cell_of kind z =
     choose (eqb kind BOOLEAN) (boolean_cell z)
     (choose (eqb kind INTEGER) (integer_cell z)
-    (choose (eqb kind SET) (set_cell z) As.Stuck))
+    (choose (eqb kind SET) (set_cell z) (Err St.Stuck)))
 
 -- 32 bits in two's complement
 unfoldable pub signed_of : ℕ → ℤ
@@ -97,8 +101,8 @@ signed_of n = choose (ltb n 2147483648) (pos n) (pos n -ℤ pos 4294967296)
 unfoldable pub constant_of : ℕ → ℕ → ℕ → Answer
 constant_of kind b c =
     choose (eqb kind BOOLEAN) (boolean_cell (pos (b * 65536 + c)))
-    (choose (eqb kind INTEGER) (As.Val (Vs.Int (signed_of (b * 65536 + c))))
-    (choose (eqb kind SET) (As.Val (Vs.Set (b * 65536 + c))) As.Stuck))
+    (choose (eqb kind INTEGER) (Ok (Vs.Int (signed_of (b * 65536 + c))))
+    (choose (eqb kind SET) (Ok (Vs.Set (b * 65536 + c))) (Err St.Stuck)))
 
 -- ---- what follows from a value of one kind; `other` where it is of another
 
@@ -121,11 +125,10 @@ as_set other (Vs.Set s) next = next s
 
 -- "A trap in an operand ends the step with that trap": the next operand's turn comes only after a value
 unfoldable pub bind : Answer → (Value → Answer) → Answer
-bind (As.Val v) next = next v
-bind (As.Trap t) next = As.Trap t
-bind As.Stuck next = As.Stuck
+bind (Ok v) next = next v
+bind (Err stop) next = Err stop
 
 -- an answer that is a value of the kind, in its range, or a trap; never stuck
 pub data Gives (kind : ℕ) : Answer → Type 0 where
-  value : {v : Value} → kind_of v ≡ kind → InRange v → Gives kind (As.Val v)
-  trapped : {t : Trap} → Gives kind (As.Trap t)
+  value : {v : Value} → kind_of v ≡ kind → InRange v → Gives kind (Ok v)
+  trapped : {t : Trap} → Gives kind (Err (St.Trap t))

@@ -28,10 +28,9 @@ pub enum Trap {
     Halt,
 }
 
-// What an evaluation gives. Stuck: no rule applies.
+// Why an evaluation gives no value: a trap, or no rule applies.
 #[derive(Clone, Copy)]
-pub enum Answer {
-    Val(Value),
+pub enum Stop {
     Trap(Trap),
     Stuck,
 }
@@ -73,16 +72,16 @@ pub fn number_of(v: Value) -> i64
     }
 }
 
-fn boolean_cell(z: i64) -> Answer
+fn boolean_cell(z: i64) -> Result<Value, Stop>
     ensures { result ≡ boolean_cell z }
 {
     if z == 0 {
-        return Answer::Val(Value::Bool(false));
+        return Ok(Value::Bool(false));
     }
     if z == 1 {
-        return Answer::Val(Value::Bool(true));
+        return Ok(Value::Bool(true));
     }
-    Answer::Stuck
+    Err(Stop::Stuck)
 }
 
 // Whether a number is in the range of INTEGER.
@@ -98,38 +97,38 @@ pub fn is_integer(z: i64) -> bool
     true
 }
 
-fn integer_cell(z: i64) -> Answer
+fn integer_cell(z: i64) -> Result<Value, Stop>
     ensures { result ≡ integer_cell z }
 {
     if is_integer(z) {
         let n = z as i32;
-        return Answer::Val(Value::Int(n));
+        return Ok(Value::Int(n));
     }
-    Answer::Stuck
+    Err(Stop::Stuck)
 }
 
-fn set_cell(z: i64) -> Answer
+fn set_cell(z: i64) -> Result<Value, Stop>
     ensures { result ≡ set_cell z }
 {
     if z < 0 {
-        return Answer::Stuck;
+        return Err(Stop::Stuck);
     }
     if 4294967295 < z {
-        return Answer::Stuck;
+        return Err(Stop::Stuck);
     }
     let s = z as u32;
-    Answer::Val(Value::Set(s))
+    Ok(Value::Set(s))
 }
 
 // A cell's number as a value of a kind: 0 BOOLEAN, 1 INTEGER, 2 SET.
-pub fn cell(kind: u16, z: i64) -> Answer
+pub fn cell(kind: u16, z: i64) -> Result<Value, Stop>
     ensures { result ≡ cell_of kind z }
 {
     match kind {
         0 => boolean_cell(z),
         1 => integer_cell(z),
         2 => set_cell(z),
-        _ => Answer::Stuck,
+        _ => Err(Stop::Stuck),
     }
 }
 
@@ -144,14 +143,14 @@ fn signed_of(n: u32) -> i32
 }
 
 // A constant of a kind, whose 32 bits are b and c.
-pub fn constant(kind: u16, b: u16, c: u16) -> Answer
+pub fn constant(kind: u16, b: u16, c: u16) -> Result<Value, Stop>
     ensures { result ≡ constant_of kind b c }
 {
     let bits = (b as u32) * 65536 + (c as u32);
     match kind {
         0 => boolean_cell(bits as i64),
-        1 => Answer::Val(Value::Int(signed_of(bits))),
-        2 => Answer::Val(Value::Set(bits)),
-        _ => Answer::Stuck,
+        1 => Ok(Value::Int(signed_of(bits))),
+        2 => Ok(Value::Set(bits)),
+        _ => Err(Stop::Stuck),
     }
 }

@@ -1,4 +1,3 @@
-use borrow.Enum.Refused.{opened}
 use mathlib.Core.Path.{◌≡◌, sym, ◌∙◌}
 use native.Mathlib.Omega.{arith}
 use borrow.Author.Rules.{rules}
@@ -14,20 +13,20 @@ use Rattle.calling.proofs.pass_cells.Goals as goal
 pub returns-in_default : goal.returns-in_default
 returns-in_default c = λ output.
     rw (c.lost_place.ensures, ← (seen c.new.result c.new.ensures c.args.k c.find-found.ensures))
-    (place_lost _ _ _ (opened c.in_default.in_default-own.keys2))
+    (place_lost _ _ _ c.in_default.not-Ok)
 
 pub size_of-size-requires : goal.size_of-size-requires
 size_of-size-requires c = c.requires.1
 
 pub overflow_add-object : goal.overflow_add-object
 overflow_add-object c =
-    let found = sym (seen c.new.result c.new.ensures c.args.k c.find-found.ensures) ∙ c.in-At.is in
+    let found = sym (seen c.new.result c.new.ensures c.args.k c.find-found.ensures) ∙ c.in-Ok.is in
     let within = find_within c.args.loaded.now.ready.planned c.requires.0.base _ _ _ found in
     omega (arith, c.size_of-size.ensures, within.low, size_low c.args.loaded.now.ready.planned c.args.r c.requires.1)
 
 pub returns-then-s-object : goal.returns-then-s-object
 returns-then-s-object c =
-    let found = sym (seen c.new.result c.new.ensures c.args.k c.find-found.ensures) ∙ c.in-At.is in
+    let found = sym (seen c.new.result c.new.ensures c.args.k c.find-found.ensures) ∙ c.in-Ok.is in
     λ output.
     place_beyond _ c.args.place _ found (omega (arith, c.size_of-size.ensures, c.if-s-object.true))
 
@@ -36,7 +35,7 @@ copy_above-requires c = search rules
 
 pub returns : goal.returns
 returns c =
-    let found = sym (seen c.new.result c.new.ensures c.args.k c.find-found.ensures) ∙ c.in-At.is in
+    let found = sym (seen c.new.result c.new.ensures c.args.k c.find-found.ensures) ∙ c.in-Ok.is in
     let size : c.size_of-size.result
     ≡ size_of (program_of c.args.loaded.now.image.now).types (program_of c.args.loaded.now.image.now).fields c.args.r =
     omega (arith, c.size_of-size.ensures) in

@@ -1,4 +1,3 @@
-use borrow.Enum.Refused.{opened}
 use mathlib.Core.Path.{sym, ◌∙◌}
 use mathlib.Core.List.{[], ◌∷◌}
 use Prim.Native.Nat.{◌<◌}
@@ -15,13 +14,13 @@ use Rattle.calling.proofs.pass_object.Goals as goal
 pub returns-in_default : goal.returns-in_default
 returns-in_default c = λ output.
     rw (c.lost_place.ensures, ← (seen c.new.result c.new.ensures c.args.k c.find-found.ensures))
-    (place_lost _ _ _ (opened c.in_default.in_default-own.keys2))
+    (place_lost _ _ _ c.in_default.not-Ok)
 
 pub returns : goal.returns
 returns c =
-    let found = sym (seen c.new.result c.new.ensures c.args.k c.find-found.ensures) ∙ c.in-At.is in
+    let found = sym (seen c.new.result c.new.ensures c.args.k c.find-found.ensures) ∙ c.in-Ok.is in
     let room = c.requires.0.top in
-    let object = c.in-At.object in
+    let object = c.in-Ok.object in
     let a : object.address < 9223372036854775808 = search rules in
     let d : object.dynamic < 9223372036854775808 = omega (arith, c.struct_known-2-1.given) in
     let e = rw (of_nat64 object.address a, of_nat64 object.dynamic d) at c.put_pair.ensures in

@@ -1,4 +1,3 @@
-use borrow.Enum.Refused.{opened}
 use mathlib.Core.Path.{sym, ◌∙◌}
 use mathlib.Core.List.{[], ◌∷◌}
 use borrow.Author.Rules.{rules}
@@ -14,13 +13,13 @@ use Rattle.calling.proofs.pass_value.Goals as goal
 pub returns-in_default : goal.returns-in_default
 returns-in_default c = λ output.
     rw (c.lost_value.ensures, ← (c.fresh-answer.ensures ∙ valued c.new.result c.new.ensures c.args.k c.eval.ensures))
-    (value_lost _ _ _ (opened c.in_default.in_default-own.keys2))
+    (value_lost _ _ _ c.in_default.not-Ok)
 
 pub returns : goal.returns
 unfolding bare
 returns c =
     let found = sym (c.fresh-answer.ensures ∙ valued c.new.result c.new.ensures c.args.k c.eval.ensures)
-    ∙ c.in-Val.is in
+    ∙ c.in-Ok.is in
     let n = c.number_of-number in
     let e = rw (plain64 n.result (search rules), n.ensures) at c.put.ensures in
     λ output.

@@ -9,10 +9,10 @@ unfolding agrees_of choose
 returns-then-kind-ne3 c =
     rw (c.in-Trap.is, ← c.byte_at-kind.ensures.0, ne_eqb _ 3 c.if-kind-ne3.true)
 
-pub returns-in-Val : goal.returns-in-Val
+pub returns-in-Ok : goal.returns-in-Ok
 unfolding agrees_of
-returns-in-Val c =
-    c.same_as.ensures ∙ rw (c.operand_at.ensures, c.byte_at-kind.ensures.0, c.in-Val.is)
+returns-in-Ok c =
+    c.same_as.ensures ∙ rw (c.operand_at.ensures, c.byte_at-kind.ensures.0, c.in-Ok.is)
 
 pub returns-else-kind-ne3 : goal.returns-else-kind-ne3
 unfolding agrees_of choose

@@ -26,7 +26,7 @@ returns-in_default c = sym (at_high (goal.at.returns-in_default c).After-operand
 
 pub returns-in_default-v : goal.returns-in_default-v
 returns-in_default-v c =
-    sym (at_high (goal.at.returns-in_default-v c).After-operand_at-high ∙ bind_value c.in-Val.is _ ∙ no_integer _ _ (opened c.in_default-v.in_default-v-own.keys2))
+    sym (at_high (goal.at.returns-in_default-v c).After-operand_at-high ∙ bind_value c.in-Ok.is _ ∙ no_integer _ _ (opened c.in_default-v.in_default-v-own.keys2))
 
 pub returns : goal.returns
 unfolding cell_with
@@ -35,4 +35,4 @@ returns c =
     ∙ rw (plain64 c.wide_at.result (search rules), c.wide_at.ensures, plain32 _ (h_fits (goal.at.returns c).In-Int))
     (rw (c.half_at-2.ensures, c.half_at.ensures)
     (rw c.byte_at.ensures.0
-    (sym (at_high (goal.at.returns c).After-operand_at-high ∙ bind_value c.in-Val.is _ ∙ rw c.in-Int.is))))
+    (sym (at_high (goal.at.returns c).After-operand_at-high ∙ bind_value c.in-Ok.is _ ∙ rw c.in-Int.is))))

@@ -18,8 +18,8 @@ at_left c = rw (c.operand_at-left.ensures, c.byte_at.ensures.0)
 at_right : (c : After-operand_at-right) → let s = c.args.s.now in
     dyadic_case s
     ≡ bind c.operand_at-left.result (λ v. bind (operand_at s (get_or s 3 0) 8) (λ w. dyadic_of (get_or s 1 0) v w))
-    → dyadic_case s ≡ bind c.operand_at-right.result (λ w. dyadic_of (get_or s 1 0) c.in-Val.v w)
-at_right c left = left ∙ bind_value c.in-Val.is _ ∙ rw (c.operand_at-right.ensures, c.byte_at-2.ensures.0)
+    → dyadic_case s ≡ bind c.operand_at-right.result (λ w. dyadic_of (get_or s 1 0) c.in-Ok.v w)
+at_right c left = left ∙ bind_value c.in-Ok.is _ ∙ rw (c.operand_at-right.ensures, c.byte_at-2.ensures.0)
 
 pub returns-in_default : goal.returns-in_default
 returns-in_default c = sym (at_left (goal.at.returns-in_default c).After-operand_at-left ∙ bind_other _ (opened c.in_default.in_default-own.keys2) _)
@@ -30,4 +30,4 @@ returns-in_default-right c = sym (at_right (goal.at.returns-in_default-right c).
 pub returns : goal.returns
 returns c =
     c.dyadic.ensures
-    ∙ sym (at_right (goal.at.returns c).After-operand_at-right (at_left (goal.at.returns c).After-operand_at-left) ∙ bind_value c.in-Val-right.is _ ∙ rw c.byte_at-3.ensures.0)
+    ∙ sym (at_right (goal.at.returns c).After-operand_at-right (at_left (goal.at.returns c).After-operand_at-left) ∙ bind_value c.in-Ok-right.is _ ∙ rw c.byte_at-3.ensures.0)

@@ -20,4 +20,4 @@ returns-in_default c = sym (at-operand (goal.at.returns-in_default c).After-oper
 pub returns : goal.returns
 returns c =
     c.monadic.ensures
-    ∙ sym (at-operand (goal.at.returns c).After-operand_at-operand ∙ bind_value c.in-Val.is _ ∙ rw c.byte_at-2.ensures.0)
+    ∙ sym (at-operand (goal.at.returns c).After-operand_at-operand ∙ bind_value c.in-Ok.is _ ∙ rw c.byte_at-2.ensures.0)

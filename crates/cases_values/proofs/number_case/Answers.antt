@@ -23,4 +23,4 @@ returns c =
     c.cell.ensures
     ∙ rw (plain64 c.number_of.result (search rules), c.number_of.ensures)
     (rw c.byte_at-kind.ensures.0
-    (sym (at-operand (goal.at.returns c).After-operand_at-operand ∙ bind_value c.in-Val.is _)))
+    (sym (at-operand (goal.at.returns c).After-operand_at-operand ∙ bind_value c.in-Ok.is _)))

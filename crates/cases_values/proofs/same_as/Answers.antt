@@ -10,4 +10,4 @@ returns-in_default c = sym (no_answer _ _ (opened c.in_default.in_default-own.ke
 
 pub returns : goal.returns
 unfolding same_as
-returns c = c.same_value.ensures ∙ rw c.in-Val.is
+returns c = c.same_value.ensures ∙ rw c.in-Ok.is

@@ -4,10 +4,10 @@ use Rattle.prelude.specs.Choice.{choose}
 use Rattle.values.specs.Values.{is_integer}
 use Rattle.integers.specs.Integers.{integer_of}
 use Rattle.values.specs.declared.Value.TheVariants as Vs
-use Rattle.values.specs.declared.Answer.TheVariants as As
 use Rattle.values.proofs.Numbers.{plain32, plain64, integer_fits}
 use Rattle.integers.proofs.integer.Goals as goal
 use Rattle.integers.proofs.integer.Goals.{Then-is_integer}
+use Rattle.std.specs.Prelude.{Ok}
 
 -- `integers::integer` meets its contract: a number in the range fits 32 bits.
 taken : (c : Then-is_integer) → is_integer c.args.z ≡ true
@@ -20,7 +20,7 @@ pub returns-then-is_integer : goal.returns-then-is_integer
 unfolding integer_of choose
 returns-then-is_integer c =
     rw (plain64 _ c.ranges.z, taken (goal.at.returns-then-is_integer c).Then-is_integer)
-    (ap (λ z. As.Val (Vs.Int z)) (plain32 c.args.z (integer_fits _ (taken (goal.at.returns-then-is_integer c).Then-is_integer))))
+    (ap (λ z. Ok (Vs.Int z)) (plain32 c.args.z (integer_fits _ (taken (goal.at.returns-then-is_integer c).Then-is_integer))))
 
 pub returns : goal.returns
 unfolding integer_of choose

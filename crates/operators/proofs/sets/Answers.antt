@@ -7,14 +7,15 @@ use Rattle.values.proofs.Numbers.{inside, under, over}
 use mathlib.Core.Bool.{false, ◌&&◌}
 use lib.Dec.{leb, eqb}
 use Rattle.values.specs.declared.Value.TheVariants as Vs
-use Rattle.values.specs.declared.Answer.TheVariants as As
+use Rattle.values.specs.declared.Stop.TheVariants as St
 use Prim.Native.Nat.{ℕ}
 use Rattle.operators.proofs.sets.Goals as goal
+use Rattle.std.specs.Prelude.{Ok, Err}
 
 -- `operators::sets` meets its contract: by the operator number and its ranges.
 -- another operator than 1, 2, 3 and 6
 others : (op s t : ℕ) → (op ≡ 1 → ⊥) → (op ≡ 2 → ⊥) → (op ≡ 3 → ⊥) → (op ≡ 6 → ⊥)
-    → sets_of op s t ≡ choose (leb 7 op && leb op 8) (As.Val (Vs.Bool (compare_of op false (eqb s t)))) As.Stuck
+    → sets_of op s t ≡ choose (leb 7 op && leb op 8) (Ok (Vs.Bool (compare_of op false (eqb s t)))) (Err St.Stuck)
 unfolding sets_of choose
 others op s t a b c d = rw (ne_eqb _ 1 a, ne_eqb _ 2 b, ne_eqb _ 3 c, ne_eqb _ 6 d)
 

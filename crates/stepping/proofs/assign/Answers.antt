@@ -1,4 +1,3 @@
-use borrow.Enum.Refused.{opened}
 use mathlib.Core.Path.{sym, ◌∙◌}
 use borrow.Author.Rules.{rules}
 use mir.Syntax.{w64}
@@ -15,37 +14,37 @@ use Rattle.stepping.proofs.assign.Goals as goal
 pub returns-in_default : goal.returns-in_default
 unfolding assigned
 returns-in_default c = λ output.
-    shows_lost_place _ (seen c.new-view.result c.new-view.ensures _ c.locate-found.ensures) (opened c.in_default.in_default-own.keys2)
+    shows_lost_place _ (seen c.new-view.result c.new-view.ensures _ c.locate-found.ensures) c.in_default.not-Ok
     c.lost_place.ensures c.ended_by.ensures
 
 pub is_single-requires : goal.is_single-requires
 is_single-requires c =
-    (find_within c.args.loaded.now.ready.planned c.requires.0.base _ _ _ (sym (seen c.new-view.result c.new-view.ensures _ c.locate-found.ensures) ∙ c.in-At.is)).typed
+    (find_within c.args.loaded.now.ready.planned c.requires.0.base _ _ _ (sym (seen c.new-view.result c.new-view.ensures _ c.locate-found.ensures) ∙ c.in-Ok.is)).typed
 
 pub returns-in_default-answer : goal.returns-in_default-answer
 unfolding assigned
 returns-in_default-answer c = λ output.
-    shows_place _ (seen c.new-view.result c.new-view.ensures _ c.locate-found.ensures) c.in-At.is
+    shows_place _ (seen c.new-view.result c.new-view.ensures _ c.locate-found.ensures) c.in-Ok.is
     (shows_yes _ (rw (← c.is_single.ensures) c.if-is_single.true)
-    (shows_lost_value _ (c.fresh-answer.ensures ∙ valued c.new-view.result c.new-view.ensures _ c.eval.ensures) (opened c.in_default-answer.in_default-answer-own.keys2)
+    (shows_lost_value _ (c.fresh-answer.ensures ∙ valued c.new-view.result c.new-view.ensures _ c.eval.ensures) c.in_default-answer.not-Ok
     c.lost_value.ensures c.ended_by-in_default-answer.ensures))
 
 pub returns-then-is_single : goal.returns-then-is_single
 unfolding assigned bare
 returns-then-is_single c = λ output.
     let fits : SFits w64 c.number_of.result = search rules in
-    shows_place _ (seen c.new-view.result c.new-view.ensures _ c.locate-found.ensures) c.in-At.is
+    shows_place _ (seen c.new-view.result c.new-view.ensures _ c.locate-found.ensures) c.in-Ok.is
     (shows_yes _ (rw (← c.is_single.ensures) c.if-is_single.true)
-    (shows_value _ (c.fresh-answer.ensures ∙ valued c.new-view.result c.new-view.ensures _ c.eval.ensures) c.in-Val.is
+    (shows_value _ (c.fresh-answer.ensures ∙ valued c.new-view.result c.new-view.ensures _ c.eval.ensures) c.in-Ok.is
     (rw (plain64 _ fits, c.number_of.ensures) at (c.write_cell.ensures output))))
 
 pub returns-in_default-origin : goal.returns-in_default-origin
 unfolding assigned
 returns-in_default-origin c = λ output.
-    shows_place _ (seen c.new-view.result c.new-view.ensures _ c.locate-found.ensures) c.in-At.is
+    shows_place _ (seen c.new-view.result c.new-view.ensures _ c.locate-found.ensures) c.in-Ok.is
     (shows_no _ (rw (← c.is_single.ensures) c.if-is_single.false)
     (shows_lost_place _ (c.fresh_place-origin.ensures ∙ seen c.new-view.result c.new-view.ensures _ c.find.ensures)
-    (opened c.in_default-origin.in_default-origin-own.keys2)
+    c.in_default-origin.not-Ok
     c.lost_place-in_default-origin.ensures c.ended_by-in_default-origin.ensures))
 
 pub copy_object-requires : goal.copy_object-requires
@@ -54,14 +53,14 @@ copy_object-requires c =
     let low = c.requires.0.base in (
       c.requires.0,
       c.requires.1,
-      find_within planned low _ _ _ (sym (seen c.new-view.result c.new-view.ensures _ c.locate-found.ensures) ∙ c.in-At.is),
-      find_within planned low _ _ _ (sym (c.fresh_place-origin.ensures ∙ seen c.new-view.result c.new-view.ensures _ c.find.ensures) ∙ c.in-At-origin.is),
+      find_within planned low _ _ _ (sym (seen c.new-view.result c.new-view.ensures _ c.locate-found.ensures) ∙ c.in-Ok.is),
+      find_within planned low _ _ _ (sym (c.fresh_place-origin.ensures ∙ seen c.new-view.result c.new-view.ensures _ c.find.ensures) ∙ c.in-Ok-origin.is),
     )
 
 pub returns : goal.returns
 unfolding assigned
 returns c = λ output.
-    shows_place _ (seen c.new-view.result c.new-view.ensures _ c.locate-found.ensures) c.in-At.is
+    shows_place _ (seen c.new-view.result c.new-view.ensures _ c.locate-found.ensures) c.in-Ok.is
     (shows_no _ (rw (← c.is_single.ensures) c.if-is_single.false)
     (shows_place _ (c.fresh_place-origin.ensures ∙ seen c.new-view.result c.new-view.ensures _ c.find.ensures)
-    c.in-At-origin.is (c.copy_object.ensures output)))
+    c.in-Ok-origin.is (c.copy_object.ensures output)))

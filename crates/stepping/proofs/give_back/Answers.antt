@@ -25,20 +25,20 @@ unfolding returned
 returns-in_default-mark_at c = λ output.
     rw (← c.procedure_of-procedure.ensures)
     (shows_no _ (ne_eqb _ 0 c.if-procedure-eq0.false)
-    (shows_mark _ (c.mark_at.ensures LINK) c.in-Number.is
+    (shows_mark _ (c.mark_at.ensures LINK) c.in-Some.is
     (shows_no_mark _ (c.mark_at-2.ensures LINK) c.in_default-mark_at.is)))
 
 pub returns : goal.returns
 unfolding returned
 returns c = λ output.
-    let linked = sym (c.mark_at-2.ensures LINK) ∙ c.in-Number-mark_at.is in
+    let linked = sym (c.mark_at-2.ensures LINK) ∙ c.in-Some-mark_at.is in
     let below = mark_below bare _ _ LINK (c.args.s.base + 2) linked in
     rw (← c.procedure_of-procedure.ensures)
     (shows_no _ (ne_eqb _ 0 c.if-procedure-eq0.false)
-    (shows_mark _ (c.mark_at.ensures LINK) c.in-Number.is
-    (shows_mark _ (c.mark_at-2.ensures LINK) c.in-Number-mark_at.is
+    (shows_mark _ (c.mark_at.ensures LINK) c.in-Some.is
+    (shows_mark _ (c.mark_at-2.ensures LINK) c.in-Some-mark_at.is
     (shows_goes refl (record {
-      row = omega (arith, c.in-Number.known_told-1-own.given);
-      base = omega (arith, c.in-Number-mark_at.known_told-in-Number-mark_at-2-1-own.given);
+      row = omega (arith, c.in-Some.known_told-1-own.given);
+      base = omega (arith, c.in-Some-mark_at.known_told-in-Some-mark_at-2-1-own.given);
       top = omega (arith, below, c.requires.0.top);
     })))))

@@ -1,4 +1,3 @@
-use borrow.Enum.Refused.{opened}
 use mathlib.Core.Path.{refl, ap}
 use native.Mathlib.Omega.{arith}
 use borrow.Author.Tests.{lt-ltb, le-ltb}
@@ -18,19 +17,19 @@ use Rattle.stepping.proofs.receive.Goals as goal
 pub returns-in_default : goal.returns-in_default
 unfolding received
 returns-in_default c = λ output.
-    shows_lost_place _ (seen c.new.result c.new.ensures _ c.find-found.ensures) (opened c.in_default.in_default-own.keys2)
+    shows_lost_place _ (seen c.new.result c.new.ensures _ c.find-found.ensures) c.in_default.not-Ok
     c.lost_place.ensures c.ended_by.ensures
 
 pub returns-then-input-s : goal.returns-then-input-s
 unfolding received
 returns-then-input-s c = λ output.
-    shows_place _ (seen c.new.result c.new.ensures _ c.find-found.ensures) c.in-At.is
+    shows_place _ (seen c.new.result c.new.ensures _ c.find-found.ensures) c.in-Ok.is
     (shows_no _ (le-ltb _ _ c.if-input-s.true) (shows_trap refl refl))
 
 pub returns-then-s-target : goal.returns-then-s-target
 unfolding received after_read
 returns-then-s-target c = λ output.
-    shows_place _ (seen c.new.result c.new.ensures _ c.find-found.ensures) c.in-At.is
+    shows_place _ (seen c.new.result c.new.ensures _ c.find-found.ensures) c.in-Ok.is
     (shows_yes _ (lt-ltb _ _ c.if-input-s.false)
     (shows_by (ap after_read (not_written _ _ _ (omega arith))) (shows_stuck refl refl)))
 
@@ -44,7 +43,7 @@ unfolding received
 returns c = λ output.
     let fits : SFits w32 (get_or c.args.input.now c.args.s.read (pos 0)) = search rules in
     shows_place _ (seen c.new.result c.new.ensures _ c.find-found.ensures)
-    c.in-At.is
+    c.in-Ok.is
     (shows_yes _ (lt-ltb _ _ c.if-input-s.false)
     (shows_read _ _ c.requires.0 c.requires.1 c.if-s-target.false fits
     (rw (wide _ fits) at c.put.ensures)))

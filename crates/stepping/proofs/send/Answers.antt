@@ -16,19 +16,19 @@ use Rattle.stepping.proofs.send.Goals as goal
 pub returns-in_default : goal.returns-in_default
 unfolding sent
 returns-in_default c =
-    shows_lost_value _ (valued c.new.result c.new.ensures _ c.eval-answer.ensures) (opened c.in_default.in_default-own.keys2)
+    shows_lost_value _ (valued c.new.result c.new.ensures _ c.eval-answer.ensures) c.in_default.not-Ok
     c.lost_value.ensures c.ended_by.ensures
 
 pub returns-in_default-value : goal.returns-in_default-value
 unfolding sent
 returns-in_default-value c =
-    shows_value _ (valued c.new.result c.new.ensures _ c.eval-answer.ensures) c.in-Val.is
+    shows_value _ (valued c.new.result c.new.ensures _ c.eval-answer.ensures) c.in-Ok.is
     (shows_no_integer _ _ (opened c.in_default-value.in_default-value-own.keys2))
 
 pub returns-then-output-s : goal.returns-then-output-s
 unfolding sent
 returns-then-output-s c =
-    shows_value _ (valued c.new.result c.new.ensures _ c.eval-answer.ensures) c.in-Val.is
+    shows_value _ (valued c.new.result c.new.ensures _ c.eval-answer.ensures) c.in-Ok.is
     (shows_integer _ c.in-Int.is
     (shows_no _ (le-ltb _ _ c.if-output-s.true) (shows_trap refl refl)))
 
@@ -37,7 +37,7 @@ unfolding sent
 returns c =
     let fits : SFits w32 c.in-Int.number = search rules in
     rw (plain32 _ fits)
-    (shows_value _ (valued c.new.result c.new.ensures _ c.eval-answer.ensures) c.in-Val.is
+    (shows_value _ (valued c.new.result c.new.ensures _ c.eval-answer.ensures) c.in-Ok.is
     (shows_integer _ c.in-Int.is
     (shows_yes _ (lt-ltb _ _ c.if-output-s.false) (shows_goes refl (record {
       row = omega (arith, c.requires.1);

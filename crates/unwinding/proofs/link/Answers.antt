@@ -9,4 +9,4 @@ returns-in_default c = sym (ap mark_number (sym (c.mark_at.ensures LINK) ∙ c.i
 
 pub returns : goal.returns
 unfolding mark_number link_at
-returns c = sym (ap mark_number (sym (c.mark_at.ensures LINK) ∙ c.in-Number.is))
+returns c = sym (ap mark_number (sym (c.mark_at.ensures LINK) ∙ c.in-Some.is))

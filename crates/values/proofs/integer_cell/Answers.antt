@@ -3,10 +3,10 @@ use mathlib.Core.Bool.{true}
 use Rattle.prelude.specs.Choice.{choose}
 use Rattle.values.specs.Values.{is_integer, integer_cell}
 use Rattle.values.specs.declared.Value.TheVariants as Vs
-use Rattle.values.specs.declared.Answer.TheVariants as As
 use Rattle.values.proofs.Numbers.{plain32, plain64, integer_fits}
 use Rattle.values.proofs.integer_cell.Goals as goal
 use Rattle.values.proofs.integer_cell.Goals.{Then-is_integer}
+use Rattle.std.specs.Prelude.{Ok}
 
 -- `values::integer_cell` meets its contract: a number in the range fits 32 bits.
 taken : (c : Then-is_integer) → is_integer c.before.before.args.z ≡ true
@@ -19,7 +19,7 @@ pub returns-then-is_integer : goal.returns-then-is_integer
 unfolding integer_cell choose
 returns-then-is_integer c =
     rw (plain64 _ c.ranges.z, taken c)
-    (ap (λ z. As.Val (Vs.Int z)) (plain32 c.args.z (integer_fits _ (taken c))))
+    (ap (λ z. Ok (Vs.Int z)) (plain32 c.args.z (integer_fits _ (taken c))))
 
 pub returns : goal.returns
 unfolding integer_cell choose

@@ -11,11 +11,10 @@ use borrow.Author.Rules.{rules}
 use Rattle.prelude.specs.Choice.{choose}
 use Rattle.image.specs.declared.Row.{Row}
 use Rattle.image.specs.Rows.{row_at}
-use Rattle.values.specs.Values.{bind}
+use Rattle.values.specs.Values.{bind, Answer}
 use Rattle.values.specs.declared.Value.{Value}
 use Rattle.values.specs.declared.Value.TheVariants as Vs
-use Rattle.values.specs.declared.Answer.{Answer}
-use Rattle.values.specs.declared.Answer.TheVariants as As
+use Rattle.values.specs.declared.Stop.TheVariants as St
 use Rattle.values.proofs.Binding.{bind_value, bind_other}
 use Rattle.values.proofs.Numbers.{plain32}
 use Rattle.operators.specs.Operators.{dyadic_of, monadic_of, applied_to, decides}
@@ -24,12 +23,10 @@ use Rattle.operators.proofs.Operands.{not_booleans, not_integer, not_sets}
 use Rattle.shapes.specs.Forms.{kind_in}
 use Rattle.relations.specs.Fields.{field_of}
 use Rattle.semantics.specs.declared.Place.{Place}
-use Rattle.semantics.specs.declared.Found.{Found}
-use Rattle.semantics.specs.declared.Found.TheVariants as Fs
 use Rattle.semantics.specs.Memory.{bare, value_at}
 use Rattle.semantics.specs.Layout.{Program}
 use Rattle.semantics.specs.Finding.{reach, content, index, variable_place, field_place, element_place, array_place}
-use Rattle.semantics.specs.Finding.{guard_place, test_of, designator, Meaning, meaning_by, find_of, eval_of}
+use Rattle.semantics.specs.Finding.{guard_place, test_of, designator, Meaning, meaning_by, find_of, eval_of, Found}
 use Rattle.semantics.specs.Running.{program_of}
 use Rattle.finding.specs.Missed.{no_value}
 use Rattle.finding.proofs.Missed.{reach_object, content_object, reach_other, content_other, index_other}
@@ -37,7 +34,8 @@ use Rattle.finding.proofs.Missed.{index_handed, index_none, index_value, array_s
 use Rattle.finding.proofs.Laws.{lower, find_row, eval_row, find_lower, eval_lower, not_lower, find_other}
 use Rattle.finding.proofs.Low.{find_within, variable_there, field_there, element_there, guard_there}
 use Rattle.finding.proofs.View.+eval_find.Goals as goal
-use Rattle.finding.proofs.View.+eval_find.Goals.{eval-In-Val-right}
+use Rattle.finding.proofs.View.+eval_find.Goals.{eval-In-Ok-right}
+use Rattle.std.specs.Prelude.{Ok, Err}
 
 -- ---- what a node is worth and what it designates, by what is known of it
 
@@ -71,7 +69,7 @@ module _ (g : Program) (base top : ℕ) (store : List ℤ) (r : ℕ) (row : Row)
   held x = content x (λ place. value_at bare top store (kind_in g.types place.declared) place.address)
 
   -- what is no object holds nothing, whatever would follow from it
-  lost : {x : Found} → ((p : Place) → x ≡ Fs.At p → ⊥) → (next : Place → Found) → held (reach x next) ≡ no_value x
+  lost : {x : Found} → ((p : Place) → x ≡ Ok p → ⊥) → (next : Place → Found) → held (reach x next) ≡ no_value x
   lost none next = ap held (reach_other _ none next) ∙ content_other _ none _
 
   -- a node of a kind
@@ -93,14 +91,14 @@ module _ (g : Program) (base top : ℕ) (store : List ℤ) (r : ℕ) (row : Row)
     unfolding meaning_by designator choose
     at_whole = at_row 2 kind ∙ rw (find_lower _ _ _ _ _ _ _ less f)
 
-    at_whole_lost : ((p : Place) → x ≡ Fs.At p → ⊥) → worth ≡ no_value x
+    at_whole_lost : ((p : Place) → x ≡ Ok p → ⊥) → worth ≡ no_value x
     at_whole_lost none = at_whole ∙ lost none field
 
     f_whole : found ≡ reach x field
     unfolding meaning_by designator choose
     f_whole = f_row 2 kind ∙ rw (find_lower _ _ _ _ _ _ _ less f)
 
-    module _ {owner : Place} (o : x ≡ Fs.At owner) where
+    module _ {owner : Place} (o : x ≡ Ok owner) where
       at_record : worth ≡ held (field owner)
       at_record = at_whole ∙ ap held (reach_object o _)
 
@@ -118,18 +116,18 @@ module _ (g : Program) (base top : ℕ) (store : List ℤ) (r : ℕ) (row : Row)
     unfolding meaning_by designator choose
     at_list = at_row 3 kind ∙ rw (find_lower _ _ _ _ _ _ _ less f)
 
-    at_list_lost : ((p : Place) → x ≡ Fs.At p → ⊥) → worth ≡ no_value x
+    at_list_lost : ((p : Place) → x ≡ Ok p → ⊥) → worth ≡ no_value x
     at_list_lost none = at_list ∙ lost none (element (low row.b).value)
 
     f_list : found ≡ reach x (element (low row.b).value)
     unfolding meaning_by designator choose
     f_list = f_row 3 kind ∙ rw (find_lower _ _ _ _ _ _ _ less f)
 
-    module _ {array : Place} (o : x ≡ Fs.At array) where
+    module _ {array : Place} (o : x ≡ Ok array) where
       at_array : worth ≡ held (element (low row.b).value array)
       at_array = at_list ∙ ap held (reach_object o _)
 
-      at_no_array : (type : Row) → type ≡ row_at g.types array.declared → (type.kind ≡ 3 → ⊥) → worth ≡ As.Stuck
+      at_no_array : (type : Row) → type ≡ row_at g.types array.declared → (type.kind ≡ 3 → ⊥) → worth ≡ Err St.Stuck
       unfolding content
       at_no_array type is none =
           at_array ∙ ap held (array_none _ _ _ (λ e. none (ap (λ (x : Row). x.kind) is ∙ e)))
@@ -148,14 +146,14 @@ module _ (g : Program) (base top : ℕ) (store : List ℤ) (r : ℕ) (row : Row)
         at_index : worth ≡ held (index y (element_place g array type))
         at_index = at_array ∙ ap held element_at
 
-        at_no_integer : {v : Value} → y ≡ As.Val v → ((z : ℤ) → v ≡ Vs.Int z → ⊥) → worth ≡ As.Stuck
+        at_no_integer : {v : Value} → y ≡ Ok v → ((z : ℤ) → v ≡ Vs.Int z → ⊥) → worth ≡ Err St.Stuck
         unfolding content
         at_no_integer value none = at_index ∙ ap held (index_none _ value none _)
 
         f_index : found ≡ index y (element_place g array type)
         f_index = f_array ∙ element_at
 
-        module _ {v : Value} {i : ℤ} (value : y ≡ As.Val v) (integer : v ≡ Vs.Int i) where
+        module _ {v : Value} {i : ℤ} (value : y ≡ Ok v) (integer : v ≡ Vs.Int i) where
           at_element : {part : Found} → part ≡ element_place g array type i → worth ≡ held part
           at_element p = at_index ∙ ap held (index_value value integer _ ∙ sym p)
 
@@ -169,14 +167,14 @@ module _ (g : Program) (base top : ℕ) (store : List ℤ) (r : ℕ) (row : Row)
     unfolding meaning_by designator choose
     at_guarded = at_row 4 kind ∙ rw (← f)
 
-    at_guarded_lost : ((p : Place) → x ≡ Fs.At p → ⊥) → worth ≡ no_value x
+    at_guarded_lost : ((p : Place) → x ≡ Ok p → ⊥) → worth ≡ no_value x
     at_guarded_lost none = at_guarded ∙ lost none (guard_place g row.b)
 
     f_guarded : found ≡ reach x (guard_place g row.b)
     unfolding meaning_by designator choose
     f_guarded = f_row 4 kind ∙ rw (← f)
 
-    at_narrowed : {whole : Place} → x ≡ Fs.At whole → {y : Found} → y ≡ guard_place g row.b whole → worth ≡ held y
+    at_narrowed : {whole : Place} → x ≡ Ok whole → {y : Found} → y ≡ guard_place g row.b whole → worth ≡ held y
     at_narrowed o n = at_guarded ∙ ap held (reach_object o _ ∙ sym n)
 
   -- a dyadic operator: the left operand, and then the right one
@@ -185,7 +183,7 @@ module _ (g : Program) (base top : ℕ) (store : List ℤ) (r : ℕ) (row : Row)
     unfolding meaning_by choose
     at_left = at_row 5 kind ∙ rw (eval_lower _ _ _ _ _ _ _ less e)
 
-    module _ {v : Value} (left : x ≡ As.Val v) where
+    module _ {v : Value} (left : x ≡ Ok v) where
       at_operator : worth ≡ applied_to row.c v (low row.b).value
       at_operator = at_left ∙ bind_value left _
 
@@ -195,7 +193,7 @@ module _ (g : Program) (base top : ℕ) (store : List ℤ) (r : ℕ) (row : Row)
         unfolding applied_to choose
         at_right = at_operator ∙ rw (no, eval_lower _ _ _ _ _ _ _ lower-b f)
 
-        at_operands : {w : Value} → y ≡ As.Val w → worth ≡ dyadic_of row.c v w
+        at_operands : {w : Value} → y ≡ Ok w → worth ≡ dyadic_of row.c v w
         at_operands right = at_right ∙ bind_value right _
 
   -- a monadic operator, and an argument
@@ -214,14 +212,14 @@ module _ (g : Program) (base top : ℕ) (store : List ℤ) (r : ℕ) (row : Row)
 -- ---- eval
 
 -- behind both operands' values
-operands : {t : ℕ} (c : eval-In-Val-right t)
+operands : {t : ℕ} (c : eval-In-Ok-right t)
     → eval_of bare (program_of c.args.self.now.loaded.image.now) c.args.self.now.base c.args.self.now.top
     c.args.self.now.store.now c.args.r
-    ≡ dyadic_of c.node_at-node.result.c c.in-Val-left.x c.in-Val-right.y
+    ≡ dyadic_of c.node_at-node.result.c c.in-Ok-left.x c.in-Ok-right.y
 operands c =
     at_operands _ _ _ _ _ _ c.node_at-node.ensures c.in-5.is c.if-r-first-3.false
-    (c.fresh-left.ensures ∙ c.eval-in-5.ensures) c.in-Val-left.is (sym c.decides.ensures ∙ c.if-decides.false)
-    c.if-r-second-2.false (c.fresh-right.ensures ∙ c.eval-in-5-2.ensures) c.in-Val-right.is
+    (c.fresh-left.ensures ∙ c.eval-in-5.ensures) c.in-Ok-left.is (sym c.decides.ensures ∙ c.if-decides.false)
+    c.if-r-second-2.false (c.fresh-right.ensures ∙ c.eval-in-5-2.ensures) c.in-Ok-right.is
 
 pub eval-returns-in-0 : goal.eval-returns-in-0
 unfolding meaning_by choose
@@ -236,13 +234,13 @@ eval-returns-in_default-variable t c =
 pub eval-load-requires : goal.eval-load-requires
 eval-load-requires t c =
     let s = c.args.self.now in
-    variable_there s.loaded.ready.planned c.in-At.is _ _ _ s.low _ c.variable_place-variable.ensures
+    variable_there s.loaded.ready.planned c.in-Ok.is _ _ _ s.low _ c.variable_place-variable.ensures
 
-pub eval-returns-in-At : goal.eval-returns-in-At
-eval-returns-in-At t c =
+pub eval-returns-in-Ok : goal.eval-returns-in-Ok
+eval-returns-in-Ok t c =
     c.fresh.ensures ∙ c.load.ensures
     ∙ sym (at_variable _ _ _ _ _ _ c.node_at-node.ensures c.in-1.is c.variable_place-variable.ensures
-    ∙ content_object c.in-At.is _)
+    ∙ content_object c.in-Ok.is _)
 
 pub eval-returns-then-r-first : goal.eval-returns-then-r-first
 unfolding meaning_by designator choose content reach
@@ -258,7 +256,7 @@ eval-returns-in_default-whole t c =
 pub eval-field_place-requires : goal.eval-field_place-requires
 eval-field_place-requires t c =
     let s = c.args.self.now in (
-      find_within s.loaded.ready.planned s.low _ _ _ (sym (c.fresh_place-whole.ensures ∙ c.find.ensures) ∙ c.in-At-whole.is),
+      find_within s.loaded.ready.planned s.low _ _ _ (sym (c.fresh_place-whole.ensures ∙ c.find.ensures) ∙ c.in-Ok-whole.is),
       rw (← c.node_at-node.ensures) c.in-2.is,
     )
 
@@ -266,22 +264,22 @@ pub eval-returns-in_default-part : goal.eval-returns-in_default-part
 eval-returns-in_default-part t c =
     c.no_value-in_default-part.ensures
     ∙ sym (at_part _ _ _ _ _ _ c.node_at-node.ensures c.in-2.is c.if-r-first.false
-    (c.fresh_place-whole.ensures ∙ c.find.ensures) c.in-At-whole.is
+    (c.fresh_place-whole.ensures ∙ c.find.ensures) c.in-Ok-whole.is
     (c.fresh_place-part.ensures ∙ c.field_place.ensures)
     ∙ content_other _ c.in_default-part.not-At _)
 
 pub eval-load-requires-in-2 : goal.eval-load-requires-in-2
 eval-load-requires-in-2 t c =
     let s = c.args.self.now in
-    field_there s.loaded.ready.planned c.in-At-part.is _ _ _ (c.fresh_place-part.ensures ∙ c.field_place.ensures)
+    field_there s.loaded.ready.planned c.in-Ok-part.is _ _ _ (c.fresh_place-part.ensures ∙ c.field_place.ensures)
 
-pub eval-returns-in-At-part : goal.eval-returns-in-At-part
-eval-returns-in-At-part t c =
+pub eval-returns-in-Ok-part : goal.eval-returns-in-Ok-part
+eval-returns-in-Ok-part t c =
     c.fresh-in-2.ensures ∙ c.load-in-2.ensures
     ∙ sym (at_part _ _ _ _ _ _ c.node_at-node.ensures c.in-2.is c.if-r-first.false
-    (c.fresh_place-whole.ensures ∙ c.find.ensures) c.in-At-whole.is
+    (c.fresh_place-whole.ensures ∙ c.find.ensures) c.in-Ok-whole.is
     (c.fresh_place-part.ensures ∙ c.field_place.ensures)
-    ∙ content_object c.in-At-part.is _)
+    ∙ content_object c.in-Ok-part.is _)
 
 pub eval-returns-then-r-first-2 : goal.eval-returns-then-r-first-2
 unfolding meaning_by designator choose content reach
@@ -297,32 +295,32 @@ eval-returns-in_default-list t c =
 pub eval-returns-then-row-ne3 : goal.eval-returns-then-row-ne3
 eval-returns-then-row-ne3 t c =
     sym (at_no_array _ _ _ _ _ _ c.node_at-node.ensures c.in-3.is c.if-r-first-2.false
-    (c.fresh_place-list.ensures ∙ c.find-in-3.ensures) c.in-At-list.is _ c.type_at-row.ensures c.if-row-ne3.true)
+    (c.fresh_place-list.ensures ∙ c.find-in-3.ensures) c.in-Ok-list.is _ c.type_at-row.ensures c.if-row-ne3.true)
 
 pub eval-returns-then-r-second : goal.eval-returns-then-r-second
 unfolding content
 eval-returns-then-r-second t c =
     sym (at_array _ _ _ _ _ _ c.node_at-node.ensures c.in-3.is c.if-r-first-2.false
-    (c.fresh_place-list.ensures ∙ c.find-in-3.ensures) c.in-At-list.is
+    (c.fresh_place-list.ensures ∙ c.find-in-3.ensures) c.in-Ok-list.is
     ∙ rw (not_lower _ _ _ _ _ _ _ c.if-r-second.true, array_stuck _ _))
 
 pub eval-returns-in_default-index : goal.eval-returns-in_default-index
 eval-returns-in_default-index t c =
     sym (at_index _ _ _ _ _ _ c.node_at-node.ensures c.in-3.is c.if-r-first-2.false
-    (c.fresh_place-list.ensures ∙ c.find-in-3.ensures) c.in-At-list.is _ c.type_at-row.ensures c.if-row-ne3.false
+    (c.fresh_place-list.ensures ∙ c.find-in-3.ensures) c.in-Ok-list.is _ c.type_at-row.ensures c.if-row-ne3.false
     c.if-r-second.false (c.fresh-index.ensures ∙ c.eval.ensures)
     ∙ index_handed _ c.in_default-index.not-Val _ _)
 
 pub eval-returns-in_default-value : goal.eval-returns-in_default-value
 eval-returns-in_default-value t c =
     sym (at_no_integer _ _ _ _ _ _ c.node_at-node.ensures c.in-3.is c.if-r-first-2.false
-    (c.fresh_place-list.ensures ∙ c.find-in-3.ensures) c.in-At-list.is _ c.type_at-row.ensures c.if-row-ne3.false
-    c.if-r-second.false (c.fresh-index.ensures ∙ c.eval.ensures) c.in-Val.is c.in_default-value.not-Int)
+    (c.fresh_place-list.ensures ∙ c.find-in-3.ensures) c.in-Ok-list.is _ c.type_at-row.ensures c.if-row-ne3.false
+    c.if-r-second.false (c.fresh-index.ensures ∙ c.eval.ensures) c.in-Ok.is c.in_default-value.not-Int)
 
 pub eval-element_place-requires : goal.eval-element_place-requires
 eval-element_place-requires t c =
     let s = c.args.self.now in (
-      find_within s.loaded.ready.planned s.low _ _ _ (sym (c.fresh_place-list.ensures ∙ c.find-in-3.ensures) ∙ c.in-At-list.is),
+      find_within s.loaded.ready.planned s.low _ _ _ (sym (c.fresh_place-list.ensures ∙ c.find-in-3.ensures) ∙ c.in-Ok-list.is),
       c.type_at-row.ensures,
       c.if-row-ne3.false,
     )
@@ -331,25 +329,25 @@ pub eval-returns-in_default-element : goal.eval-returns-in_default-element
 eval-returns-in_default-element t c =
     c.no_value-in_default-element.ensures
     ∙ sym (at_element _ _ _ _ _ _ c.node_at-node.ensures c.in-3.is c.if-r-first-2.false
-    (c.fresh_place-list.ensures ∙ c.find-in-3.ensures) c.in-At-list.is _ c.type_at-row.ensures c.if-row-ne3.false
-    c.if-r-second.false (c.fresh-index.ensures ∙ c.eval.ensures) c.in-Val.is c.in-Int.is
+    (c.fresh_place-list.ensures ∙ c.find-in-3.ensures) c.in-Ok-list.is _ c.type_at-row.ensures c.if-row-ne3.false
+    c.if-r-second.false (c.fresh-index.ensures ∙ c.eval.ensures) c.in-Ok.is c.in-Int.is
     (c.fresh_place-element.ensures ∙ c.element_place.ensures ∙ ap (element_place _ _ _) (plain32 c.in-Int.i (search rules)))
     ∙ content_other _ c.in_default-element.not-At _)
 
 pub eval-load-requires-in-3 : goal.eval-load-requires-in-3
 eval-load-requires-in-3 t c =
     let s = c.args.self.now in
-    element_there s.loaded.ready.planned c.in-At-element.is _ _ c.type_at-row.ensures c.if-row-ne3.false
+    element_there s.loaded.ready.planned c.in-Ok-element.is _ _ c.type_at-row.ensures c.if-row-ne3.false
     (c.fresh_place-element.ensures ∙ c.element_place.ensures)
 
-pub eval-returns-in-At-element : goal.eval-returns-in-At-element
-eval-returns-in-At-element t c =
+pub eval-returns-in-Ok-element : goal.eval-returns-in-Ok-element
+eval-returns-in-Ok-element t c =
     c.fresh-in-3.ensures ∙ c.load-in-3.ensures
     ∙ sym (at_element _ _ _ _ _ _ c.node_at-node.ensures c.in-3.is c.if-r-first-2.false
-    (c.fresh_place-list.ensures ∙ c.find-in-3.ensures) c.in-At-list.is _ c.type_at-row.ensures c.if-row-ne3.false
-    c.if-r-second.false (c.fresh-index.ensures ∙ c.eval.ensures) c.in-Val.is c.in-Int.is
+    (c.fresh_place-list.ensures ∙ c.find-in-3.ensures) c.in-Ok-list.is _ c.type_at-row.ensures c.if-row-ne3.false
+    c.if-r-second.false (c.fresh-index.ensures ∙ c.eval.ensures) c.in-Ok.is c.in-Int.is
     (c.fresh_place-element.ensures ∙ c.element_place.ensures ∙ ap (element_place _ _ _) (plain32 c.in-Int.i (search rules)))
-    ∙ content_object c.in-At-element.is _)
+    ∙ content_object c.in-Ok-element.is _)
 
 pub eval-returns-in_default-guarded : goal.eval-returns-in_default-guarded
 eval-returns-in_default-guarded t c =
@@ -360,21 +358,21 @@ eval-returns-in_default-guarded t c =
 pub eval-returns-in_default-narrowed : goal.eval-returns-in_default-narrowed
 eval-returns-in_default-narrowed t c =
     c.no_value-in_default-narrowed.ensures
-    ∙ sym (at_narrowed _ _ _ _ _ _ c.node_at-node.ensures c.in-4.is c.variable_place-guarded.ensures c.in-At-guarded.is
+    ∙ sym (at_narrowed _ _ _ _ _ _ c.node_at-node.ensures c.in-4.is c.variable_place-guarded.ensures c.in-Ok-guarded.is
     c.guard_place-narrowed.ensures
     ∙ content_other _ c.in_default-narrowed.not-At _)
 
 pub eval-load-requires-in-4 : goal.eval-load-requires-in-4
 eval-load-requires-in-4 t c =
     let s = c.args.self.now in
-    guard_there s.loaded.ready.planned c.in-At-narrowed.is _ _ c.node_at-node.ensures c.in-4.is c.guard_place-narrowed.ensures
+    guard_there s.loaded.ready.planned c.in-Ok-narrowed.is _ _ c.node_at-node.ensures c.in-4.is c.guard_place-narrowed.ensures
 
-pub eval-returns-in-At-narrowed : goal.eval-returns-in-At-narrowed
-eval-returns-in-At-narrowed t c =
+pub eval-returns-in-Ok-narrowed : goal.eval-returns-in-Ok-narrowed
+eval-returns-in-Ok-narrowed t c =
     c.fresh-in-4.ensures ∙ c.load-in-4.ensures
-    ∙ sym (at_narrowed _ _ _ _ _ _ c.node_at-node.ensures c.in-4.is c.variable_place-guarded.ensures c.in-At-guarded.is
+    ∙ sym (at_narrowed _ _ _ _ _ _ c.node_at-node.ensures c.in-4.is c.variable_place-guarded.ensures c.in-Ok-guarded.is
     c.guard_place-narrowed.ensures
-    ∙ content_object c.in-At-narrowed.is _)
+    ∙ content_object c.in-Ok-narrowed.is _)
 
 pub eval-returns-then-r-first-3 : goal.eval-returns-then-r-first-3
 unfolding meaning_by choose bind
@@ -392,7 +390,7 @@ unfolding applied_to choose
 eval-returns-then-decides t c =
     sym
     (at_operator _ _ _ _ _ _ c.node_at-node.ensures c.in-5.is c.if-r-first-3.false
-    (c.fresh-left.ensures ∙ c.eval-in-5.ensures) c.in-Val-left.is
+    (c.fresh-left.ensures ∙ c.eval-in-5.ensures) c.in-Ok-left.is
     ∙ rw (sym c.decides.ensures ∙ c.if-decides.true))
 
 pub eval-returns-then-r-second-2 : goal.eval-returns-then-r-second-2
@@ -400,54 +398,54 @@ unfolding applied_to choose bind
 eval-returns-then-r-second-2 t c =
     sym
     (at_operator _ _ _ _ _ _ c.node_at-node.ensures c.in-5.is c.if-r-first-3.false
-    (c.fresh-left.ensures ∙ c.eval-in-5.ensures) c.in-Val-left.is
+    (c.fresh-left.ensures ∙ c.eval-in-5.ensures) c.in-Ok-left.is
     ∙ rw (sym c.decides.ensures ∙ c.if-decides.false, not_lower _ _ _ _ _ _ _ c.if-r-second-2.true))
 
 pub eval-returns-in_default-right : goal.eval-returns-in_default-right
 eval-returns-in_default-right t c =
     sym (at_right _ _ _ _ _ _ c.node_at-node.ensures c.in-5.is c.if-r-first-3.false
-    (c.fresh-left.ensures ∙ c.eval-in-5.ensures) c.in-Val-left.is (sym c.decides.ensures ∙ c.if-decides.false)
+    (c.fresh-left.ensures ∙ c.eval-in-5.ensures) c.in-Ok-left.is (sym c.decides.ensures ∙ c.if-decides.false)
     c.if-r-second-2.false (c.fresh-right.ensures ∙ c.eval-in-5-2.ensures)
     ∙ bind_other _ (opened c.in_default-right.in_default-right-own.keys2) _)
 
 pub eval-returns-in_default-y : goal.eval-returns-in_default-y
 eval-returns-in_default-y t c =
-    sym (operands (goal.at.eval-returns-in_default-y t c).In-Val-right
+    sym (operands (goal.at.eval-returns-in_default-y t c).In-Ok-right
     ∙ rw c.in-Bool.is (not_booleans _ _ _ (opened c.in_default-y.in_default-y-own.keys2)))
 
 pub eval-returns-in_default-y-2 : goal.eval-returns-in_default-y-2
 eval-returns-in_default-y-2 t c =
-    sym (operands (goal.at.eval-returns-in_default-y-2 t c).In-Val-right
+    sym (operands (goal.at.eval-returns-in_default-y-2 t c).In-Ok-right
     ∙ rw c.in-Set.is (not_sets _ _ _ (opened c.in_default-y-2.in_default-y-2-own.keys2)))
 
 pub eval-returns-in-Bool-y : goal.eval-returns-in-Bool-y
 eval-returns-in-Bool-y t c =
     c.booleans.ensures
-    ∙ sym (operands (goal.at.eval-returns-in-Bool-y t c).In-Val-right
+    ∙ sym (operands (goal.at.eval-returns-in-Bool-y t c).In-Ok-right
     ∙ rw (c.in-Bool.is, c.in-Bool-y.is) (two_booleans _ _ _))
 
 pub eval-returns-in-Bool-y-2 : goal.eval-returns-in-Bool-y-2
 eval-returns-in-Bool-y-2 t c =
-    sym (operands (goal.at.eval-returns-in-Bool-y-2 t c).In-Val-right
+    sym (operands (goal.at.eval-returns-in-Bool-y-2 t c).In-Ok-right
     ∙ rw (c.in-Int-x.is, c.in-Bool-y-2.is) (not_integer _ _ _))
 
 pub eval-returns-in-Int-y : goal.eval-returns-in-Int-y
 eval-returns-in-Int-y t c =
     c.integers.ensures
-    ∙ sym (operands (goal.at.eval-returns-in-Int-y t c).In-Val-right
+    ∙ sym (operands (goal.at.eval-returns-in-Int-y t c).In-Ok-right
     ∙ rw (c.in-Int-x.is, c.in-Int-y.is, plain32 c.in-Int-x.i (search rules), plain32 c.in-Int-y.j (search rules))
     (two_integers _ _ _))
 
 pub eval-returns-in-Set-y : goal.eval-returns-in-Set-y
 eval-returns-in-Set-y t c =
     c.membership.ensures
-    ∙ sym (operands (goal.at.eval-returns-in-Set-y t c).In-Val-right
+    ∙ sym (operands (goal.at.eval-returns-in-Set-y t c).In-Ok-right
     ∙ rw (c.in-Int-x.is, c.in-Set-y.is, plain32 c.in-Int-x.i (search rules)) (integer_and_set _ _ _))
 
 pub eval-returns-in-Set-y-2 : goal.eval-returns-in-Set-y-2
 eval-returns-in-Set-y-2 t c =
     c.sets.ensures
-    ∙ sym (operands (goal.at.eval-returns-in-Set-y-2 t c).In-Val-right
+    ∙ sym (operands (goal.at.eval-returns-in-Set-y-2 t c).In-Ok-right
     ∙ rw (c.in-Set.is, c.in-Set-y-2.is) (two_sets _ _ _))
 
 pub eval-returns-then-r-first-4 : goal.eval-returns-then-r-first-4
@@ -470,12 +468,12 @@ eval-returns-in_default-operand t c =
     (c.fresh-operand.ensures ∙ c.eval-in-6.ensures)
     ∙ bind_other _ (opened c.in_default-operand.in_default-operand-own.keys2) _)
 
-pub eval-returns-in-Val-operand : goal.eval-returns-in-Val-operand
-eval-returns-in-Val-operand t c =
+pub eval-returns-in-Ok-operand : goal.eval-returns-in-Ok-operand
+eval-returns-in-Ok-operand t c =
     c.fresh-in-6.ensures ∙ c.monadic.ensures
     ∙ sym (at_operand _ _ _ _ _ _ c.node_at-node.ensures c.in-6.is c.if-node-eq8.false c.if-r-first-4.false
     (c.fresh-operand.ensures ∙ c.eval-in-6.ensures)
-    ∙ bind_value c.in-Val-operand.is _)
+    ∙ bind_value c.in-Ok-operand.is _)
 
 pub eval-returns-in_default-tested : goal.eval-returns-in_default-tested
 eval-returns-in_default-tested t c =
@@ -483,11 +481,11 @@ eval-returns-in_default-tested t c =
     ∙ sym (at_tested _ _ _ _ _ _ c.node_at-node.ensures c.in-7.is c.variable_place-tested.ensures
     ∙ content_other _ c.in_default-tested.not-At _)
 
-pub eval-returns-in-At-tested : goal.eval-returns-in-At-tested
-eval-returns-in-At-tested t c =
+pub eval-returns-in-Ok-tested : goal.eval-returns-in-Ok-tested
+eval-returns-in-Ok-tested t c =
     c.type_test.ensures
     ∙ sym (at_tested _ _ _ _ _ _ c.node_at-node.ensures c.in-7.is c.variable_place-tested.ensures
-    ∙ content_object c.in-At-tested.is _)
+    ∙ content_object c.in-Ok-tested.is _)
 
 pub eval-returns-in_default : goal.eval-returns-in_default
 unfolding meaning_by choose
@@ -528,14 +526,14 @@ find-returns-in_default-whole t c =
 pub find-field_place-requires : goal.find-field_place-requires
 find-field_place-requires t c =
     let s = c.args.self.now in (
-      find_within s.loaded.ready.planned s.low _ _ _ (sym (c.fresh_place-whole.ensures ∙ c.find.ensures) ∙ c.in-At.is),
+      find_within s.loaded.ready.planned s.low _ _ _ (sym (c.fresh_place-whole.ensures ∙ c.find.ensures) ∙ c.in-Ok.is),
       rw (← c.node_at-node.ensures) c.in-2.is,
     )
 
-pub find-returns-in-At : goal.find-returns-in-At
-find-returns-in-At t c =
+pub find-returns-in-Ok : goal.find-returns-in-Ok
+find-returns-in-Ok t c =
     f_part _ _ _ _ _ _ c.node_at-node.ensures c.in-2.is c.if-r-first.false
-    (c.fresh_place-whole.ensures ∙ c.find.ensures) c.in-At.is (c.fresh_place.ensures ∙ c.field_place.ensures)
+    (c.fresh_place-whole.ensures ∙ c.find.ensures) c.in-Ok.is (c.fresh_place.ensures ∙ c.field_place.ensures)
 
 pub find-returns-then-r-first-2 : goal.find-returns-then-r-first-2
 unfolding meaning_by designator choose reach
@@ -551,34 +549,34 @@ find-returns-in_default-list t c =
 pub find-returns-then-row-ne3 : goal.find-returns-then-row-ne3
 find-returns-then-row-ne3 t c =
     sym (f_array _ _ _ _ _ _ c.node_at-node.ensures c.in-3.is c.if-r-first-2.false
-    (c.fresh_place-list.ensures ∙ c.find-in-3.ensures) c.in-At-list.is
+    (c.fresh_place-list.ensures ∙ c.find-in-3.ensures) c.in-Ok-list.is
     ∙ array_none _ _ _ (λ e. c.if-row-ne3.true (ap (λ (x : Row). x.kind) c.type_at-row.ensures ∙ e)))
 
 pub find-returns-then-r-second : goal.find-returns-then-r-second
 find-returns-then-r-second t c =
     sym (f_array _ _ _ _ _ _ c.node_at-node.ensures c.in-3.is c.if-r-first-2.false
-    (c.fresh_place-list.ensures ∙ c.find-in-3.ensures) c.in-At-list.is
+    (c.fresh_place-list.ensures ∙ c.find-in-3.ensures) c.in-Ok-list.is
     ∙ rw (not_lower _ _ _ _ _ _ _ c.if-r-second.true, array_stuck _ _))
 
 pub find-returns-in_default-index : goal.find-returns-in_default-index
 find-returns-in_default-index t c =
     c.no_place.ensures
     ∙ sym (f_index _ _ _ _ _ _ c.node_at-node.ensures c.in-3.is c.if-r-first-2.false
-    (c.fresh_place-list.ensures ∙ c.find-in-3.ensures) c.in-At-list.is _ c.type_at-row.ensures c.if-row-ne3.false
+    (c.fresh_place-list.ensures ∙ c.find-in-3.ensures) c.in-Ok-list.is _ c.type_at-row.ensures c.if-row-ne3.false
     c.if-r-second.false (c.fresh-index.ensures ∙ c.eval.ensures)
     ∙ index_other _ c.in_default-index.not-Val _)
 
 pub find-returns-in_default-value : goal.find-returns-in_default-value
 find-returns-in_default-value t c =
     sym (f_index _ _ _ _ _ _ c.node_at-node.ensures c.in-3.is c.if-r-first-2.false
-    (c.fresh_place-list.ensures ∙ c.find-in-3.ensures) c.in-At-list.is _ c.type_at-row.ensures c.if-row-ne3.false
+    (c.fresh_place-list.ensures ∙ c.find-in-3.ensures) c.in-Ok-list.is _ c.type_at-row.ensures c.if-row-ne3.false
     c.if-r-second.false (c.fresh-index.ensures ∙ c.eval.ensures)
-    ∙ index_none _ c.in-Val.is c.in_default-value.not-Int _)
+    ∙ index_none _ c.in-Ok.is c.in_default-value.not-Int _)
 
 pub find-element_place-requires : goal.find-element_place-requires
 find-element_place-requires t c =
     let s = c.args.self.now in (
-      find_within s.loaded.ready.planned s.low _ _ _ (sym (c.fresh_place-list.ensures ∙ c.find-in-3.ensures) ∙ c.in-At-list.is),
+      find_within s.loaded.ready.planned s.low _ _ _ (sym (c.fresh_place-list.ensures ∙ c.find-in-3.ensures) ∙ c.in-Ok-list.is),
       c.type_at-row.ensures,
       c.if-row-ne3.false,
     )
@@ -586,8 +584,8 @@ find-element_place-requires t c =
 pub find-returns-in-Int : goal.find-returns-in-Int
 find-returns-in-Int t c =
     f_element _ _ _ _ _ _ c.node_at-node.ensures c.in-3.is c.if-r-first-2.false
-    (c.fresh_place-list.ensures ∙ c.find-in-3.ensures) c.in-At-list.is _ c.type_at-row.ensures c.if-row-ne3.false
-    c.if-r-second.false (c.fresh-index.ensures ∙ c.eval.ensures) c.in-Val.is c.in-Int.is
+    (c.fresh_place-list.ensures ∙ c.find-in-3.ensures) c.in-Ok-list.is _ c.type_at-row.ensures c.if-row-ne3.false
+    c.if-r-second.false (c.fresh-index.ensures ∙ c.eval.ensures) c.in-Ok.is c.in-Int.is
     (c.fresh_place-in-3.ensures ∙ c.element_place.ensures ∙ ap (element_place _ _ _) (plain32 c.in-Int.i (search rules)))
 
 pub find-returns-in_default-guarded : goal.find-returns-in_default-guarded
@@ -595,11 +593,11 @@ find-returns-in_default-guarded t c =
     sym (f_guarded _ _ _ _ _ _ c.node_at-node.ensures c.in-4.is c.variable_place-guarded.ensures
     ∙ reach_other _ c.in_default-guarded.not-At _)
 
-pub find-returns-in-At-guarded : goal.find-returns-in-At-guarded
-find-returns-in-At-guarded t c =
+pub find-returns-in-Ok-guarded : goal.find-returns-in-Ok-guarded
+find-returns-in-Ok-guarded t c =
     c.guard_place.ensures
     ∙ sym (f_guarded _ _ _ _ _ _ c.node_at-node.ensures c.in-4.is c.variable_place-guarded.ensures
-    ∙ reach_object c.in-At-guarded.is _)
+    ∙ reach_object c.in-Ok-guarded.is _)
 
 pub find-returns-then-r-first-3 : goal.find-returns-then-r-first-3
 unfolding meaning_by choose

@@ -38,8 +38,8 @@ returns-then-at-base c =
     refers g older _ _ _ _ c.requires.3 c.requires.0.cells
     (program_accepted _ c.args.self.now.loaded.ready.planned.checked.accepted)
     (older_existing g framed.walked oldest) start
-    c.mark_at.ensures c.in-Number.is
-    c.mark_at-2.ensures c.in-Number-mark_at.is
+    c.mark_at.ensures c.in-Some.is
+    c.mark_at-2.ensures c.in-Some-mark_at.is
     c.extends.ensures extends low
     oldest (c.object_at.ensures p qs older framed oldest start)
 
@@ -53,10 +53,10 @@ returns-else-at-base c =
             ∙ too_high g older _ _ _ _ c.requires.3 c.requires.0.cells
             (program_accepted _ c.args.self.now.loaded.ready.planned.checked.accepted)
             (older_existing g framed.walked oldest) start
-            c.mark_at.ensures c.in-Number.is high
+            c.mark_at.ensures c.in-Some.is high
         | inr none ↦ clash (sym w.if-extends.true ∙ none)
       ]
       | else-extends w ↦ w.t-14-is ∙ w.if-extends.false
           ∙ not_extended g older _ _ _ _ c.requires.3 c.requires.0.cells
-          c.mark_at-2.ensures c.in-Number-mark_at.is c.extends.ensures w.if-extends.false
+          c.mark_at-2.ensures c.in-Some-mark_at.is c.extends.ensures w.if-extends.false
     ]
