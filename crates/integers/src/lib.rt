@@ -12,10 +12,10 @@ fn integer(z: i64) -> Result<Value, Stop>
     ensures { result ≡ integer_of z }
 {
     if values::is_integer(z) {
-        let n = z as i32;
-        return Ok(Value::Int(n));
+        Ok(Value::Int(z as i32))
+    } else {
+        Err(Stop::Trap(Trap::Overflow))
     }
-    Err(Stop::Trap(Trap::Overflow))
 }
 
 fn add(x: i32, y: i32) -> Result<Value, Stop>
@@ -45,7 +45,8 @@ fn magnitude(x: i64) -> u32
     if x < 0 { (-1 - x) as u32 } else { x as u32 }
 }
 
-// The quotient by a positive divisor, rounded down.
+// The quotient by a positive divisor, rounded down. (std's div_euclid would divide in 64 bits, which a 32-bit processor
+// does in software.)
 fn quotient(x: i64, d: u32) -> i64
     requires { (mag x ≤ 2147483648) × (0 < d) }
     ensures { result ≡ quotient_of x d }

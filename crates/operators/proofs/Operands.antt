@@ -42,18 +42,23 @@ unfolding dyadic_of as_integer as_set
 not_integer op x q = refl
 
 -- no BOOLEAN beside a BOOLEAN
-pub not_booleans : (op : ℕ) (p : Bool) (w : Value) → OneOf (1 ∷ 2 ∷ []) (tag_of the_type w)
+pub not_booleans : (op : ℕ) (p : Bool) (w : Value) → ((q : Bool) → w ≡ Vs.Bool q → ⊥)
     → dyadic_of op (Vs.Bool p) w ≡ Err St.Stuck
-unfolding dyadic_of
-not_booleans op p w t = no_boolean _ w _ t
+unfolding dyadic_of as_boolean
+not_booleans op p (Vs.Bool q) h = absurd (h q refl)
+not_booleans op p (Vs.Int y) h = refl
+not_booleans op p (Vs.Set t) h = refl
 
 -- no SET beside a SET
-pub not_sets : (op : ℕ) (s : ℕ) (w : Value) → OneOf (0 ∷ 1 ∷ []) (tag_of the_type w)
-    → dyadic_of op (Vs.Set s) w ≡ Err St.Stuck
-unfolding dyadic_of
-not_sets op s w t = no_set _ w _ t
+pub not_sets : (op : ℕ) (s : ℕ) (w : Value) → ((t : ℕ) → w ≡ Vs.Set t → ⊥) → dyadic_of op (Vs.Set s) w ≡ Err St.Stuck
+unfolding dyadic_of as_set
+not_sets op s (Vs.Bool q) h = refl
+not_sets op s (Vs.Int y) h = refl
+not_sets op s (Vs.Set t) h = absurd (h t refl)
 
 -- only a BOOLEAN decides
-pub no_boolean_decides : (op : ℕ) (v : Value) → OneOf (1 ∷ 2 ∷ []) (tag_of the_type v) → decides op v ≡ false
-unfolding decides
-no_boolean_decides op v t = no_boolean _ v _ t
+pub no_boolean_decides : (op : ℕ) (v : Value) → ((p : Bool) → v ≡ Vs.Bool p → ⊥) → decides op v ≡ false
+unfolding decides as_boolean
+no_boolean_decides op (Vs.Bool p) h = absurd (h p refl)
+no_boolean_decides op (Vs.Int x) h = refl
+no_boolean_decides op (Vs.Set s) h = refl

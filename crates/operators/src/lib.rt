@@ -73,19 +73,11 @@ pub fn membership(op: u16, x: i32, t: u32) -> Result<Value, Stop>
 pub fn monadic(op: u16, operand: Value) -> Result<Value, Stop>
     ensures { result ≡ monadic_of op operand }
 {
-    match operand {
-        Value::Bool(p) => match op {
-            2 => Ok(Value::Bool(!p)),
-            _ => Err(Stop::Stuck),
-        },
-        Value::Int(x) => match op {
-            1 => integers::subtract(0, x),
-            _ => Err(Stop::Stuck),
-        },
-        Value::Set(s) => match op {
-            1 => Ok(Value::Set(sets::complement(s))),
-            _ => Err(Stop::Stuck),
-        },
+    match (operand, op) {
+        (Value::Int(x), 1) => integers::subtract(0, x),
+        (Value::Set(s), 1) => Ok(Value::Set(sets::complement(s))),
+        (Value::Bool(p), 2) => Ok(Value::Bool(!p)),
+        _ => Err(Stop::Stuck),
     }
 }
 
@@ -93,12 +85,9 @@ pub fn monadic(op: u16, operand: Value) -> Result<Value, Stop>
 pub fn decides(op: u16, left: Value) -> bool
     ensures { result ≡ decides_of op left }
 {
-    let Value::Bool(p) = left else {
-        return false;
-    };
-    match op {
-        13 => !p,
-        14 => p,
+    match (left, op) {
+        (Value::Bool(p), 13) => !p,
+        (Value::Bool(p), 14) => p,
         _ => false,
     }
 }

@@ -23,6 +23,7 @@ use Rattle.semantics.specs.Stepping.{State}
 use Rattle.semantics.specs.Running.{program_of, ran_of, result_of, store_after, output_after}
 use Rattle.semantics.proofs.Opened.{rows, shapes, sizes, integers, operators, run}
 use Rattle.semantics.proofs.Images.{start, count, row, zeros, results}
+use Rattle.std.specs.Prelude.{Ok, Err}
 
 -- ---- values: dyadic 4 DIV, 5 MOD, 15 IN, 16 range; monadic 1 -
 

@@ -1,7 +1,7 @@
 -- Finding and evaluating from a sound state: an object of the node's type, a value of its kind, or a trap; and what
 -- cells below top read as.
 use Rattle.relations.specs.Fields.{field_at}
-use Rattle.std.specs.Prelude.{Option, Some, Ok, Err}
+use Rattle.std.specs.Prelude.{Option}
 use mathlib.Core.Path.{◌≡◌, refl, sym, ◌∙◌, subst}
 use mathlib.Core.Bool.{true}
 use mathlib.Core.List.{[], List, ◌∷◌}
@@ -71,6 +71,7 @@ use Rattle.semantics.proofs.Holding.{part_next, part_end, matched_at, cell_below
 use Rattle.semantics.proofs.Objects.{global_is, own_kind, object_typed, object_part, object_front, slot_at}
 use Rattle.semantics.proofs.Objects.{place_own, place_global}
 use Rattle.semantics.proofs.Kinship.{extends_other, extension_field, global_low}
+use Rattle.std.specs.Prelude.{Ok, Err, Some}
 
 -- an object of type x was found, or a trap ends the step
 pub data FoundOk (g : Program) (fs : List Frame) (x : ℕ) : Found → Type 0 where

@@ -1,6 +1,6 @@
 -- Laws of extension, of guards, and of the globals that come first.
 use Rattle.relations.specs.Fields.{field_at}
-use Rattle.std.specs.Prelude.{Some, Ok, Err}
+use Rattle.std.specs.Prelude.{Some}
 use mathlib.Core.Path.{◌≡◌, refl}
 use mathlib.Core.Bool.{Bool, true, false}
 use mathlib.Core.List.{List}
@@ -27,6 +27,7 @@ use Rattle.values.specs.declared.Stop.TheVariants as St
 use Rattle.semantics.specs.declared.Place.{Place}
 use Rattle.semantics.specs.Layout.{Program}
 use Rattle.semantics.specs.Finding.{guard_place, Found}
+use Rattle.std.specs.Prelude.{Ok, Err}
 
 -- ---- extension
 

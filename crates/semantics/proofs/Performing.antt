@@ -1,5 +1,4 @@
 -- Each statement but the call, from a sound state: it goes on to a sound state, finishes, or ends in a trap.
-use Rattle.std.specs.Prelude.{Some}
 use mathlib.Core.Path.{◌≡◌, refl, sym, ◌∙◌, ap, subst}
 use mathlib.Core.Bool.{Bool, true, false}
 use mathlib.Core.List.{List, [], ◌∷◌}
@@ -59,6 +58,7 @@ use Rattle.semantics.proofs.Evaluating.{FoundOk, found_ok, found_trap, Designate
 use Rattle.semantics.proofs.Evaluating.{found_front, found_single, kind_row, row_single, designator_yes, mark_there}
 use Rattle.semantics.proofs.Evaluating.{part_top}
 use Rattle.semantics.specs.Demand3.{Unchanged, NextOk, ok_goes, ok_finished, ok_trapped}
+use Rattle.std.specs.Prelude.{Some}
 
 -- ---- what a step comes to, by the way it goes on
 

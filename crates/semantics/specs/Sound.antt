@@ -1,7 +1,7 @@
 -- Sound states of the tagged machine. The frames are ghost data: what they say is of the cells, by place.
 use Rattle.relations.specs.Fields.{field_at}
-use Rattle.std.specs.Prelude.{Some, Ok}
-use Rattle.std.specs.Prelude.{ℕ, ◌+◌, ◌*◌, ◌≤◌, ◌<◌, ◌≡◌, true, List, [], ◌∷◌, ◌++◌, map, pos, length, take}
+use Rattle.std.specs.Prelude.{Some}
+use Rattle.std.specs.Prelude.{ℕ, ◌+◌, ◌*◌, ◌≤◌, ◌<◌, ◌≡◌, true, List, [], ◌∷◌, ◌++◌, map, pos, length, take, Ok}
 use Rattle.prelude.specs.Parts.{joined}
 use Rattle.image.specs.Rows.{row_at, rows_of}
 use Rattle.shapes.specs.Sizes.{size_of, layout_of}

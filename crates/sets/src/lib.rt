@@ -20,8 +20,7 @@ pub fn contains(x: i32, s: u32) -> Result<Value, Stop>
     if !is_element(x) {
         return Err(Stop::Trap(Trap::Bound));
     }
-    let i = x as u32;
-    let member = (s >> i) % 2 == 1;
+    let member = (s >> x as u32) % 2 == 1;
     Ok(Value::Bool(member))
 }
 
@@ -33,24 +32,18 @@ fn elements(a: u32, b: u32) -> u32
     if b < a {
         return 0;
     }
-    let above: u64 = 2u64 << (b as u64);
-    let below: u64 = 1u64 << (a as u64);
-    (above - below) as u32
+    ((2u64 << b) - (1u64 << a)) as u32
 }
 
 // The set a..b, or trap 6 where a bound is outside 0 to 31.
 pub fn range(x: i32, y: i32) -> Result<Value, Stop>
     ensures { result ≡ range_of x y }
 {
-    if !is_element(x) {
-        return Err(Stop::Trap(Trap::Bound));
+    if is_element(x) && is_element(y) {
+        Ok(Value::Set(elements(x as u32, y as u32)))
+    } else {
+        Err(Stop::Trap(Trap::Bound))
     }
-    if !is_element(y) {
-        return Err(Stop::Trap(Trap::Bound));
-    }
-    let a = x as u32;
-    let b = y as u32;
-    Ok(Value::Set(elements(a, b)))
 }
 
 // The elements that s does not have.

@@ -4,11 +4,10 @@ use mathlib.Core.List.{[], ◌∷◌}
 use mathlib.Core.Logic.{⊎_elim}
 use Prim.Native.Nat.{ℕ}
 use native.Mathlib.Omega.{arith}
-use denote.Enum.Declared.{tag_of}
 use types.Run.{OneOf}
 use Rattle.values.specs.Values.{bind, Answer}
 use Rattle.values.specs.declared.Value.{Value}
-use Rattle.values.specs.contracts.Answer.{the_type as answer_type}
+use Rattle.values.specs.declared.Stop.{Stop}
 use Rattle.std.specs.Prelude.{Ok, Err}
 
 -- a tag that is neither of two is not among them
@@ -20,7 +19,11 @@ pub bind_value : {a : Answer} {v : Value} → a ≡ Ok v → (next : Value → A
 unfolding bind
 bind_value e next = rw e
 
-pub bind_other : (a : Answer) → OneOf (1 ∷ 2 ∷ []) (tag_of answer_type a) → (next : Value → Answer) → bind a next ≡ a
+pub bind_stop : {a : Answer} {stop : Stop} → a ≡ Err stop → (next : Value → Answer) → bind a next ≡ Err stop
 unfolding bind
-bind_other (Ok v) t next = neither (omega arith) (omega arith) t
-bind_other (Err stop) t next = refl
+bind_stop e next = rw e
+
+pub bind_other : (a : Answer) → ((v : Value) → a ≡ Ok v → ⊥) → (next : Value → Answer) → bind a next ≡ a
+unfolding bind
+bind_other (Ok v) h next = absurd (h v refl)
+bind_other (Err stop) h next = refl

@@ -10,7 +10,7 @@ use lib.IntN.{ℤ, pos, negsuc}
 use Rattle.prelude.specs.Choice.{choose}
 use Rattle.prelude.proofs.Choice.{choose_cases}
 use Rattle.values.specs.Values.{BOOLEAN, INTEGER, SET, kind_of, number_of, InRange, is_integer, is_set, boolean_cell}
-use Rattle.values.specs.Values.{integer_cell, set_cell, cell_of}
+use Rattle.values.specs.Values.{integer_cell, set_cell, cell_of, Answer}
 use Rattle.values.specs.Values.InRange.{boolean, integer, set}
 use Rattle.values.specs.declared.Value.{Value}
 use Rattle.values.specs.declared.Stop.TheVariants as St
@@ -26,10 +26,10 @@ pub record Held (k : ℕ) (z : ℤ) (v : Value) : Type 0 where
 pub no_value {ℓ} : {X : Type ℓ} {v : Value} → Err St.Stuck ≡ Ok v → X
 no_value e = let z : ◌≡◌ {A = ℕ} 0 1 = cc in absurd (omega arith)
 
-same_value_lem : {v w : Value} → Ok v ≡ Ok w → v ≡ w
+same_value_lem : {v w : Value} → ◌≡◌ {A = Answer} (Ok v) (Ok w) → v ≡ w
 same_value_lem e = cc
 
-held : {k : ℕ} {z : ℤ} {v w : Value} → Held k z v → Ok v ≡ Ok w → Held k z w
+held : {k : ℕ} {z : ℤ} {v w : Value} → Held k z v → ◌≡◌ {A = Answer} (Ok v) (Ok w) → Held k z w
 held h e = rw (same_value_lem e) at h
 
 pub held_boolean : (z : ℤ) {v : Value} → boolean_cell z ≡ Ok v → Held BOOLEAN z v

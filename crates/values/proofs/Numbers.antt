@@ -1,19 +1,19 @@
 -- Laws of signed numbers and of tests for a range, which the proofs of the functions cite.
 use mathlib.Core.Path.{◌≡◌, refl, sym, ap, ◌∙◌}
-use mathlib.Core.Bool.{Bool, true, false, ◌&&◌}
+use mathlib.Core.Bool.{Bool, true, false, not, ◌&&◌}
 use Prim.Native.Nat.{ℕ, zero, suc, ◌-◌, ◌<◌, ◌≤◌}
 use native.Mathlib.Omega.{arith}
 use native.Mathlib.Nat.{zero-add}
-use borrow.Author.Tests.{ltb-true, ltb-false, lt-ltb, le-ltb, le-leb, lt-leb, ne_eqb}
-use lib.Dec.{leb, T}
+use borrow.Author.Tests.{ltb-true, ltb-false, leb-true, leb-false, lt-ltb, le-ltb, le-leb, lt-leb, ne_eqb}
+use lib.Dec.{leb, ltb, T}
 use lib.IntN.{ℤ, pos, negsuc, nat_abs, ◌-ℤ◌}
-use lib.Signed.{mag, lt_z, non_neg}
+use lib.Signed.{mag, lt_z, le_z, non_neg}
 use mir.Syntax.{Width, w32, w64}
-use mir.Val.{SFits, Fits, to_z, of_z}
+use mir.Val.{SFits, Fits, to_z, of_z, bool_byte}
 use mir.ValLaws.{to_z-of_z}
 use Rattle.prelude.specs.Choice.{choose}
 use Rattle.prelude.proofs.Choice.{clash}
-use Rattle.values.specs.Values.{is_integer, is_set, boolean_cell, set_cell}
+use Rattle.values.specs.Values.{is_integer, is_set, boolean_cell, set_cell, signed_of}
 use Rattle.values.specs.declared.Value.TheVariants as Vs
 use Rattle.values.specs.declared.Stop.TheVariants as St
 use Rattle.std.specs.Prelude.{Ok, Err}
@@ -83,6 +83,41 @@ pub neg_is : (z : ℤ) → lt_z z (pos 0) ≡ true → z ≡ negsuc (mag z)
 neg_is (pos n) h = absurd (omega (arith, ltb-true))
 neg_is (negsuc n) h = refl
 
+-- `a <= b` as the other way round, `b < a`
+not_less_nat : (a b : ℕ) → ltb b a ≡ not (leb a b)
+not_less_nat a b = go (leb a b) refl
+  where
+    go : (t : Bool) → leb a b ≡ t → ltb b a ≡ not t
+    go true e = le-ltb b a (leb-true a b e)
+    go false e = lt-ltb b a (leb-false a b e)
+
+not_less : (a b : ℤ) → lt_z b a ≡ not (le_z a b)
+not_less (pos a) (pos b) = not_less_nat a b
+not_less (pos a) (negsuc b) = refl
+not_less (negsuc a) (pos b) = refl
+not_less (negsuc a) (negsuc b) = not_less_nat b a
+
+pub reaches : (a b : ℤ) → le_z a b ≡ true → lt_z b a ≡ false
+reaches a b e = not_less a b ∙ ap not e
+
+pub falls_short : (a b : ℤ) → le_z a b ≡ false → lt_z b a ≡ true
+falls_short a b e = not_less a b ∙ ap not e
+
+-- `z <= k` as a choice by `k < z`
+pub at_most : (z k : ℤ) → le_z z k ≡ choose (lt_z k z) false true
+unfolding choose
+at_most z k = go (le_z z k) refl
+  where
+    go : (t : Bool) → le_z z k ≡ t → t ≡ choose (lt_z k z) false true
+    go true e = rw (reaches z k e)
+    go false e = rw (falls_short z k e)
+
+-- a bool as a number
+pub bit_number : (b : Bool) → to_z w64 (of_z w64 (pos (bool_byte b))) ≡ choose b (pos 1) (pos 0)
+unfolding choose
+bit_number true = plain64 (pos 1) (record { sfits = omega arith })
+bit_number false = plain64 (pos 0) (record { sfits = omega arith })
+
 -- what a cast to a width without a sign asks
 pub unsigned : (w : Width) (z : ℤ) → lt_z z (pos 0) ≡ false → Fits w (mag z) → T (non_neg z) × Fits w (nat_abs z)
 unsigned w (pos n) h l = (tt, l)
@@ -131,27 +166,32 @@ minus_top n h k = rw (lt-ltb n 4294967296 k) (omega arith)
 
 -- ---- cells
 
+-- 32 bits in two's complement
+pub signed_is : (n : ℕ) → n < 4294967296 → to_z w32 n ≡ signed_of n
+unfolding signed_of choose
+signed_is n h = rw (lt-ltb n 4294967296 h)
+
 -- neither 0 nor 1
 pub no_boolean : (z : ℤ) → (of_z w64 z ≡ 0 → ⊥) → (of_z w64 z ≡ 1 → ⊥) → boolean_cell z ≡ Err St.Stuck
 unfolding boolean_cell choose
 no_boolean (pos n) p q = rw (ne_eqb n 0 p, ne_eqb n 1 q)
 no_boolean (negsuc n) p q = refl
 
-pub set_neg : (z : ℤ) → lt_z z (pos 0) ≡ true → set_cell z ≡ Err St.Stuck
+pub set_neg : (z : ℤ) → le_z (pos 0) z ≡ false → set_cell z ≡ Err St.Stuck
 unfolding set_cell
-set_neg (pos n) h = absurd (omega (arith, ltb-true))
+set_neg (pos n) h = absurd (omega (arith, leb-false))
 set_neg (negsuc n) h = refl
 
-pub set_large : (z : ℤ) → lt_z (pos 4294967295) z ≡ true → set_cell z ≡ Err St.Stuck
+pub set_large : (z : ℤ) → le_z z (pos 4294967295) ≡ false → set_cell z ≡ Err St.Stuck
 unfolding set_cell is_set choose
-set_large (pos n) h = rw (le-ltb n 4294967296 (omega (arith, ltb-true)))
+set_large (pos n) h = rw (le-ltb n 4294967296 (omega (arith, leb-false)))
 set_large (negsuc n) h = refl
 
-pub set_is : (z : ℤ) → lt_z z (pos 0) ≡ false → lt_z (pos 4294967295) z ≡ false → set_cell z ≡ Ok (Vs.Set (nat_abs z))
+pub set_is : (z : ℤ) → le_z (pos 0) z ≡ true → le_z z (pos 4294967295) ≡ true → set_cell z ≡ Ok (Vs.Set (nat_abs z))
 unfolding set_cell is_set choose
-set_is (pos n) h k = rw (lt-ltb n 4294967296 (omega (arith, ltb-false)))
-set_is (negsuc n) h k = clash h
+set_is (pos n) h k = rw (lt-ltb n 4294967296 (omega (arith, leb-true)))
+set_is (negsuc n) h k = clash (sym h)
 
-pub set_fits : (z : ℤ) → lt_z z (pos 0) ≡ false → lt_z (pos 4294967295) z ≡ false → T (non_neg z) × Fits w32 (nat_abs z)
-set_fits (pos n) h k = unsigned w32 (pos n) h (record { fits = omega (arith, ltb-false) })
-set_fits (negsuc n) h k = clash h
+pub set_fits : (z : ℤ) → le_z (pos 0) z ≡ true → le_z z (pos 4294967295) ≡ true → T (non_neg z) × Fits w32 (nat_abs z)
+set_fits (pos n) h k = (tt, record { fits = omega (arith, leb-true) })
+set_fits (negsuc n) h k = clash (sym h)

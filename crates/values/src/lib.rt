@@ -3,33 +3,33 @@
 
 ghost use Rattle.std.specs.Prelude.{◌≡◌};
 ghost use Rattle.values.specs.Values.{trap_number, number_of, boolean_cell, integer_cell, set_cell, cell_of};
-ghost use Rattle.values.specs.Values.{is_integer, signed_of, constant_of};
+ghost use Rattle.values.specs.Values.{is_integer, constant_of};
 
 // A value of a scalar kind.
-#[derive(Clone, Copy)]
+#[derive(Clone, Copy, PartialEq, Eq)]
 pub enum Value {
     Bool(bool),
     Int(i32),
     Set(u32),
 }
 
-// Why a step ended early, in document 01's order.
-#[derive(Clone, Copy)]
+// Why a step ended early, with document 01's numbers.
+#[derive(Clone, Copy, PartialEq, Eq)]
 pub enum Trap {
-    Index,
-    Guard,
-    Target,
-    Overflow,
-    Divisor,
-    Bound,
-    Frame,
-    Input,
-    Output,
-    Halt,
+    Index = 1,
+    Guard = 2,
+    Target = 3,
+    Overflow = 4,
+    Divisor = 5,
+    Bound = 6,
+    Frame = 7,
+    Input = 8,
+    Output = 9,
+    Halt = 10,
 }
 
 // Why an evaluation gives no value: a trap, or no rule applies.
-#[derive(Clone, Copy)]
+#[derive(Clone, Copy, PartialEq, Eq)]
 pub enum Stop {
     Trap(Trap),
     Stuck,
@@ -42,18 +42,7 @@ pub enum Stop {
 pub fn trap_number(t: Trap) -> u8
     ensures { result ≡ trap_number t }
 {
-    match t {
-        Trap::Index => 1,
-        Trap::Guard => 2,
-        Trap::Target => 3,
-        Trap::Overflow => 4,
-        Trap::Divisor => 5,
-        Trap::Bound => 6,
-        Trap::Frame => 7,
-        Trap::Input => 8,
-        Trap::Output => 9,
-        Trap::Halt => 10,
-    }
+    t as u8
 }
 
 // The number that a cell holds for a value.
@@ -61,12 +50,7 @@ pub fn number_of(v: Value) -> i64
     ensures { result ≡ number_of v }
 {
     match v {
-        Value::Bool(b) => {
-            if b {
-                return 1;
-            }
-            0
-        }
+        Value::Bool(b) => b as i64,
         Value::Int(z) => z as i64,
         Value::Set(s) => s as i64,
     }
@@ -76,48 +60,40 @@ fn boolean_cell(z: i64) -> Result<Value, Stop>
     ensures { result ≡ boolean_cell z }
 {
     if z == 0 {
-        return Ok(Value::Bool(false));
+        Ok(Value::Bool(false))
+    } else if z == 1 {
+        Ok(Value::Bool(true))
+    } else {
+        Err(Stop::Stuck)
     }
-    if z == 1 {
-        return Ok(Value::Bool(true));
-    }
-    Err(Stop::Stuck)
 }
 
-// Whether a number is in the range of INTEGER.
+// Whether a number is in the range of INTEGER. (std's i32::try_from goes by way of a sign and a magnitude, which costs
+// each read of a cell more.)
 pub fn is_integer(z: i64) -> bool
     ensures { result ≡ is_integer z }
 {
-    if z < -2147483648 {
-        return false;
-    }
-    if 2147483647 < z {
-        return false;
-    }
-    true
+    -2147483648 <= z && z <= 2147483647
 }
 
 fn integer_cell(z: i64) -> Result<Value, Stop>
     ensures { result ≡ integer_cell z }
 {
     if is_integer(z) {
-        let n = z as i32;
-        return Ok(Value::Int(n));
+        Ok(Value::Int(z as i32))
+    } else {
+        Err(Stop::Stuck)
     }
-    Err(Stop::Stuck)
 }
 
 fn set_cell(z: i64) -> Result<Value, Stop>
     ensures { result ≡ set_cell z }
 {
-    if z < 0 {
-        return Err(Stop::Stuck);
+    if 0 <= z && z <= 4294967295 {
+        Ok(Value::Set(z as u32))
+    } else {
+        Err(Stop::Stuck)
     }
-    if 4294967295 < z {
-        return Err(Stop::Stuck);
-    }
-    let s = z as u32;
-    Ok(Value::Set(s))
 }
 
 // A cell's number as a value of a kind: 0 BOOLEAN, 1 INTEGER, 2 SET.
@@ -132,24 +108,14 @@ pub fn cell(kind: u16, z: i64) -> Result<Value, Stop>
     }
 }
 
-// 32 bits in two's complement.
-fn signed_of(n: u32) -> i32
-    ensures { result ≡ signed_of n }
-{
-    if n < 2147483648 {
-        return n as i32;
-    }
-    ((n as i64) - 4294967296) as i32
-}
-
-// A constant of a kind, whose 32 bits are b and c.
+// A constant of a kind, whose 32 bits are b and c, in two's complement for an INTEGER.
 pub fn constant(kind: u16, b: u16, c: u16) -> Result<Value, Stop>
     ensures { result ≡ constant_of kind b c }
 {
     let bits = (b as u32) * 65536 + (c as u32);
     match kind {
         0 => boolean_cell(bits as i64),
-        1 => Ok(Value::Int(signed_of(bits))),
+        1 => Ok(Value::Int(bits.cast_signed())),
         2 => Ok(Value::Set(bits)),
         _ => Err(Stop::Stuck),
     }

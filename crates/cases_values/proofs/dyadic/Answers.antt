@@ -3,37 +3,32 @@ use Rattle.operators.proofs.Operands.{two_booleans, two_integers, integer_and_se
 use Rattle.operators.proofs.Operands.{not_booleans, not_integer, not_sets}
 use Rattle.values.proofs.Numbers.{plain32}
 use borrow.Author.Rules.{rules}
-use borrow.Enum.Refused.{opened}
 use Rattle.cases_values.proofs.dyadic.Goals as goal
 
-pub returns-in_default : goal.returns-in_default
-returns-in_default c = rw c.in-Bool.is (sym (not_booleans _ _ _ (opened c.in_default.in_default-own.keys2)))
+pub returns-in-Bool-Bool : goal.returns-in-Bool-Bool
+returns-in-Bool-Bool c =
+    c.booleans.ensures ∙ rw (c.in-Bool-Bool.is-0, c.in-Bool-Bool.is-1) (sym (two_booleans _ _ _))
 
-pub returns-in_default-right : goal.returns-in_default-right
-returns-in_default-right c = rw c.in-Set.is (sym (not_sets _ _ _ (opened c.in_default-right.in_default-right-own.keys2)))
-
-pub returns-in-Bool-right : goal.returns-in-Bool-right
-returns-in-Bool-right c =
-    c.booleans.ensures
-    ∙ rw (c.in-Bool.is, c.in-Bool-right.is)
-    (sym (two_booleans _ _ _))
-
-pub returns-in-Bool-right-2 : goal.returns-in-Bool-right-2
-returns-in-Bool-right-2 c = rw (c.in-Int.is, c.in-Bool-right-2.is) (sym (not_integer _ _ _))
-
-pub returns-in-Int-right : goal.returns-in-Int-right
-returns-in-Int-right c =
+pub returns-in-Int-Int : goal.returns-in-Int-Int
+returns-in-Int-Int c =
     c.integers.ensures
-    ∙ rw (c.in-Int.is, c.in-Int-right.is, plain32 c.in-Int.x (search rules), plain32 c.in-Int-right.y (search rules))
+    ∙ rw (c.in-Int-Int.is-0, c.in-Int-Int.is-1, plain32 c.in-Int-Int.x (search rules), plain32 c.in-Int-Int.y (search rules))
     (sym (two_integers _ _ _))
 
-pub returns-in-Set-right : goal.returns-in-Set-right
-returns-in-Set-right c =
-    c.membership.ensures ∙ rw (c.in-Int.is, c.in-Set-right.is, plain32 c.in-Int.x (search rules))
+pub returns-in-Int-Set : goal.returns-in-Int-Set
+returns-in-Int-Set c =
+    c.membership.ensures ∙ rw (c.in-Int-Set.is-0, c.in-Int-Set.is-1, plain32 c.in-Int-Set.x (search rules))
     (sym (integer_and_set _ _ _))
 
-pub returns-in-Set-right-2 : goal.returns-in-Set-right-2
-returns-in-Set-right-2 c =
-    c.sets.ensures
-    ∙ rw (c.in-Set.is, c.in-Set-right-2.is)
-    (sym (two_sets _ _ _))
+pub returns-in-Set-Set : goal.returns-in-Set-Set
+returns-in-Set-Set c =
+    c.sets.ensures ∙ rw (c.in-Set-Set.is-0, c.in-Set-Set.is-1) (sym (two_sets _ _ _))
+
+pub returns-in_default : goal.returns-in_default
+returns-in_default c = rw c.in_default.is-0 (sym (not_booleans _ _ _ c.in_default.not-Bool-1))
+
+pub returns-in_default-2 : goal.returns-in_default-2
+returns-in_default-2 c = rw (c.in_default.is-0, c.in_default.is-1) (sym (not_integer _ _ _))
+
+pub returns-in_default-3 : goal.returns-in_default-3
+returns-in_default-3 c = rw c.in_default.is-0 (sym (not_sets _ _ _ c.in_default.not-Set-1))

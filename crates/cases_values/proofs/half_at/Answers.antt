@@ -3,4 +3,4 @@ use Rattle.cases_values.proofs.half_at.Goals as goal
 
 pub returns : goal.returns
 unfolding half_at
-returns c = cc
+returns c = c.from_be_bytes.ensures

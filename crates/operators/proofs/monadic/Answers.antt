@@ -8,29 +8,29 @@ use Rattle.values.proofs.Numbers.{plain32}
 use borrow.Author.Rules.{rules}
 use Rattle.operators.proofs.monadic.Goals as goal
 
-pub returns-in-2 : goal.returns-in-2
+pub returns-in-Int-eq1 : goal.returns-in-Int-eq1
 unfolding monadic_of choose
-returns-in-2 c = rw (c.in-Bool.is, c.in-2.is)
+returns-in-Int-eq1 c =
+    let x = c.in-Int-eq1.x in
+    c.subtract.ensures ∙ rw (c.in-Int-eq1.is-0, plain32 x (search rules), c.in-Int-eq1.is-1)
+    (ap integer_of (+ℤ_idl (neg_ℤ x)))
+
+pub returns-in-Set-eq1 : goal.returns-in-Set-eq1
+unfolding monadic_of choose
+returns-in-Set-eq1 c = rw (c.complement.ensures, c.in-Set-eq1.is-0, c.in-Set-eq1.is-1)
+
+pub returns-in-Bool-eq2 : goal.returns-in-Bool-eq2
+unfolding monadic_of choose
+returns-in-Bool-eq2 c = rw (c.in-Bool-eq2.is-0, c.in-Bool-eq2.is-1)
 
 pub returns-in_default : goal.returns-in_default
 unfolding monadic_of choose
-returns-in_default c = rw (c.in-Bool.is, ne_eqb _ 2 c.in_default.in_default-own.rest.1)
+returns-in_default c = rw (c.in_default.is-0, ne_eqb _ 1 c.in_default.is-1.1)
 
-pub returns-in-1 : goal.returns-in-1
+pub returns-in_default-2 : goal.returns-in_default-2
 unfolding monadic_of choose
-returns-in-1 c =
-    c.subtract.ensures ∙ rw (c.in-Int.is, plain32 c.in-Int.x (search rules), c.in-1.is)
-    (ap integer_of (+ℤ_idl (neg_ℤ c.in-Int.x)))
+returns-in_default-2 c = rw (c.in_default.is-0, ne_eqb _ 1 c.in_default.is-1.1)
 
-pub returns-in_default-op : goal.returns-in_default-op
+pub returns-in_default-3 : goal.returns-in_default-3
 unfolding monadic_of choose
-returns-in_default-op c = rw (c.in-Int.is, ne_eqb _ 1 c.in_default-op.in_default-op-own.rest.1)
-
-pub returns-in-1-op : goal.returns-in-1-op
-unfolding monadic_of choose
-returns-in-1-op c =
-    rw (c.complement.ensures, c.in-Set.is, c.in-1-op.is)
-
-pub returns-in_default-op-2 : goal.returns-in_default-op-2
-unfolding monadic_of choose
-returns-in_default-op-2 c = rw (c.in-Set.is, ne_eqb _ 1 c.in_default-op-2.in_default-op-2-own.rest.1)
+returns-in_default-3 c = rw (c.in_default.is-0, ne_eqb _ 2 c.in_default.is-1.1)

@@ -15,8 +15,8 @@ returns-then-not-is_element c = rw (element_no c.ranges.x c.is_element.ensures c
 element : (c : Else-not-is_element) → is_element c.args.x ≡ true
 element c = element_yes c.ranges.x c.is_element.ensures c.if-not-is_element.false
 
-pub overflow_cast-i : goal.overflow_cast-i
-overflow_cast-i c = element_cast c.ranges.x c.is_element.ensures c.if-not-is_element.false
+pub overflow_cast-member : goal.overflow_cast-member
+overflow_cast-member c = element_cast c.ranges.x c.is_element.ensures c.if-not-is_element.false
 
 pub overflow_shr-member : goal.overflow_shr-member
 overflow_shr-member c = rw (plain32 _ c.ranges.x) (element_below _ (element (goal.at.overflow_shr-member c).Else-not-is_element))

@@ -38,11 +38,6 @@ returns-then-b-a c = rw (lt-ltb _ _ c.if-b-a.true)
 pub overflow_sub-result : goal.overflow_sub-result
 overflow_sub-result c = rw (above-is c, below-is c) (omega (arith, low c))
 
-pub overflow_cast-result : goal.overflow_cast-result
-overflow_cast-result c =
-    rw (above-is c, below-is c)
-    (record { fits = omega (arith, top c, pow_mono {i = 0} {j = c.args.a} (omega arith)) })
-
 pub returns : goal.returns
 unfolding elements_of choose
 returns c =

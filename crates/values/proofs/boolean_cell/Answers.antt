@@ -14,5 +14,5 @@ pub returns-then-z-eq1 : goal.returns-then-z-eq1
 unfolding boolean_cell choose
 returns-then-z-eq1 c = rw (bits_are c.args.z c.ranges.z 1 (omega arith) c.if-z-eq1.true)
 
-pub returns : goal.returns
-returns c = sym (no_boolean c.args.z c.if-z-eq0.false c.if-z-eq1.false)
+pub returns-else-z-eq1 : goal.returns-else-z-eq1
+returns-else-z-eq1 c = sym (no_boolean c.args.z c.if-z-eq0.false c.if-z-eq1.false)

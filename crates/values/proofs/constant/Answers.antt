@@ -4,7 +4,7 @@ use Prim.Native.Nat.{◌+◌, ◌*◌}
 use borrow.Author.Tests.{ne_eqb}
 use Rattle.prelude.specs.Choice.{choose}
 use Rattle.values.specs.Values.{constant_of}
-use Rattle.values.proofs.Numbers.{plain32, of_nat64}
+use Rattle.values.proofs.Numbers.{plain32, signed_is, of_nat64}
 use borrow.Author.Rules.{rules}
 use Rattle.values.proofs.constant.Goals as goal
 
@@ -17,7 +17,9 @@ returns-in-0 c =
 pub returns-in-1 : goal.returns-in-1
 unfolding constant_of choose
 returns-in-1 c =
-    rw (plain32 c.signed_of.result (search rules), c.signed_of.ensures, c.in-1.is)
+    let a = c.args in
+    rw (plain32 c.cast_signed.result (search rules), c.cast_signed.ensures)
+    (rw (signed_is (a.b * 65536 + a.c) (omega arith), c.in-1.is))
 
 pub returns-in-2 : goal.returns-in-2
 unfolding constant_of choose

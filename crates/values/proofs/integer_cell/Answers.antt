@@ -9,11 +9,11 @@ use Rattle.values.proofs.integer_cell.Goals.{Then-is_integer}
 use Rattle.std.specs.Prelude.{Ok}
 
 -- `values::integer_cell` meets its contract: a number in the range fits 32 bits.
-taken : (c : Then-is_integer) → is_integer c.before.before.args.z ≡ true
+taken : (c : Then-is_integer) → is_integer c.args.z ≡ true
 taken c = rw (plain64 _ c.ranges.z) at (sym c.is_integer.ensures ∙ c.if-is_integer.true)
 
-pub overflow_cast-n : goal.overflow_cast-n
-overflow_cast-n c = rw (plain64 _ c.ranges.z) (integer_fits _ (taken c))
+pub overflow_cast-result : goal.overflow_cast-result
+overflow_cast-result c = rw (plain64 _ c.ranges.z) (integer_fits _ (taken c))
 
 pub returns-then-is_integer : goal.returns-then-is_integer
 unfolding integer_cell choose
@@ -21,7 +21,7 @@ returns-then-is_integer c =
     rw (plain64 _ c.ranges.z, taken c)
     (ap (λ z. Ok (Vs.Int z)) (plain32 c.args.z (integer_fits _ (taken c))))
 
-pub returns : goal.returns
+pub returns-else-is_integer : goal.returns-else-is_integer
 unfolding integer_cell choose
-returns c =
+returns-else-is_integer c =
     rw (rw (plain64 _ c.ranges.z) at (sym c.is_integer.ensures ∙ c.if-is_integer.false))
