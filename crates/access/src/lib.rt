@@ -35,7 +35,7 @@ pub type Plan = [u32; RUN_PLAN];
 pub struct Loaded<'a> {
     pub image: &'a [u8],
     pub plan: &'a Plan,
-    pub ghost ready: { Ready image.now plan.now },
+    pub ghost planned: { Planned image.now plan.now },
 }
 
 // ---- tables and rows
@@ -205,7 +205,8 @@ impl<'a> Loaded<'a> {
 
     // The procedure whose body has statement row r.
     pub fn procedure_of(&self, r: u32) -> u32
-        requires { r < rows_of (program_of self.now.image.now).statements }
+        requires { (r < rows_of (program_of self.now.image.now).statements)
+            × Ready self.now.image.now self.now.plan.now }
         ensures { result ≡ procedure_at (program_of self.now.image.now).procedures r }
     {
         self.plan[OWNERS + r as usize]

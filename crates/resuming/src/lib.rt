@@ -9,6 +9,7 @@ ghost use Rattle.semantics.specs.Running.{program_of};
 ghost use Rattle.asking.specs.State.{chain, sound_of};
 ghost use Rattle.asking.specs.Passes.{Walked, variables_pass, frames_pass, value_test, values_pass};
 ghost use Rattle.asking.specs.Continuing.{unfinished, within_lent, mark_within, question14};
+ghost use Rattle.access.specs.Ready.{Ready};
 ghost use Rattle.unwinding.specs.Next.{Skips};
 ghost use Rattle.resuming.specs.Reading.{ReadableImage, frames_sound};
 
@@ -144,7 +145,8 @@ fn values_hold(loaded: &Loaded, next: &[u16], store: &[i64], q: u16, base: u32, 
 // Whether the links lead from the frame of procedure q, from base to top, to all others, and these hold what they
 // should.
 fn frames_sound(loaded: &Loaded, store: &[i64], q: u16, base: u32, top: u32) -> bool
-    requires { (top ≤ length store.now) × (length store.now ≤ 65536) }
+    requires { (top ≤ length store.now) × (length store.now ≤ 65536)
+        × Ready loaded.now.image.now loaded.now.plan.now }
     ensures { result ≡ frames_sound (program_of loaded.now.image.now)
         (chain (program_of loaded.now.image.now) store.now (suc base) q base) store.now
         base top }
@@ -161,8 +163,8 @@ fn frames_sound(loaded: &Loaded, store: &[i64], q: u16, base: u32, top: u32) -> 
 
 // Whether the state is sound, where top lies within the store.
 fn sound(loaded: &Loaded, store: &[i64], s: Registers) -> bool
-    requires { (s.top ≤ length store.now)
-        × (length store.now ≤ 65536) }
+    requires { (s.top ≤ length store.now) × (length store.now ≤ 65536)
+        × Ready loaded.now.image.now loaded.now.plan.now }
     ensures { result ≡ sound_of (program_of loaded.now.image.now) s store.now }
 {
     if image::rows_of(loaded.table(5)) <= s.row as usize {
@@ -206,7 +208,7 @@ pub fn continuable(
     from: RunResult,
     steps: u32,
 ) -> bool
-    requires { (length store.now ≤ 65536) }
+    requires { (length store.now ≤ 65536) × Ready loaded.now.image.now loaded.now.plan.now }
     ensures { result ≡ question14 (program_of loaded.now.image.now) input.now store.now
         output.now from steps }
 {

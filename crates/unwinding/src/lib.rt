@@ -11,6 +11,7 @@ ghost use Rattle.semantics.specs.Running.{program_of};
 ghost use Rattle.asking.specs.Asking.{room_of};
 ghost use Rattle.asking.specs.State.{chain, inside_kept, call_kept, ends_at};
 ghost use Rattle.asking.specs.Passes.{linked, Walked, newest_below};
+ghost use Rattle.access.specs.Ready.{Ready};
 ghost use Rattle.unwinding.specs.Links.{link_at, caller_of, spot_of, size_kept, oldest_kept};
 ghost use Rattle.unwinding.specs.Blocks.{BLOCKS, Blocks};
 ghost use Rattle.unwinding.specs.Going.{Oldest};
@@ -102,6 +103,7 @@ pub fn frame_below(store: &[i64], top: u32, blocks: &[u16], from: u32, at: u32) 
 
 // Whether statement row r lies in the body of procedure q.
 fn inside(loaded: &Loaded, q: u16, r: u32) -> bool
+    requires { Ready loaded.now.image.now loaded.now.plan.now }
     ensures { result ≡ inside_kept (program_of loaded.now.image.now) q r }
 {
     (r as usize) < image::rows_of(loaded.table(5)) && loaded.procedure_of(r) == q as u32
@@ -116,6 +118,7 @@ fn is_procedure(loaded: &Loaded, q: u16) -> bool
 
 // Whether row `back` follows a call of procedure q in the body of procedure c.
 fn call_kept(loaded: &Loaded, q: u16, c: u16, back: u16) -> bool
+    requires { Ready loaded.now.image.now loaded.now.plan.now }
     ensures { result ≡ call_kept (program_of loaded.now.image.now) q c back }
 {
     if back < 1 {
@@ -162,7 +165,7 @@ fn fill(blocks: &mut [u16], from: usize, to: usize, number: u16)
 // block is noted.
 pub fn walk(loaded: &Loaded, store: &[i64], q: u16, base: u32, top: u32, blocks: &mut [u16]) -> bool
     requires { (top ≤ length store.now) × (length store.now ≤ 65536)
-        × (BLOCKS ≤ length blocks.old) }
+        × (BLOCKS ≤ length blocks.old) × Ready loaded.now.image.now loaded.now.plan.now }
     ensures value { result ≡ (ends_at (program_of loaded.now.image.now)
         (chain (program_of loaded.now.image.now) store.now (suc base) q base) base top
         also linked (program_of loaded.now.image.now)

@@ -4,7 +4,7 @@ use Rattle.referents.proofs.Halving.{halved_none, halved_up, halved_down, halved
 use Rattle.referents.proofs.first_reaching.Goals as goal
 
 pub overflow_add-high : goal.overflow_add-high
-overflow_add-high c = omega (arith, c.requires, variables_few c.args.loaded.now.ready.planned)
+overflow_add-high c = omega (arith, c.requires, variables_few c.args.loaded.now.planned)
 
 pub loop-high-init : goal.loop-high-init
 loop-high-init c = halved_none _ _ _ _
@@ -17,7 +17,7 @@ overflow_sub-middle c = let i = c.loop-high.invariant in i.ordered
 
 pub overflow_add-middle : goal.overflow_add-middle
 overflow_add-middle c = let i = c.loop-high.invariant in
-    omega (arith, i.ordered, i.most, c.requires, variables_few c.args.loaded.now.ready.planned)
+    omega (arith, i.ordered, i.most, c.requires, variables_few c.args.loaded.now.planned)
 
 pub place_of-requires : goal.place_of-requires
 place_of-requires c = let i = c.loop-high.invariant in

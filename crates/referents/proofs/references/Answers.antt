@@ -8,7 +8,7 @@ pub fill-requires : goal.fill-requires
 unfolding table_of choose
 fill-requires c =
     rw (c.table-f.ensures, c.table-t.ensures)
-    (typed_plan c.args.loaded.now.ready.planned, omega arith, omega arith)
+    (typed_plan c.args.loaded.now.planned, omega arith, omega arith)
 
 pub invariant_of-state : goal.invariant_of-state
 unfolding table_of choose

@@ -21,8 +21,8 @@ pub at_start-requires : goal.at_start-requires
 at_start-requires c = let rows = rw c.requires.0 at c.requires.1 in
     let there = variable_there rows c.loop-j-test.true in
     let low = variable_low _ _ c.row_at.ensures
-    (rw (← c.requires.0) at (variable_typed c.args.loaded.now.ready.planned c.loop-j.j there)) in
-    (c.requires.2, omega (arith, low, types_few c.args.loaded.now.ready.planned))
+    (rw (← c.requires.0) at (variable_typed c.args.loaded.now.planned c.loop-j.j there)) in
+    (c.requires.2, omega (arith, low, types_few c.args.loaded.now.planned))
 
 pub returns-then-at_start : goal.returns-then-at_start
 returns-then-at_start c = let more = c.loop-j-test.true in
@@ -31,7 +31,7 @@ returns-then-at_start c = let more = c.loop-j-test.true in
     λ i n lead firsts ahead.
     let (now-ahead, same) = c.loop-j.invariant i n lead firsts ahead in
     ahead_here _ now-ahead more c.place_of.ensures
-    c.if-at-place_of.false c.args.starts.now firsts (variable_typed c.args.loaded.now.ready.planned _ there)
+    c.if-at-place_of.false c.args.starts.now firsts (variable_typed c.args.loaded.now.planned _ there)
     (rw c.requires.0 at c.row_at.ensures) c.at_start.ensures c.if-at_start.true ∙ sym same
 
 pub loop-j-preserved : goal.loop-j-preserved
@@ -43,7 +43,7 @@ loop-j-preserved c = let more = c.loop-j-test.true in
       ahead_next c.args.w now-ahead more c.place_of.ensures,
       same
           ∙ ahead_on _ now-ahead more c.place_of.ensures
-          c.if-at-place_of.false c.args.starts.now firsts (variable_typed c.args.loaded.now.ready.planned _ there)
+          c.if-at-place_of.false c.args.starts.now firsts (variable_typed c.args.loaded.now.planned _ there)
           (rw c.requires.0 at c.row_at.ensures) c.at_start.ensures c.if-at_start.false,
     )
 

@@ -24,7 +24,7 @@ all c = elim c.if-is_within.branch [
 ]
 
 pub sound-requires : goal.sound-requires
-sound-requires c = (marked_top _ _ (all (goal.at.sound-requires c).Then-is_marked).2, c.requires)
+sound-requires c = (marked_top _ _ (all (goal.at.sound-requires c).Then-is_marked).2, c.requires.0, c.requires.1)
 
 pub returns-then-is_marked : goal.returns-then-is_marked
 returns-then-is_marked c =

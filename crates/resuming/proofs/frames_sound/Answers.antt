@@ -19,7 +19,7 @@ values_hold-requires c =
     let walked = c.walk.ensures in
     let yes-all = c.if-not-walk.false in
     let (ends, links) = also_true _ _ (sym walked.value ∙ yes-all) in (
-      skips_by _ (omega (arith, variables_few c.args.loaded.now.ready.planned)) filled,
+      skips_by _ (omega (arith, variables_few c.args.loaded.now.planned)) filled,
       c.requires.0,
       c.requires.1,
       record { ends = ends; links = links },
@@ -35,7 +35,7 @@ references-requires c =
     let filled = c.fill_next.ensures in
     let yes-all = c.if-not-walk.false in
     let (ends, links) = also_true _ _ (sym c.walk.ensures.value ∙ yes-all) in (
-      skips_by _ (omega (arith, variables_few c.args.loaded.now.ready.planned)) filled,
+      skips_by _ (omega (arith, variables_few c.args.loaded.now.planned)) filled,
       record {
         walked = record { ends = ends; links = links };
         blocked = c.walk.ensures.blocks yes-all;

@@ -12,20 +12,20 @@ use Rattle.resuming.proofs.values_hold.Goals as goal
 pub fill_even-requires : goal.fill_even-requires
 unfolding table_of choose
 fill_even-requires c =
-    let p = c.args.loaded.now.ready.planned in
+    let p = c.args.loaded.now.planned in
     rw (c.table-2.ensures, c.table.ensures)
     (types_few p, (typed_plan p).kept, types_few p)
 
 pub first_variable-globals-requires : goal.first_variable-globals-requires
 first_variable-globals-requires c =
-    procedures_some c.args.loaded.now.ready.planned
+    procedures_some c.args.loaded.now.planned
 
 pub variables_hold-requires : goal.variables_hold-requires
 unfolding table_of choose
 variables_hold-requires c =
     let types = c.table.ensures in
     let evens = rw (c.table-2.ensures, types) at c.fill_even.ensures in
-    let p = c.args.loaded.now.ready.planned in
+    let p = c.args.loaded.now.planned in
     rw (c.first_variable-globals.ensures, globals_first _) (
       readable_by p (types_few p) evens c.requires.2,
       c.requires.0,
@@ -45,7 +45,7 @@ unfolding table_of choose
 frames_hold-requires c =
     let types = c.table.ensures in
     let evens = rw (c.table-2.ensures, types) at c.fill_even.ensures in
-    let p = c.args.loaded.now.ready.planned in
+    let p = c.args.loaded.now.planned in
     (readable_by p (types_few p) evens c.requires.2, c.requires.0, c.requires.1, c.requires.3)
 
 pub returns-then-variables_hold : goal.returns-then-variables_hold

@@ -12,7 +12,7 @@ use Rattle.unwinding.proofs.fill_next.Goals.{After-rows_of-rows}
 few : (c : After-rows_of-rows) → (c.rows_of-rows.result ≡ rows_of (program_of c.args.loaded.now.image.now).variables)
     × (c.rows_of-rows.result ≤ 256)
 few c = let rows = rows_are _ c.table.ensures c.rows_of-rows.ensures in
-    (rows, omega (arith, rows, variables_few c.args.loaded.now.ready.planned))
+    (rows, omega (arith, rows, variables_few c.args.loaded.now.planned))
 
 pub overflow_cast-first : goal.overflow_cast-first
 overflow_cast-first c = omega (arith, (few c).1)
@@ -28,21 +28,21 @@ loop-i-init c = let rows = few (goal.at.loop-i-init c).After-rows_of-rows in
     down_start _ _ rows.0 (omega (arith, rows, c.requires))
 
 pub overflow_cast-i : goal.overflow_cast-i
-overflow_cast-i c = omega (arith, c.loop-i.invariant.low, variables_few c.args.loaded.now.ready.planned)
+overflow_cast-i c = omega (arith, c.loop-i.invariant.low, variables_few c.args.loaded.now.planned)
 
 pub first_or-first-requires : goal.first_or-first-requires
 first_or-first-requires c = omega (arith, c.loop-i.invariant.low, c.loop-i-test.true)
 
 pub offset_bounds-next-i : goal.offset_bounds-next-i
-offset_bounds-next-i c = omega (arith, c.loop-i.invariant.low, variables_few c.args.loaded.now.ready.planned)
+offset_bounds-next-i c = omega (arith, c.loop-i.invariant.low, variables_few c.args.loaded.now.planned)
 
 pub bounds-next-i : goal.bounds-next-i
 bounds-next-i c = let inv = c.loop-i.invariant in
-    omega (arith, inv.low, inv.filled.cells, variables_few c.args.loaded.now.ready.planned, c.requires, c.loop-i-test.true)
+    omega (arith, inv.low, inv.filled.cells, variables_few c.args.loaded.now.planned, c.requires, c.loop-i-test.true)
 
 pub loop-i-preserved : goal.loop-i-preserved
 loop-i-preserved c = down_next _ c.loop-i.invariant
-    (omega (arith, variables_few c.args.loaded.now.ready.planned, c.requires))
+    (omega (arith, variables_few c.args.loaded.now.planned, c.requires))
     (omega (arith, c.loop-i-test.true)) c.first_or-first.ensures
 
 pub returns : goal.returns

@@ -15,14 +15,14 @@ use Rattle.unwinding.proofs.walk.Goals as goal
 use Rattle.unwinding.proofs.walk.Goals.{After-fill, Else-not-size_kept}
 
 pub loop-q-init : goal.loop-q-init
-loop-q-init c = (refl, along_start c.args.loaded.now.ready.planned _ _ _ _ c.requires.0 c.requires.1 _ refl _)
+loop-q-init c = (refl, along_start c.args.loaded.now.planned _ _ _ _ c.requires.0 c.requires.1 _ refl _)
 
 pub shape_of-blocks-then-not-size_kept : goal.shape_of-blocks-then-not-size_kept
 shape_of-blocks-then-not-size_kept c = c.loop-q.invariant.0
 
 pub returns-then-not-size_kept : goal.returns-then-not-size_kept
 returns-then-not-size_kept c =
-    let no = sym c.size_kept.ensures ∙ c.if-not-size_kept.true in record { value = along_unsized c.args.loaded.now.ready.planned _ _ _ _ c.requires.0 c.requires.1 c.loop-q.invariant.1 no; blocks = λ e. clash (sym e) }
+    let no = sym c.size_kept.ensures ∙ c.if-not-size_kept.true in record { value = along_unsized c.args.loaded.now.planned _ _ _ _ c.requires.0 c.requires.1 c.loop-q.invariant.1 no; blocks = λ e. clash (sym e) }
 
 -- where the frame has its size
 sized : (c : Else-not-size_kept) → let l = c.loop-q in
@@ -47,7 +47,7 @@ filled : (c : After-fill) → let l = c.loop-q in
     c.args.base c.args.top c.fill.new.blocks l.procedure l.start l.invariant.1.fuel
 filled c kept =
     let l = c.loop-q in
-    along_filled c.args.loaded.now.ready.planned _ _ _ _ c.requires.0 c.requires.1 l.invariant.1 kept
+    along_filled c.args.loaded.now.planned _ _ _ _ c.requires.0 c.requires.1 l.invariant.1 kept
     c.fill.ensures
 
 pub overflow_cast-low : goal.overflow_cast-low
@@ -56,7 +56,7 @@ overflow_cast-low c = record { fits = omega (arith, small c, div-le_self c.loop-
 pub fill-requires : goal.fill-requires
 fill-requires c =
     let l = c.loop-q in (
-      along_block c.args.loaded.now.ready.planned _ _ _ _ c.requires.0 c.requires.1 l.invariant.1 (sized (goal.at.fill-requires c).Else-not-size_kept),
+      along_block c.args.loaded.now.planned _ _ _ _ c.requires.0 c.requires.1 l.invariant.1 (sized (goal.at.fill-requires c).Else-not-size_kept),
       omega (arith, l.invariant.0, l.invariant.1.few, c.requires.2),
     )
 
@@ -66,7 +66,7 @@ overflow_cast-above c = record { fits = omega (arith, small (goal.at.overflow_ca
 pub fill-requires-then-procedure-eq0 : goal.fill-requires-then-procedure-eq0
 fill-requires-then-procedure-eq0 c =
     let l = c.loop-q in
-    let low = along_block c.args.loaded.now.ready.planned _ _ _ _ c.requires.0 c.requires.1 l.invariant.1
+    let low = along_block c.args.loaded.now.planned _ _ _ _ c.requires.0 c.requires.1 l.invariant.1
     (sized (goal.at.fill-requires-then-procedure-eq0 c).Else-not-size_kept) in
     (omega arith, omega (arith, c.fill.ensures.cells, l.invariant.0, l.invariant.1.few, c.requires.2))
 
@@ -85,10 +85,10 @@ returns-then-procedure-eq0 c =
     let l = c.loop-q in
     let first = c.if-procedure-eq0.true in
     let is = c.oldest_kept.ensures
-    ∙ along_first c.args.loaded.now.ready.planned _ _ _ _ c.requires.0 c.requires.1 l.invariant.1 first
+    ∙ along_first c.args.loaded.now.planned _ _ _ _ c.requires.0 c.requires.1 l.invariant.1 first
     (sized (goal.at.returns-then-procedure-eq0 c).Else-not-size_kept) in record {
       value = is;
-      blocks = λ said. past_first c.args.loaded.now.ready.planned _ _ _ _ c.requires.0 c.requires.1 l.invariant.1 first (filled (goal.at.returns-then-procedure-eq0 c).After-fill (sized (goal.at.returns-then-procedure-eq0 c).Else-not-size_kept))
+      blocks = λ said. past_first c.args.loaded.now.planned _ _ _ _ c.requires.0 c.requires.1 l.invariant.1 first (filled (goal.at.returns-then-procedure-eq0 c).After-fill (sized (goal.at.returns-then-procedure-eq0 c).Else-not-size_kept))
           c.fill-then-procedure-eq0.ensures (sym is ∙ said);
     }
 
@@ -110,7 +110,7 @@ pub returns-then-not-call_kept : goal.returns-then-not-call_kept
 returns-then-not-call_kept c =
     let l = c.loop-q in
     let no = sym c.call_kept.ensures ∙ c.if-not-call_kept.true in record {
-      value = along_uncalled c.args.loaded.now.ready.planned _ _ _ _ c.requires.0 c.requires.1 l.invariant.1
+      value = along_uncalled c.args.loaded.now.planned _ _ _ _ c.requires.0 c.requires.1 l.invariant.1
           c.if-procedure-eq0.false
           c.caller-older.ensures c.link-back.ensures no;
       blocks = λ e. clash (sym e);
@@ -124,7 +124,7 @@ pub returns-then-start-older : goal.returns-then-start-older
 returns-then-start-older c =
     let l = c.loop-q in
     record {
-      value = along_unfallen c.args.loaded.now.ready.planned _ _ _ _ c.requires.0 c.requires.1 l.invariant.1
+      value = along_unfallen c.args.loaded.now.planned _ _ _ _ c.requires.0 c.requires.1 l.invariant.1
           c.if-procedure-eq0.false
           c.caller-older.ensures c.link-back.ensures
           (omega (arith, c.if-start-older.true));
@@ -139,7 +139,7 @@ loop-q-preserved c =
     let l = c.loop-q in
     let called = sym c.call_kept.ensures ∙ c.if-not-call_kept.false in (
       c.fill.ensures.cells ∙ l.invariant.0,
-      along_on c.args.loaded.now.ready.planned _ _ _ _ c.requires.0 c.requires.1 l.invariant.1
+      along_on c.args.loaded.now.planned _ _ _ _ c.requires.0 c.requires.1 l.invariant.1
           c.if-procedure-eq0.false
           c.caller-older.ensures c.link-back.ensures
           (sized (goal.at.loop-q-preserved c).Else-not-size_kept) called c.if-start-older.false (filled (goal.at.loop-q-preserved c).After-fill (sized (goal.at.loop-q-preserved c).Else-not-size_kept)),

@@ -3,7 +3,7 @@ use Rattle.access.proofs.Bounds.{procedures_few}
 use Rattle.access.proofs.Loaded.first_variable.Goals as goal
 
 pub bounds-self-q : goal.bounds-self-q
-bounds-self-q c = omega (arith, c.args.self.now.ready.planned.checked.cells, procedures_few c.args.self.now.ready.planned, c.requires)
+bounds-self-q c = omega (arith, c.args.self.now.planned.checked.cells, procedures_few c.args.self.now.planned, c.requires)
 
 pub returns : goal.returns
-returns c = c.args.self.now.ready.planned.checked.first _ c.requires
+returns c = c.args.self.now.planned.checked.first _ c.requires

@@ -3,4 +3,4 @@ use Rattle.access.proofs.Bounds.{single_first}
 use Rattle.access.proofs.Loaded.is_single.Goals as goal
 
 pub returns : goal.returns
-returns c = rw c.scalar_rows.ensures (sym (single_first c.args.self.now.ready.planned _ c.requires 1))
+returns c = rw c.scalar_rows.ensures (sym (single_first c.args.self.now.planned _ c.requires 1))

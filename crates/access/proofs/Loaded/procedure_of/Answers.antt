@@ -3,7 +3,7 @@ use Rattle.access.proofs.Bounds.{statements_few}
 use Rattle.access.proofs.Loaded.procedure_of.Goals as goal
 
 pub bounds-self-r : goal.bounds-self-r
-bounds-self-r c = omega (arith, c.args.self.now.ready.planned.checked.cells, statements_few c.args.self.now.ready.planned, c.requires)
+bounds-self-r c = omega (arith, c.args.self.now.planned.checked.cells, statements_few c.args.self.now.planned, c.requires)
 
 pub returns : goal.returns
-returns c = c.args.self.now.ready.owner _ c.requires
+returns c = c.requires.1.owner _ c.requires.0

@@ -1,7 +1,7 @@
 use Rattle.access.proofs.Loaded.table.Goals as goal
 
 pub table-requires : goal.table-requires
-table-requires c = (c.args.self.now.ready.planned.checked, c.requires)
+table-requires c = (c.args.self.now.planned.checked, c.requires)
 
 pub returns : goal.returns
 returns c = c.table.ensures

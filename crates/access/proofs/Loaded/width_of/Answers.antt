@@ -8,7 +8,7 @@ returns-then-row-eq3 c = sym (width_var _ _ _ (rw c.variable_at-row.ensures at c
 
 pub size_of-requires : goal.size_of-requires
 size_of-requires c =
-    rw c.variable_at-row.ensures (variable_typed c.args.self.now.ready.planned _ c.requires)
+    rw c.variable_at-row.ensures (variable_typed c.args.self.now.planned _ c.requires)
 
 pub returns : goal.returns
 returns c =

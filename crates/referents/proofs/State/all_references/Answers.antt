@@ -27,7 +27,7 @@ pub returns-then-procedure-eq0 : goal.returns-then-procedure-eq0
 unfolding references_pass
 returns-then-procedure-eq0 c = let over = c.loop-q.invariant in
     over_end _ _ _ _ _ _ over (here_answer _ _ _ _ _ c.requires.1 over c.frame_references.ensures)
-    c.args.self.now.loaded.ready.planned c.if-not-frame_references.false c.if-procedure-eq0.true
+    c.args.self.now.loaded.planned c.if-not-frame_references.false c.if-procedure-eq0.true
 
 pub caller-caller-requires : goal.caller-caller-requires
 caller-caller-requires c = (c.requires.1.cells, here_low _ _ _ _ _ c.requires.1 c.loop-q.invariant)
@@ -42,7 +42,7 @@ to-caller c = let c = c in
     let over = c.loop-q.invariant in
     let answer = c.frame_references.ensures in
     over_on _ _ _ _ _ _ over (here_answer _ _ _ _ _ c.requires.1 over answer)
-    c.args.self.now.loaded.ready.planned c.if-not-frame_references.false (here_low _ _ _ _ _ c.requires.1 over)
+    c.args.self.now.loaded.planned c.if-not-frame_references.false (here_low _ _ _ _ _ c.requires.1 over)
     c.if-procedure-eq0.false c.caller-caller.ensures
 
 pub loop-q-smaller : goal.loop-q-smaller

@@ -16,7 +16,7 @@ first_variable-first-requires c =
 
 pub overflow_add-end : goal.overflow_add-end
 overflow_add-end c =
-    let p = c.args.self.now.loaded.ready.planned in
+    let p = c.args.self.now.loaded.planned in
     omega (
       arith,
       end_is c.args.self.now.loaded.image.now c.args.q c.procedure_at-procedure.ensures
@@ -30,11 +30,11 @@ first-there : (c : After-first_variable-first)
     → c.first_variable-first.result ≤ rows_of (program_of c.args.self.now.loaded.image.now).variables
 first-there c =
     let c = c in
-    omega (arith, claimed_there c.args.self.now.loaded.ready.planned _ c.requires.2, c.first_variable-first.ensures)
+    omega (arith, claimed_there c.args.self.now.loaded.planned _ c.requires.2, c.first_variable-first.ensures)
 
 pub offset_bounds-next-first : goal.offset_bounds-next-first
 offset_bounds-next-first c =
-    omega (arith, first-there (goal.at.offset_bounds-next-first c).After-first_variable-first, variables_few c.args.self.now.loaded.ready.planned)
+    omega (arith, first-there (goal.at.offset_bounds-next-first c).After-first_variable-first, variables_few c.args.self.now.loaded.planned)
 
 pub bounds-next-first : goal.bounds-next-first
 bounds-next-first c =
@@ -42,7 +42,7 @@ bounds-next-first c =
 
 pub overflow_cast-k-2 : goal.overflow_cast-k-2
 overflow_cast-k-2 c =
-    let p = c.args.self.now.loaded.ready.planned in
+    let p = c.args.self.now.loaded.planned in
     omega (arith, skips_within _ c.requires.0 _ (first-there (goal.at.overflow_cast-k-2 c).After-first_variable-first), variables_few p)
 
 pub loop-k-init : goal.loop-k-init
@@ -53,7 +53,7 @@ pub parameter-requires : goal.parameter-requires
 parameter-requires c =
     let image = c.args.self.now.loaded.image.now in
     let q = c.args.q in
-    let p = c.args.self.now.loaded.ready.planned in
+    let p = c.args.self.now.loaded.planned in
     let low = c.loop-k.invariant.least in
     let more = rw (end_is image q c.procedure_at-procedure.ensures
     c.first_variable-first.ensures) at c.loop-k-test.true in (
@@ -69,7 +69,7 @@ returns-then-not-parameter c =
     let q = c.args.q in
     let more = rw (end_is image q c.procedure_at-procedure.ensures
     c.first_variable-first.ensures) at c.loop-k-test.true in
-    passed_no image q _ _ _ _ c.args.self.now.loaded.ready.planned c.requires.2 c.loop-k.invariant more
+    passed_no image q _ _ _ _ c.args.self.now.loaded.planned c.requires.2 c.loop-k.invariant more
     c.parameter.ensures c.if-not-parameter.true
 
 -- the parameter is there
@@ -80,16 +80,16 @@ row_there c =
     let image = c.args.self.now.loaded.image.now in
     let more = rw (end_is image c.args.q c.procedure_at-procedure.ensures
     c.first_variable-first.ensures) at c.loop-k-test.true in
-    parameter_there image c.args.q c.args.self.now.loaded.ready.planned c.requires.2
+    parameter_there image c.args.q c.args.self.now.loaded.planned c.requires.2
     c.loop-k.invariant.least more
 
 pub overflow_add-k : goal.overflow_add-k
 overflow_add-k c =
-    omega (arith, row_there c, variables_few c.args.self.now.loaded.ready.planned)
+    omega (arith, row_there c, variables_few c.args.self.now.loaded.planned)
 
 pub offset_bounds-next-k : goal.offset_bounds-next-k
 offset_bounds-next-k c =
-    omega (arith, row_there c, variables_few c.args.self.now.loaded.ready.planned)
+    omega (arith, row_there c, variables_few c.args.self.now.loaded.planned)
 
 pub bounds-next-k : goal.bounds-next-k
 bounds-next-k c =
@@ -98,7 +98,7 @@ bounds-next-k c =
 pub overflow_cast-k-in-loop-k-2 : goal.overflow_cast-k-in-loop-k-2
 overflow_cast-k-in-loop-k-2 c =
     let l = c.loop-k in
-    let p = c.args.self.now.loaded.ready.planned in
+    let p = c.args.self.now.loaded.planned in
     omega (arith, skips_within _ c.requires.0 (l.k + 1) (omega (arith, row_there (goal.at.overflow_cast-k-in-loop-k-2 c).Else-not-parameter)), variables_few p)
 
 pub loop-k-smaller : goal.loop-k-smaller
@@ -115,7 +115,7 @@ loop-k-preserved c =
     let more = rw (end_is image q c.procedure_at-procedure.ensures
     c.first_variable-first.ensures)
     at c.loop-k-test.true in
-    passed_next image q _ _ _ _ c.args.self.now.loaded.ready.planned c.requires.2 l.invariant more
+    passed_next image q _ _ _ _ c.args.self.now.loaded.planned c.requires.2 l.invariant more
     c.parameter.ensures c.if-not-parameter.false
     (c.requires.0.each (l.k + 1) (omega (arith, row_there (goal.at.loop-k-preserved c).Else-not-parameter)))
 
@@ -125,4 +125,4 @@ returns c =
     let q = c.args.q in
     let done = rw (end_is image q c.procedure_at-procedure.ensures
     c.first_variable-first.ensures) at c.loop-k-test.false in
-    passed_end image q _ _ _ _ c.args.self.now.loaded.ready.planned c.requires.2 c.loop-k.invariant done
+    passed_end image q _ _ _ _ c.args.self.now.loaded.planned c.requires.2 c.loop-k.invariant done

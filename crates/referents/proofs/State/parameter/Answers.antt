@@ -13,7 +13,7 @@ pub reference-requires : goal.reference-requires
 reference-requires c = let g = program_of c.args.self.now.loaded.image.now in
     let row = c.variable_at-row.ensures in (
       c.requires.0,
-      variable_low _ _ row (variable_typed c.args.self.now.loaded.ready.planned _ c.requires.1),
+      variable_low _ _ row (variable_typed c.args.self.now.loaded.planned _ c.requires.1),
       c.requires.2,
       test_room g _ row c.if-row-ne3.false c.args.base c.place_of.ensures c.requires.3,
     )

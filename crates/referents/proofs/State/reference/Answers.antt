@@ -14,7 +14,7 @@ pub returns-in_default : goal.returns-in_default
 returns-in_default c = let g = program_of c.args.self.now.loaded.image.now in
     λ p qs older framed oldest start.
     no_address g older _ _ _ _ c.requires.3 c.requires.0.cells
-    (program_accepted _ c.args.self.now.loaded.ready.planned.checked.accepted)
+    (program_accepted _ c.args.self.now.loaded.planned.checked.accepted)
     (older_existing g framed.walked oldest) start
     c.mark_at.ensures c.in_default.is c.requires.2
 
@@ -22,7 +22,7 @@ pub returns-in_default-mark_at : goal.returns-in_default-mark_at
 returns-in_default-mark_at c = let g = program_of c.args.self.now.loaded.image.now in
     λ p qs older framed oldest start.
     no_type g older _ _ _ _ c.requires.3 c.requires.0.cells
-    c.mark_at-2.ensures c.in_default-mark_at.is (types_few c.args.self.now.loaded.ready.planned) c.requires.1
+    c.mark_at-2.ensures c.in_default-mark_at.is (types_few c.args.self.now.loaded.planned) c.requires.1
 
 pub object_at-requires : goal.object_at-requires
 object_at-requires c =
@@ -36,7 +36,7 @@ returns-then-at-base c =
     let (extends, low) = c.if-at-base.true in
     λ p qs older framed oldest start.
     refers g older _ _ _ _ c.requires.3 c.requires.0.cells
-    (program_accepted _ c.args.self.now.loaded.ready.planned.checked.accepted)
+    (program_accepted _ c.args.self.now.loaded.planned.checked.accepted)
     (older_existing g framed.walked oldest) start
     c.mark_at.ensures c.in-Some.is
     c.mark_at-2.ensures c.in-Some-mark_at.is
@@ -51,7 +51,7 @@ returns-else-at-base c =
       | then-extends w ↦ elim c.if-at-base.either [
         | inl (extends, high) ↦ w.t-14-is ∙ lt-leb _ _ high
             ∙ too_high g older _ _ _ _ c.requires.3 c.requires.0.cells
-            (program_accepted _ c.args.self.now.loaded.ready.planned.checked.accepted)
+            (program_accepted _ c.args.self.now.loaded.planned.checked.accepted)
             (older_existing g framed.walked oldest) start
             c.mark_at.ensures c.in-Some.is high
         | inr none ↦ clash (sym w.if-extends.true ∙ none)
