@@ -1,38 +1,37 @@
--- How often a node is named, in a byte.
-use Rattle.std.specs.Prelude.{◌≡◌, Bool, ◌||◌, List, ℕ, zero, suc, ◌<◌, eqb, length, get_or}
+-- How often a node is named.
+use Rattle.std.specs.Prelude.{◌≡◌, Bool, true, false, ◌||◌, List, ℕ, zero, suc, ◌<◌, eqb, length, get_or}
 use Rattle.prelude.specs.Choice.{choose}
+use Rattle.names.specs.declared.Often.{Often}
+use Rattle.names.specs.declared.Often.TheVariants.{Never, Once, More}
 use Rattle.names.specs.Names.{count_in}
 
--- "never, once or more often"
-abbrev pub NEVER : ℕ
-NEVER = 0
+-- which of the three, "never, once or more often", holds of a node that has so many names
+unfoldable pub often_of : ℕ → Often
+often_of count = choose (eqb count 0) Never (choose (eqb count 1) Once More)
 
-abbrev pub ONCE : ℕ
-ONCE = 1
-
-abbrev pub MORE : ℕ
-MORE = 2
-
--- which of the three holds of a node that has so many names
-unfoldable pub often_of : ℕ → ℕ
-often_of count = choose (eqb count 0) NEVER (choose (eqb count 1) ONCE MORE)
+unfoldable pub is_once : Often → Bool
+is_once Never = false
+is_once Once = true
+is_once More = false
 
 -- "These bytes are shown to say which of the three holds of each node": row by row, by counting the names themselves
-pub record Says (names bytes : List ℕ) : Type 0 where
-  pub each : (k : ℕ) → k < length bytes → get_or bytes k NEVER ≡ often_of (count_in k names)
+pub record Says (names : List ℕ) (table : List Often) : Type 0 where
+  pub each : (k : ℕ) → k < length table → get_or table k Never ≡ often_of (count_in k names)
 
--- a byte after one name more, and after so many
-unfoldable pub more : ℕ → ℕ
-more byte = choose (eqb byte NEVER) ONCE MORE
+-- which of the three after one name more, and after so many
+unfoldable pub more : Often → Often
+more Never = Once
+more Once = More
+more More = More
 
-unfoldable pub after : ℕ → ℕ → ℕ
-after zero byte = byte
-after (suc count) byte = after count (more byte)
+unfoldable pub after : ℕ → Often → Often
+after zero often = often
+after (suc count) often = after count (more often)
 
--- bytes after these names, whatever they were: a name of a row that the table does not have changes none
-pub record Named (names old bytes : List ℕ) : Type 0 where
-  pub rows : length bytes ≡ length old
-  pub each : (k : ℕ) → k < length old → get_or bytes k NEVER ≡ after (count_in k names) (get_or old k NEVER)
+-- a table after these names, whatever it said: a name of a row that it does not have changes nothing
+pub record Named (names : List ℕ) (old table : List Often) : Type 0 where
+  pub rows : length table ≡ length old
+  pub each : (k : ℕ) → k < length old → get_or table k Never ≡ after (count_in k names) (get_or old k Never)
 
 -- which of its numbers a row names, by its kind: a node its a, or its b; a statement its a
 unfoldable pub node_names_a : ℕ → Bool

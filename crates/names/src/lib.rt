@@ -1,36 +1,43 @@
 // Names: question 9, with a byte for each node.
 #![tactic(auto)]
 
-ghost use Rattle.std.specs.Prelude.{[], ◌∷◌, ◌≡◌, ℕ, ◌≤◌, ltb, eqb, length, get_or};
+ghost use Rattle.std.specs.Prelude.{[], ◌∷◌, ◌≡◌, ℕ, ◌≤◌, length, get_or};
 ghost use Rattle.prelude.specs.Choice.{choose};
 ghost use Rattle.image.specs.Faults.{lowest_fault};
 ghost use Rattle.image.specs.Rows.{row_at, rows_of};
 ghost use Rattle.names.specs.Names.{names_of_node, names_of_statement, rows_from, names_from, names_in, question9};
-ghost use Rattle.names.specs.Often.{NEVER, ONCE, Says, more as more_of, Named};
+ghost use Rattle.names.specs.declared.Often.TheVariants.{Never};
+ghost use Rattle.names.specs.Often.{is_once, Says, more as more_of, Named};
 ghost use Rattle.names.specs.Often.{node_names_a, node_names_b, statement_names_a};
 
 use image::Row;
 
-// ---- how often a node is named: one of these numbers
+// ---- how often a node is named
 
-const NEVER: u8 = 0;
-
-const ONCE: u8 = 1;
-
-const MORE: u8 = 2;
+// In a byte of the table.
+#[derive(Clone, Copy, PartialEq, Eq)]
+#[repr(u8)]
+enum Often {
+    Never,
+    Once,
+    More,
+}
 
 // After one name more.
-#[tactic(auto, unfolding(crate::specs::Often::more, prelude::specs::Choice::choose))]
-fn more(byte: u8) -> u8
-    ensures { result ≡ more_of byte }
+#[tactic(auto, unfolding(crate::specs::Often::more))]
+fn more(often: Often) -> Often
+    ensures { result ≡ more_of often }
 {
-    if byte == NEVER { ONCE } else { MORE }
+    match often {
+        Often::Never => Often::Once,
+        Often::Once | Often::More => Often::More,
+    }
 }
 
 // ---- names: each is counted in the byte of its row, where the table has that row
 
 // The number k, where it is a name.
-fn name(often: &mut [u8], named: bool, k: u16)
+fn name(often: &mut [Often], named: bool, k: u16)
     ensures { Named (choose named (k ∷ []) []) often.old often.new }
 {
     let row = k as usize;
@@ -40,14 +47,14 @@ fn name(often: &mut [u8], named: bool, k: u16)
 }
 
 // So many rows from `from` on. The loop stores each byte, without a test, so that the compiler takes many at a time.
-fn name_rows(often: &mut [u8], from: u16, rows: u16)
+fn name_rows(often: &mut [Often], from: u16, rows: u16)
     ensures { Named (rows_from from rows) often.old often.new }
 {
     let length = often.len();
     let first = from as usize;
     let end = length.min(first + rows as usize);
-    for byte in &mut often[length.min(first)..end] {
-        *byte = more(*byte);
+    for node in &mut often[length.min(first)..end] {
+        *node = more(*node);
     }
 }
 
@@ -68,7 +75,7 @@ fn node_names_b(kind: u8) -> bool
 }
 
 // What a node names.
-fn name_node(often: &mut [u8], row: Row)
+fn name_node(often: &mut [Often], row: Row)
     ensures { Named (names_of_node row) often.old often.new }
 {
     name(often, node_names_a(row.kind), row.a);
@@ -83,7 +90,7 @@ fn statement_names_a(kind: u8) -> bool
 }
 
 // The arguments of a call.
-fn name_arguments(p: &[u8], often: &mut [u8], row: Row)
+fn name_arguments(p: &[u8], often: &mut [Often], row: Row)
     ensures { Named (rows_from row.b (row_at p.now row.a).b) often.old
         often.new }
 {
@@ -91,7 +98,7 @@ fn name_arguments(p: &[u8], often: &mut [u8], row: Row)
 }
 
 // What a statement names.
-fn name_statement(p: &[u8], often: &mut [u8], row: Row)
+fn name_statement(p: &[u8], often: &mut [Often], row: Row)
     ensures { Named (names_of_statement p.now row) often.old often.new }
 {
     name(often, statement_names_a(row.kind), row.a);
@@ -101,7 +108,7 @@ fn name_statement(p: &[u8], often: &mut [u8], row: Row)
     }
 }
 
-fn name_nodes(n: &[u8], often: &mut [u8])
+fn name_nodes(n: &[u8], often: &mut [Often])
     ensures { Named (names_from (λ i. names_of_node (row_at n.now i)) 0 (rows_of n.now))
         often.old often.new }
 {
@@ -110,7 +117,7 @@ fn name_nodes(n: &[u8], often: &mut [u8])
     }
 }
 
-fn name_statements(p: &[u8], s: &[u8], often: &mut [u8])
+fn name_statements(p: &[u8], s: &[u8], often: &mut [Often])
     ensures { Named (names_from (λ i. names_of_statement p.now (row_at s.now i)) 0
         (rows_of s.now)) often.old often.new }
 {
@@ -122,8 +129,8 @@ fn name_statements(p: &[u8], s: &[u8], often: &mut [u8])
 // ---- the question
 
 // How often each node is named, into a table that says never of every row.
-fn count_names(n: &[u8], p: &[u8], s: &[u8], often: &mut [u8])
-    requires { (k : ℕ) → get_or often.old k NEVER ≡ NEVER }
+fn count_names(n: &[u8], p: &[u8], s: &[u8], often: &mut [Often])
+    requires { (k : ℕ) → get_or often.old k Never ≡ Never }
     ensures { Says (names_in n.now p.now s.now) often.new }
 {
     name_nodes(n, often);
@@ -131,12 +138,12 @@ fn count_names(n: &[u8], p: &[u8], s: &[u8], often: &mut [u8])
 }
 
 // Whether each of the rows is named once.
-fn each_once(often: &[u8], rows: usize) -> Result<(), u16>
+fn each_once(often: &[Often], rows: usize) -> Result<(), u16>
     requires { (rows ≤ 2048) × (rows ≤ length often.now) }
-    ensures { result ≡ lowest_fault (λ k. eqb (get_or often.now k NEVER) ONCE) rows }
+    ensures { result ≡ lowest_fault (λ k. is_once (get_or often.now k Never)) rows }
 {
     for k in 0..rows {
-        if often[k] != ONCE {
+        if often[k] != Often::Once {
             return Err(k as u16);
         }
     }
@@ -149,7 +156,7 @@ pub fn check_names(n: &[u8], p: &[u8], s: &[u8]) -> Result<(), u16>
     ensures { result ≡ question9 n.now p.now s.now }
 {
     let nodes = image::rows_of(n);
-    let mut often = [NEVER; 2048];
+    let mut often = [Often::Never; 2048];
     count_names(n, p, s, &mut often);
     each_once(&often, nodes)
 }

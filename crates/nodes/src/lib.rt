@@ -24,6 +24,7 @@ pub fn is_argument(n: &[u8], k: usize) -> bool
     image::row_at(n, k).kind == 8
 }
 
+// A child, or a designator, in a lower row: two lines, which one function with the test handed to it would not shorten.
 fn child_kept(n: &[u8], r: usize, k: u16) -> bool
     ensures { result ≡ child_kept n.now r k }
 {

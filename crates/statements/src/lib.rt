@@ -84,6 +84,7 @@ fn arguments_kept(runs: &[u16], b: u16, parameters: u16) -> bool
     }
 }
 
+// A line for each kind below: forms that differ in what a and b are share no more than `row.c == 0`.
 fn assign_kept(n: &[u8], row: Row) -> bool
     ensures { result ≡ assign_kept n.now row }
 {

@@ -7,7 +7,8 @@ use Rattle.frames.proofs.globals.Goals as goal
 pub returns-then-row-ne0 : goal.returns-then-row-ne0
 unfolding globals_of
 returns-then-row-ne0 c = let l = c.loop-k in
-    sym (rw (← c.rows_of-n.ensures) (l.invariant ∙ globals_stop _ _ _ c.loop-k-test.true c.row_at-row.ensures c.if-row-ne0.true))
+    sym (rw (← c.rows_of-n.ensures)
+    (l.invariant ∙ globals_stop _ _ _ c.loop-k-test.true c.row_at-row.ensures c.if-row-ne0.true))
 
 pub loop-k-preserved : goal.loop-k-preserved
 loop-k-preserved c =

@@ -15,7 +15,8 @@ overflow_add-place c =
     let s = c.requires in
     let here : c.args.k + (l.i - c.args.k) ≡ l.i = omega arith in
     let more : l.i - c.args.k < c.args.n = omega arith in
-    let small = run_small _ _ _ _ _ _ _ _ s.0 s.1 l.invariant more c.width_at-width.result (rw here c.width_at-width.ensures) s.2 in
+    let small = run_small _ _ _ _ _ _ _ _ s.0 s.1 l.invariant more c.width_at-width.result
+    (rw here c.width_at-width.ensures) s.2 in
     record { fits = omega (arith, small) }
 
 pub loop-i-preserved : goal.loop-i-preserved
@@ -25,4 +26,6 @@ loop-i-preserved c =
     let here : c.args.k + (l.i - c.args.k) ≡ l.i = omega arith in
     let one : l.i - c.args.k + 1 ≡ l.i + 1 - c.args.k = omega arith in
     let more : l.i - c.args.k < c.args.n = omega arith in
-    rw (here, one) at (run_next _ _ _ _ _ _ _ _ s.0 s.1 l.invariant more c.width_at-width.result (rw here c.width_at-width.ensures))
+    let next = run_next _ _ _ _ _ _ _ _ s.0 s.1 l.invariant more c.width_at-width.result
+    (rw here c.width_at-width.ensures) in
+    rw (here, one) at next

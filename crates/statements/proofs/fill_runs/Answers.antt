@@ -15,4 +15,5 @@ pub loop-i-preserved : goal.loop-i-preserved
 loop-i-preserved c = let l = c.loop-i in
     let within = l.invariant.within in
     let cells = l.invariant.cells in
-    written_next _ _ l.runs l.i (l.i - 1) l.run _ l.invariant (omega arith) (omega (arith, c.requires.1)) c.next_run-run.ensures
+    written_next _ _ l.runs l.i (l.i - 1) l.run _ l.invariant (omega arith) (omega (arith, c.requires.1))
+    c.next_run-run.ensures
