@@ -93,7 +93,8 @@ impl<'a> Loaded<'a> {
 
     // ---- types
 
-    // Whether type row r extends row u: a bit of row r's. Past the last row there can be, each row extends itself alone.
+    // Whether type row r extends row u: a bit of row r's. Past the last row there can be, each row extends itself
+    // alone.
     pub fn extends(&self, r: u16, u: u16) -> bool
         ensures { result ≡ extends_of (program_of self.now.image.now).types r u }
     {
@@ -109,8 +110,8 @@ impl<'a> Loaded<'a> {
         false
     }
 
-    // The field that node row k names, of an object of type row r: by the node's cell if that is of the same record, else up
-    // the bases.
+    // The field that node row k names, of an object of type row r: by the node's cell if that is of the same record,
+    // else up the bases.
     pub fn field(&self, k: u32, r: u16) -> Option<FieldAt>
         requires { ((row_at (program_of self.now.image.now).nodes k).kind ≡ 2)
             × (r < rows_of (program_of self.now.image.now).types) }

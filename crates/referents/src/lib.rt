@@ -198,9 +198,9 @@ impl<'a> State<'a> {
             × Stacked (program_of self.now.loaded.image.now) self.now.store.now self.now.top
             self.now.blocks.now base
             × (q < rows_of (program_of self.now.loaded.image.now).procedures)
-            × (base + frame_size (program_of self.now.loaded.image.now).types (program_of self.now.loaded.image.now).fields
-            (program_of self.now.loaded.image.now).variables (program_of self.now.loaded.image.now).procedures q
-            ≤ self.now.top) }
+            × (base + frame_size (program_of self.now.loaded.image.now).types
+            (program_of self.now.loaded.image.now).fields (program_of self.now.loaded.image.now).variables
+            (program_of self.now.loaded.image.now).procedures q ≤ self.now.top) }
         ensures { (p : ℕ) (qs older : List ℕ) → Framed (program_of self.now.loaded.image.now) self.now.store.now
             self.now.top self.now.blocks.now qs → Oldest (p ∷ older) qs
             → base ≡ room_of (program_of self.now.loaded.image.now) older

@@ -73,10 +73,7 @@ fn caller_below(store: &[i64], top: u32, base: u32, at: u32) -> Spot
     let mut b = base;
     loop {
         let older = caller(store, top, b);
-        if older.base < at {
-            return older;
-        }
-        if b <= older.base {
+        if older.base < at || b <= older.base {
             return older;
         }
         b = older.base;
@@ -93,10 +90,7 @@ pub fn frame_below(store: &[i64], top: u32, blocks: &[u16], from: u32, at: u32) 
 {
     let block = (at - 1) / BLOCK;
     let above = blocks[block as usize] as u32;
-    if above < from {
-        return caller_below(store, top, above, at);
-    }
-    caller_below(store, top, from, at)
+    caller_below(store, top, above.min(from), at)
 }
 
 // ---- frames of a program

@@ -14,10 +14,10 @@ all : (c : Then-is_marked) → (unfinished c.args.from ≡ true)
 all c = elim c.if-is_within.branch [
   | then-is_within w ↦ elim c.if-is_unfinished.branch [
     | then-is_unfinished v ↦ (
-        sym c.is_unfinished.ensures ∙ v.if-is_unfinished.true,
-        sym v.is_within.ensures ∙ sym v.value-is ∙ w.if-is_within.true,
-        sym w.is_marked.ensures ∙ sym w.value-is ∙ c.if-is_marked.true,
-      )
+      sym c.is_unfinished.ensures ∙ v.if-is_unfinished.true,
+      sym v.is_within.ensures ∙ sym v.value-is ∙ w.if-is_within.true,
+      sym w.is_marked.ensures ∙ sym w.value-is ∙ c.if-is_marked.true,
+    )
     | else-is_unfinished v ↦ clash (sym w.if-is_within.true ∙ v.value-is ∙ v.if-is_unfinished.false)
   ]
   | else-is_within w ↦ clash (sym c.if-is_marked.true ∙ w.value-is ∙ w.if-is_within.false)

@@ -1,11 +1,10 @@
-use mathlib.Core.Path.{◌≡◌, refl, sym, ◌∙◌, ap}
-use Prim.Native.Nat.{◌+◌, ◌-◌}
+use mathlib.Core.Path.{◌≡◌, refl, sym, ◌∙◌}
+use Prim.Native.Nat.{◌-◌}
 use borrow.Author.Tests.{ne_eqb, eq-eqb, le-leb, lt-leb}
 use lib.Dec.{eqb}
-use mathlib.Core.Logic.{◌⊎◌, inl, inr}
+use mathlib.Core.Logic.{inl, inr}
 use Rattle.prelude.specs.Choice.{◌also◌}
 use Rattle.prelude.proofs.Choice.{also_left, also_right, also_pass}
-use Rattle.image.specs.Rows.{row_at}
 use Rattle.semantics.specs.Running.{program_of}
 use Rattle.asking.specs.State.{inside_kept, call_kept}
 use Rattle.unwinding.proofs.Conjunctions.{both_yes, both_no, three_more}
@@ -26,9 +25,9 @@ three c = elim c.if-row-q.branch [
       v.value-is ∙ v.inside.ensures ∙ sym (also_pass _ (eq-eqb _ _ first) ∙ also_pass _ (eq-eqb _ _ second))
   | else-row-q v ↦ elim c.if-row-eq1.branch [
     | then-row-eq1 w ↦ let other : c.statement_at-row.result.a ≡ c.args.q → ⊥ = elim v.if-row-q.either [
-        | inl h ↦ h.1
-        | inr none ↦ λ e. none w.if-row-eq1.true
-      ] in
+      | inl h ↦ h.1
+      | inr none ↦ λ e. none w.if-row-eq1.true
+    ] in
         let fails = ne_eqb _ _ other in
         v.value-is ∙ w.t-11-is ∙ fails ∙ sym (also_right _ (also_left _ fails))
     | else-row-eq1 w ↦ let fails = ne_eqb _ _ w.if-row-eq1.false in

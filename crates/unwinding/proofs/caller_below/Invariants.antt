@@ -10,11 +10,11 @@ use Rattle.unwinding.proofs.Seeking.{Seeking}
 use Rattle.unwinding.proofs.caller_below.Given as goal
 
 -- `unwinding::caller_below` meets its contract: the frame sought is older than the one that the loop stands at.
-abbrev pub invariant-loop-older : goal.invariant-loop-older
-invariant-loop-older l = (l.b ≤ 65536)
+abbrev pub invariant-loop-b : goal.invariant-loop-b
+invariant-loop-b l = (l.b ≤ 65536)
     × ((g : Program) (qs older : List ℕ) (p start e : ℕ) → Walked g qs l.store start e → e ≤ l.top
     → rows_of g.procedures ≤ 64 → room_of g [] < l.at → Oldest (p ∷ older) qs → l.base ≡ room_of g older → l.at ≤ l.base
     → Seeking g qs l.store l.top l.at l.b)
 
-abbrev pub decreases-loop-older : goal.decreases-loop-older
-decreases-loop-older l = l.b
+abbrev pub decreases-loop-b : goal.decreases-loop-b
+decreases-loop-b l = l.b

@@ -1,30 +1,25 @@
 use Prim.Native.Nat.{◌-◌, ◌/◌}
+use lib.ListN.{get_or}
+use native.Mathlib.Decide.{dec_lt}
 use native.Mathlib.Omega.{arith}
 use Rattle.unwinding.specs.Blocks.{BLOCK}
 use Rattle.unwinding.proofs.Blocks.{block_behind, table_above}
 use Rattle.unwinding.proofs.frame_below.Goals as goal
 
-pub overflow_cast-above-2 : goal.overflow_cast-above-2
-overflow_cast-above-2 c =
-    let fits = c.shared_slice_known-2-1.given ((c.args.at - 1) / BLOCK) in
-    record { fits = omega arith }
-
 pub caller_below-requires : goal.caller_below-requires
 caller_below-requires c =
-    let fits = c.shared_slice_known-2-1.given ((c.args.at - 1) / BLOCK) in
-    (c.requires.0, omega arith)
-
-pub returns-then-above-from : goal.returns-then-above-from
-returns-then-above-from c = λ g qs older p b e walked within few blocks above oldest is most.
-    let a = table_above g blocks c.requires.3 oldest (omega (arith, c.if-above-from.true, is)) in
-    c.caller_below.ensures g qs a.older a.procedure b e walked within few above a.oldest a.base
-    (omega (arith, a.high, block_behind c.args.at))
-
-pub caller_below-requires-2 : goal.caller_below-requires-2
-caller_below-requires-2 c =
-    let fits = c.shared_slice_known-2-1.given ((c.args.at - 1) / BLOCK) in
-    (c.requires.0, omega (arith, c.if-above-from.false))
+    let fits = c.type_inv.blocks ((c.args.at - 1) / BLOCK) in
+    (c.requires.0, omega (arith, fits, c.min.ensures))
 
 pub returns : goal.returns
 returns c = λ g qs older p b e walked within few blocks above oldest is most.
-    c.caller_below-2.ensures g qs older p b e walked within few above oldest is most
+    elim (dec_lt (get_or c.args.blocks.now ((c.args.at - 1) / BLOCK) 0) c.args.from) [
+      | yes less ↦
+          let a = table_above g blocks c.requires.3 oldest (omega (arith, less, is)) in
+          c.caller_below.ensures g qs a.older a.procedure b e walked within few above a.oldest
+          (omega (arith, c.min.ensures, less, a.base))
+          (omega (arith, c.min.ensures, less, a.high, block_behind c.args.at))
+      | no more ↦
+          c.caller_below.ensures g qs older p b e walked within few above oldest
+          (omega (arith, c.min.ensures, more, is)) (omega (arith, c.min.ensures, more, most))
+    ]
