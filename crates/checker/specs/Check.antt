@@ -68,7 +68,7 @@ question_of image q =
 
 -- ---- the check
 
--- why an image is refused: "number and first row"
+-- why an image is refused: the question, and the row
 abbrev pub refused_at : ℕ → ℕ → Refusal
 refused_at q row = record { question = q; row = row }
 
