@@ -10,6 +10,7 @@ ghost use Rattle.semantics.specs.Memory.{bare, overwrite};
 ghost use Rattle.semantics.specs.Finding.{find_of, eval_of};
 ghost use Rattle.semantics.specs.Stepping.{on_place, on_value, on_part, passed, entered, called};
 ghost use Rattle.semantics.specs.Running.{program_of, asked_by};
+ghost use Rattle.access.specs.Ready.{Ready};
 ghost use Rattle.calling.specs.Showing.{state_of, Stands, Shows};
 ghost use Rattle.calling.specs.Passing.{lost_place, lost_value, ended_by, framed, passed_one, Roomy, Passes};
 
@@ -217,7 +218,8 @@ fn enter(loaded: &Loaded, store: &mut [i64], s: Registers, q: u16) -> Step
     requires { Stands s store.old × (q < rows_of (program_of loaded.now.image.now).procedures)
         × (s.row < rows_of (program_of loaded.now.image.now).statements)
         × (s.top + frame_size (program_of loaded.now.image.now).types (program_of loaded.now.image.now).fields
-        (program_of loaded.now.image.now).variables (program_of loaded.now.image.now).procedures q ≤ length store.old) }
+        (program_of loaded.now.image.now).variables (program_of loaded.now.image.now).procedures q ≤ length store.old)
+        × Ready loaded.now.image.now loaded.now.plan.now }
     ensures { (output : List ℤ) → Shows (state_of s store.old output)
         (entered bare (program_of loaded.now.image.now) q
         (row_at (program_of loaded.now.image.now).procedures q) (state_of s store.old output))
@@ -257,7 +259,8 @@ pub fn asked(loaded: &Loaded, cells: usize, s: Registers) -> u32
 // Statement kind 1: the store check first, then the arguments, then the frame.
 pub fn call(loaded: &Loaded, store: &mut [i64], s: Registers, statement: Row) -> Step
     requires { Stands s store.old × (statement.a < rows_of (program_of loaded.now.image.now).procedures)
-        × (s.row < rows_of (program_of loaded.now.image.now).statements) }
+        × (s.row < rows_of (program_of loaded.now.image.now).statements)
+        × Ready loaded.now.image.now loaded.now.plan.now }
     ensures { (output : List ℤ) → Shows (state_of s store.old output)
         (called bare (program_of loaded.now.image.now) statement (state_of s store.old output))
         result store.new output }

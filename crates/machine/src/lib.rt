@@ -7,6 +7,7 @@ ghost use Rattle.checker.specs.Check.{refusal_of, row_of};
 ghost use Rattle.semantics.specs.Memory.{bare};
 ghost use Rattle.semantics.specs.Running.{program_of, first_top, run_from, refused_with, result_of, store_after};
 ghost use Rattle.semantics.specs.Running.{output_after};
+ghost use Rattle.access.specs.Ready.{Ready};
 ghost use Rattle.calling.specs.Showing.{state_of, Stands};
 ghost use Rattle.asking.specs.Continuing.{continue_result, continued_store, continued_output};
 ghost use Rattle.machine.specs.Stopping.{ended_with, stop_by, Stops, store_question};
@@ -57,7 +58,8 @@ pub fn advance(
     first: u32,
     n: u32,
 ) -> RunResult
-    requires { Stands from store.old × (from.top ≤ first) × (done + n ≤ 4294967295) }
+    requires { Stands from store.old × (from.top ≤ first) × (done + n ≤ 4294967295)
+        × Ready loaded.now.image.now loaded.now.plan.now }
     ensures { Stops (run_from bare (program_of loaded.now.image.now) input.now n done first
         (state_of from store.old output.old)) result store.new output.new }
 {

@@ -8,6 +8,7 @@ ghost use Rattle.semantics.specs.Stepping.{written as written_to, other_record, 
 ghost use Rattle.semantics.specs.Stepping.{returned, received, sent, halted, step_of};
 ghost use Rattle.semantics.specs.Running.{program_of};
 ghost use Rattle.finding.specs.Within.{Within};
+ghost use Rattle.access.specs.Ready.{Ready};
 ghost use Rattle.calling.specs.Showing.{state_of, Stands, Shows};
 ghost use Rattle.stepping.specs.Counting.{at_row};
 
@@ -128,7 +129,8 @@ fn jump(loaded: &Loaded, store: &[i64], s: Registers, statement: Row) -> Step
 }
 
 fn give_back(loaded: &Loaded, store: &[i64], s: Registers) -> Step
-    requires { Stands s store.now × (s.row < rows_of (program_of loaded.now.image.now).statements) }
+    requires { Stands s store.now × (s.row < rows_of (program_of loaded.now.image.now).statements)
+        × Ready loaded.now.image.now loaded.now.plan.now }
     ensures { (output : List ℤ) → Shows (state_of s store.now output)
         (returned bare (program_of loaded.now.image.now) (state_of s store.now output))
         result store.now output }
@@ -231,7 +233,7 @@ pub fn step(
     output: &mut [i32],
     s: Registers,
 ) -> Step
-    requires { Stands s store.old }
+    requires { Stands s store.old × Ready loaded.now.image.now loaded.now.plan.now }
     ensures { Shows (state_of s store.old output.old)
         (step_of bare (program_of loaded.now.image.now) input.now
         (state_of s store.old output.old)) result store.new output.new }

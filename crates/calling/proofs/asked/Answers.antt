@@ -17,7 +17,7 @@ called : (c : After-statement_at-statement) → c.statement_at-statement.result.
     → c.statement_at-statement.result.a < rows_of (program_of c.args.loaded.now.image.now).procedures
 called c e =
     rw c.statement_at-statement.ensures
-    (call_there c.args.loaded.now.ready.planned c.args.s.row
+    (call_there c.args.loaded.now.planned c.args.s.row
     (sym (ap (λ (r : Row). r.kind) c.statement_at-statement.ensures) ∙ e))
 
 -- behind its top

@@ -18,9 +18,9 @@ pass_all-passing-requires c =
     let begin = c.first_variable-first in (
       c.requires.0,
       omega arith,
-      first_low c.args.loaded.now.ready.planned _ c.requires.1 row.result row.ensures _ begin.ensures,
+      first_low c.args.loaded.now.planned _ c.requires.1 row.result row.ensures _ begin.ensures,
       omega arith,
-      parameter_roomy c.args.loaded.now.ready.planned _ c.requires.1 _ row.ensures _ begin.ensures _ _ (rw (← c.new_top-end.ensures) c.if-store-end.false),
+      parameter_roomy c.args.loaded.now.planned _ c.requires.1 _ row.ensures _ begin.ensures _ _ (rw (← c.new_top-end.ensures) c.if-store-end.false),
     )
 
 pub returns-in_default : goal.returns-in_default
@@ -34,7 +34,7 @@ returns-in_default c = λ output.
 pub enter-requires : goal.enter-requires
 enter-requires c =
     let many = c.pass_all-passing.auto.store in
-    (stands_kept c.requires.0 many, c.requires.1, c.requires.2, rw many (rw (← c.new_top-end.ensures) c.if-store-end.false))
+    (stands_kept c.requires.0 many, c.requires.1, c.requires.2, rw many (rw (← c.new_top-end.ensures) c.if-store-end.false), c.requires.3)
 
 pub returns : goal.returns
 returns c = λ output.

@@ -18,12 +18,12 @@ returns-then-parameter-eq3 c =
 pub is_single-requires : goal.is_single-requires
 is_single-requires c =
     let at = c.place_of-place.ensures in
-    type_there c.requires.1 c.variable_at-parameter.ensures at c.args.loaded.now.ready.planned
+    type_there c.requires.1 c.variable_at-parameter.ensures at c.args.loaded.now.planned
 
 pub pass_value-requires : goal.pass_value-requires
 pass_value-requires c =
     let at = c.place_of-place.ensures in
-    let room = value_room c.requires.1 c.variable_at-parameter.ensures at c.args.loaded.now.ready.planned in (
+    let room = value_room c.requires.1 c.variable_at-parameter.ensures at c.args.loaded.now.planned in (
       c.requires.0,
       room c.if-parameter-eq3.false
           (rw (← c.is_single.ensures) c.if-is_single.true),
@@ -40,7 +40,7 @@ returns-then-is_single c =
 pub pass_cells-requires : goal.pass_cells-requires
 pass_cells-requires c =
     let at = c.place_of-place.ensures in
-    let there = type_there c.requires.1 c.variable_at-parameter.ensures at c.args.loaded.now.ready.planned in
+    let there = type_there c.requires.1 c.variable_at-parameter.ensures at c.args.loaded.now.planned in
     let room = cells_room c.requires.1 c.variable_at-parameter.ensures at c.if-parameter-eq3.false in
     (c.requires.0, there, room)
 

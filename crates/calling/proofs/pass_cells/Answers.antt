@@ -21,8 +21,8 @@ size_of-size-requires c = c.requires.1
 pub overflow_add-object : goal.overflow_add-object
 overflow_add-object c =
     let found = sym (seen c.new.result c.new.ensures c.args.k c.find-found.ensures) ∙ c.in-Ok.is in
-    let within = find_within c.args.loaded.now.ready.planned c.requires.0.base _ _ _ found in
-    omega (arith, c.size_of-size.ensures, within.low, size_low c.args.loaded.now.ready.planned c.args.r c.requires.1)
+    let within = find_within c.args.loaded.now.planned c.requires.0.base _ _ _ found in
+    omega (arith, c.size_of-size.ensures, within.low, size_low c.args.loaded.now.planned c.args.r c.requires.1)
 
 pub returns-then-s-object : goal.returns-then-s-object
 returns-then-s-object c =

@@ -33,14 +33,14 @@ returns-then-array-i c =
 pub size_of-size-requires : goal.size_of-size-requires
 size_of-size-requires c =
     let p = c.requires in
-    rw p.1 (element_typed c.args.loaded.now.ready.planned c.args.whole.declared (rw p.1 at p.2))
+    rw p.1 (element_typed c.args.loaded.now.planned c.args.whole.declared (rw p.1 at p.2))
 
 -- an element's offset is low
 offset_low : (c : After-size_of-size) → nat_abs (to_z w32 (of_z w32 c.args.index)) * c.size_of-size.result ≤ 4096
 offset_low c =
     let p = c.requires in
     rw (c.size_of-size.ensures, p.1)
-    (element_low c.args.loaded.now.ready.planned c.args.whole.declared _ (rw p.1 at p.2) (rw p.1 at c.if-array-i.false))
+    (element_low c.args.loaded.now.planned c.args.whole.declared _ (rw p.1 at p.2) (rw p.1 at c.if-array-i.false))
 
 pub overflow_mul-i : goal.overflow_mul-i
 overflow_mul-i c =

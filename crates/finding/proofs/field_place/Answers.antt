@@ -11,7 +11,7 @@ returns-in_default c = rw (← c.field.ensures, c.in_default.is)
 pub overflow_add-whole : goal.overflow_add-whole
 overflow_add-whole c =
     let answer = sym c.field.ensures ∙ c.in-Some.is in
-    record { fits = omega (arith, c.requires.0.low, (field_low c.args.loaded.now.ready.planned _ _ _ _ answer).0) }
+    record { fits = omega (arith, c.requires.0.low, (field_low c.args.loaded.now.planned _ _ _ _ answer).0) }
 
 pub returns : goal.returns
 unfolding field_place

@@ -8,7 +8,7 @@ pub loop-k-init : goal.loop-k-init
 loop-k-init c = along_start _ _ _ _ _ _ c.requires.0 c.requires.1
 
 pub step-next-requires : goal.step-next-requires
-step-next-requires c = c.loop-k.invariant.stands
+step-next-requires c = (c.loop-k.invariant.stands, c.requires.3)
 
 pub asked-asked-requires : goal.asked-asked-requires
 asked-asked-requires c =

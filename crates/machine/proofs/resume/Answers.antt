@@ -25,11 +25,10 @@ returns-in_default c =
     record { value = all.0; store = all.1.0; output = all.1.1 }
 
 pub invariant_of-loaded : goal.invariant_of-loaded
-invariant_of-loaded c = record {
-  ready =
-      opened_ready _ _ _ _ (omega arith) c.in-Ok.is (sym c.open_image-answer.ensures.value)
-      c.open_image-answer.ensures.plan;
-}
+invariant_of-loaded c =
+    let ready = opened_ready _ _ _ _ (omega arith) c.in-Ok.is (sym c.open_image-answer.ensures.value)
+    c.open_image-answer.ensures.plan in
+    record { planned = ready.planned }
 
 pub returns-then-question-ne0 : goal.returns-then-question-ne0
 returns-then-question-ne0 c =
@@ -41,7 +40,9 @@ returns-then-question-ne0 c =
 pub continuable-passes-requires : goal.continuable-passes-requires
 continuable-passes-requires c =
     let none = passed (goal.at.continuable-passes-requires c).Else-question-ne0 in
-    (refusal_none _ _ none).1
+    let ready = opened_ready _ _ _ _ (omega arith) c.in-Ok.is (sym c.open_image-answer.ensures.value)
+    c.open_image-answer.ensures.plan in
+    ((refusal_none _ _ none).1, ready)
 
 pub returns-then-steps-eq0 : goal.returns-then-steps-eq0
 returns-then-steps-eq0 c =
@@ -54,7 +55,9 @@ returns-then-steps-eq0 c =
 pub continuable-requires : goal.continuable-requires
 continuable-requires c =
     let none = passed (goal.at.continuable-requires c).Else-question-ne0 in
-    (refusal_none _ _ none).1
+    let ready = opened_ready _ _ _ _ (omega arith) c.in-Ok.is (sym c.open_image-answer.ensures.value)
+    c.open_image-answer.ensures.plan in
+    ((refusal_none _ _ none).1, ready)
 
 pub returns-then-not-continuable : goal.returns-then-not-continuable
 returns-then-not-continuable c =
@@ -79,6 +82,8 @@ advance-requires c =
       },
       omega (arith, marked),
       omega (arith, steps),
+      opened_ready _ _ _ _ (omega arith) c.in-Ok.is (sym c.open_image-answer.ensures.value)
+          c.open_image-answer.ensures.plan,
     )
 
 pub returns : goal.returns

@@ -26,11 +26,10 @@ returns-in_default c =
     record { value = all.0; store = all.1.0; output = all.1.1 }
 
 pub invariant_of-loaded : goal.invariant_of-loaded
-invariant_of-loaded c = record {
-  ready =
-      opened_ready _ _ _ _ (omega arith) c.in-Ok.is (sym c.open_image-answer.ensures.value)
-      c.open_image-answer.ensures.plan;
-}
+invariant_of-loaded c =
+    let ready = opened_ready _ _ _ _ (omega arith) c.in-Ok.is (sym c.open_image-answer.ensures.value)
+    c.open_image-answer.ensures.plan in
+    record { planned = ready.planned }
 
 pub returns-then-question-ne0 : goal.returns-then-question-ne0
 returns-then-question-ne0 c =
@@ -53,6 +52,8 @@ advance-requires c =
       fresh_stands _ c.args.store.now _ c.global_room.ensures c.first_top-top.ensures room few c.zero.auto.store,
       omega arith,
       omega (arith, c.ranges.steps.fits),
+      opened_ready _ _ _ _ (omega arith) c.in-Ok.is (sym c.open_image-answer.ensures.value)
+          c.open_image-answer.ensures.plan,
     )
 
 pub returns : goal.returns

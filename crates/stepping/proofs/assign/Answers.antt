@@ -19,7 +19,7 @@ returns-in_default c = λ output.
 
 pub is_single-requires : goal.is_single-requires
 is_single-requires c =
-    (find_within c.args.loaded.now.ready.planned c.requires.0.base _ _ _ (sym (seen c.new-view.result c.new-view.ensures _ c.locate-found.ensures) ∙ c.in-Ok.is)).typed
+    (find_within c.args.loaded.now.planned c.requires.0.base _ _ _ (sym (seen c.new-view.result c.new-view.ensures _ c.locate-found.ensures) ∙ c.in-Ok.is)).typed
 
 pub returns-in_default-answer : goal.returns-in_default-answer
 unfolding assigned
@@ -49,7 +49,7 @@ returns-in_default-origin c = λ output.
 
 pub copy_object-requires : goal.copy_object-requires
 copy_object-requires c =
-    let planned = c.args.loaded.now.ready.planned in
+    let planned = c.args.loaded.now.planned in
     let low = c.requires.0.base in (
       c.requires.0,
       c.requires.1,

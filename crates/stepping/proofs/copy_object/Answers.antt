@@ -25,7 +25,7 @@ returns-then-other_record c = λ output. shows_yes _ (sym c.other_record.ensures
 
 pub overflow_add-source : goal.overflow_add-source
 overflow_add-source c =
-    let low = size_low c.args.loaded.now.ready.planned _ c.requires.2.typed in
+    let low = size_low c.args.loaded.now.planned _ c.requires.2.typed in
     record { fits = omega (arith, c.size_of-size.ensures, low, c.requires.3.low) }
 
 pub returns-then-s-source : goal.returns-then-s-source

@@ -48,25 +48,25 @@ module _ {image plan : List ℕ} (planned : Planned image plan) (r : ℕ) {row :
       (call_there planned r (sym (ap (λ (x : Row). x.kind) read) ∙ e))
 
 pub assign-requires : goal.assign-requires
-assign-requires c = (c.requires, low c.args.loaded.now.ready.planned _ c.statement_at-statement.ensures (omega (arith, c.in-0.is)))
+assign-requires c = (c.requires.0, low c.args.loaded.now.planned _ c.statement_at-statement.ensures (omega (arith, c.in-0.is)))
 
 pub call-requires : goal.call-requires
 call-requires c =
-    let planned = c.args.loaded.now.ready.planned in
+    let planned = c.args.loaded.now.planned in
     let read = c.statement_at-statement.ensures in
-    (c.requires, called planned _ read c.in-1.is, within planned _ read (omega (arith, c.in-1.is)))
+    (c.requires.0, called planned _ read c.in-1.is, within planned _ read (omega (arith, c.in-1.is)), c.requires.1)
 
 pub jump-requires : goal.jump-requires
-jump-requires c = (c.requires, low c.args.loaded.now.ready.planned _ c.statement_at-statement.ensures (omega (arith, c.in-2.is)))
+jump-requires c = (c.requires.0, low c.args.loaded.now.planned _ c.statement_at-statement.ensures (omega (arith, c.in-2.is)))
 
 pub give_back-requires : goal.give_back-requires
-give_back-requires c = (c.requires, within c.args.loaded.now.ready.planned _ c.statement_at-statement.ensures (omega (arith, c.in-4.is)))
+give_back-requires c = (c.requires.0, within c.args.loaded.now.planned _ c.statement_at-statement.ensures (omega (arith, c.in-4.is)), c.requires.1)
 
 pub receive-requires : goal.receive-requires
-receive-requires c = (c.requires, low c.args.loaded.now.ready.planned _ c.statement_at-statement.ensures (omega (arith, c.in-5.is)))
+receive-requires c = (c.requires.0, low c.args.loaded.now.planned _ c.statement_at-statement.ensures (omega (arith, c.in-5.is)))
 
 pub send-requires : goal.send-requires
-send-requires c = (c.requires, low c.args.loaded.now.ready.planned _ c.statement_at-statement.ensures (omega (arith, c.in-6.is)))
+send-requires c = (c.requires.0, low c.args.loaded.now.planned _ c.statement_at-statement.ensures (omega (arith, c.in-6.is)))
 
 pub returns-in-0 : goal.returns-in-0
 unfolding perform choose
@@ -90,7 +90,7 @@ unfolding perform choose
 returns-in-3 c =
     let target : c.statement_at-statement.result.b ≤ 65536 = omega arith in
     shows_by (does _ _ _ _ _ c.statement_at-statement.ensures 3 c.in-3.is)
-    (shows_row refl c.at_row.ensures target c.requires.base c.requires.top)
+    (shows_row refl c.at_row.ensures target c.requires.0.base c.requires.0.top)
 
 pub returns-in-4 : goal.returns-in-4
 unfolding perform choose

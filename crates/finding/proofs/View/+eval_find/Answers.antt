@@ -234,7 +234,7 @@ eval-returns-in_default-variable t c =
 pub eval-load-requires : goal.eval-load-requires
 eval-load-requires t c =
     let s = c.args.self.now in
-    variable_there s.loaded.ready.planned c.in-Ok.is _ _ _ s.low _ c.variable_place-variable.ensures
+    variable_there s.loaded.planned c.in-Ok.is _ _ _ s.low _ c.variable_place-variable.ensures
 
 pub eval-returns-in-Ok : goal.eval-returns-in-Ok
 eval-returns-in-Ok t c =
@@ -256,7 +256,7 @@ eval-returns-in_default-whole t c =
 pub eval-field_place-requires : goal.eval-field_place-requires
 eval-field_place-requires t c =
     let s = c.args.self.now in (
-      find_within s.loaded.ready.planned s.low _ _ _ (sym (c.fresh_place-whole.ensures ∙ c.find.ensures) ∙ c.in-Ok-whole.is),
+      find_within s.loaded.planned s.low _ _ _ (sym (c.fresh_place-whole.ensures ∙ c.find.ensures) ∙ c.in-Ok-whole.is),
       rw (← c.node_at-node.ensures) c.in-2.is,
     )
 
@@ -271,7 +271,7 @@ eval-returns-in_default-part t c =
 pub eval-load-requires-in-2 : goal.eval-load-requires-in-2
 eval-load-requires-in-2 t c =
     let s = c.args.self.now in
-    field_there s.loaded.ready.planned c.in-Ok-part.is _ _ _ (c.fresh_place-part.ensures ∙ c.field_place.ensures)
+    field_there s.loaded.planned c.in-Ok-part.is _ _ _ (c.fresh_place-part.ensures ∙ c.field_place.ensures)
 
 pub eval-returns-in-Ok-part : goal.eval-returns-in-Ok-part
 eval-returns-in-Ok-part t c =
@@ -320,7 +320,7 @@ eval-returns-in_default-value t c =
 pub eval-element_place-requires : goal.eval-element_place-requires
 eval-element_place-requires t c =
     let s = c.args.self.now in (
-      find_within s.loaded.ready.planned s.low _ _ _ (sym (c.fresh_place-list.ensures ∙ c.find-in-3.ensures) ∙ c.in-Ok-list.is),
+      find_within s.loaded.planned s.low _ _ _ (sym (c.fresh_place-list.ensures ∙ c.find-in-3.ensures) ∙ c.in-Ok-list.is),
       c.type_at-row.ensures,
       c.if-row-ne3.false,
     )
@@ -337,7 +337,7 @@ eval-returns-in_default-element t c =
 pub eval-load-requires-in-3 : goal.eval-load-requires-in-3
 eval-load-requires-in-3 t c =
     let s = c.args.self.now in
-    element_there s.loaded.ready.planned c.in-Ok-element.is _ _ c.type_at-row.ensures c.if-row-ne3.false
+    element_there s.loaded.planned c.in-Ok-element.is _ _ c.type_at-row.ensures c.if-row-ne3.false
     (c.fresh_place-element.ensures ∙ c.element_place.ensures)
 
 pub eval-returns-in-Ok-element : goal.eval-returns-in-Ok-element
@@ -365,7 +365,7 @@ eval-returns-in_default-narrowed t c =
 pub eval-load-requires-in-4 : goal.eval-load-requires-in-4
 eval-load-requires-in-4 t c =
     let s = c.args.self.now in
-    guard_there s.loaded.ready.planned c.in-Ok-narrowed.is _ _ c.node_at-node.ensures c.in-4.is c.guard_place-narrowed.ensures
+    guard_there s.loaded.planned c.in-Ok-narrowed.is _ _ c.node_at-node.ensures c.in-4.is c.guard_place-narrowed.ensures
 
 pub eval-returns-in-Ok-narrowed : goal.eval-returns-in-Ok-narrowed
 eval-returns-in-Ok-narrowed t c =
@@ -526,7 +526,7 @@ find-returns-in_default-whole t c =
 pub find-field_place-requires : goal.find-field_place-requires
 find-field_place-requires t c =
     let s = c.args.self.now in (
-      find_within s.loaded.ready.planned s.low _ _ _ (sym (c.fresh_place-whole.ensures ∙ c.find.ensures) ∙ c.in-Ok.is),
+      find_within s.loaded.planned s.low _ _ _ (sym (c.fresh_place-whole.ensures ∙ c.find.ensures) ∙ c.in-Ok.is),
       rw (← c.node_at-node.ensures) c.in-2.is,
     )
 
@@ -576,7 +576,7 @@ find-returns-in_default-value t c =
 pub find-element_place-requires : goal.find-element_place-requires
 find-element_place-requires t c =
     let s = c.args.self.now in (
-      find_within s.loaded.ready.planned s.low _ _ _ (sym (c.fresh_place-list.ensures ∙ c.find-in-3.ensures) ∙ c.in-Ok-list.is),
+      find_within s.loaded.planned s.low _ _ _ (sym (c.fresh_place-list.ensures ∙ c.find-in-3.ensures) ∙ c.in-Ok-list.is),
       c.type_at-row.ensures,
       c.if-row-ne3.false,
     )

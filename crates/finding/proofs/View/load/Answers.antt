@@ -5,4 +5,4 @@ use Rattle.finding.proofs.View.load.Goals as goal
 
 pub returns : goal.returns
 unfolding value_at bare
-returns c = c.value_at.ensures ∙ rw (kind_read c.args.self.now.loaded.ready.planned _ c.requires _)
+returns c = c.value_at.ensures ∙ rw (kind_read c.args.self.now.loaded.planned _ c.requires _)

@@ -22,7 +22,7 @@ place-small : (c : Else-row-eq0) → c.args.a < rows_of (program_of c.args.self.
     → c.place_of-place.result ≤ 1048579
 place-small c l =
     rw c.place_of-place.ensures
-    (place_low c.args.self.now.loaded.ready.planned c.args.a l)
+    (place_low c.args.self.now.loaded.planned c.args.a l)
 
 pub returns-then-row-gt3 : goal.returns-then-row-gt3
 unfolding variable_place choose
