@@ -69,7 +69,8 @@ decided_kind j or_true e =
 -- ---- both operands' answers
 
 -- "after both operands are found": the right operand's trap, whatever the operator would make of the left one
-pub right_traps : (op : ℕ) (v : Value) (t : Trap) → decides op v ≡ false → applied_to op v (Err (St.Trap t)) ≡ Err (St.Trap t)
+pub right_traps : (op : ℕ) (v : Value) (t : Trap) → decides op v ≡ false
+    → applied_to op v (Err (St.Trap t)) ≡ Err (St.Trap t)
 unfolding applied_to bind choose
 right_traps op v t e = rw e
 

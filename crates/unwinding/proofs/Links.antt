@@ -38,7 +38,8 @@ pub link_back : (top : ℕ) (store : List ℤ) (a n : ℕ) → link_at top store
 unfolding link_at mark_at bare cell_at choose mark_number
 link_back top store a n e low = go (ltb a top) e
   where
-    go : (b : Bool) → mark_number (choose b (mark_of (get_or store a (pos 0))) None) ≡ n → get_or store a (pos 0) ≡ pos n
+    go : (b : Bool) → mark_number (choose b (mark_of (get_or store a (pos 0))) None) ≡ n
+        → get_or store a (pos 0) ≡ pos n
     go true h = number_back (get_or store a (pos 0)) n h low
     go false h = absurd (omega arith)
 

@@ -177,21 +177,21 @@ unfolding boolean_cell choose
 no_boolean (pos n) p q = rw (ne_eqb n 0 p, ne_eqb n 1 q)
 no_boolean (negsuc n) p q = refl
 
-pub set_neg : (z : ℤ) → le_z (pos 0) z ≡ false → set_cell z ≡ Err St.Stuck
+pub set_neg : (z : ℤ) → lt_z z (pos 0) ≡ true → set_cell z ≡ Err St.Stuck
 unfolding set_cell
-set_neg (pos n) h = absurd (omega (arith, leb-false))
+set_neg (pos n) h = absurd (omega (arith, ltb-true))
 set_neg (negsuc n) h = refl
 
-pub set_large : (z : ℤ) → le_z z (pos 4294967295) ≡ false → set_cell z ≡ Err St.Stuck
+pub set_large : (z : ℤ) → lt_z (pos 4294967295) z ≡ true → set_cell z ≡ Err St.Stuck
 unfolding set_cell is_set choose
-set_large (pos n) h = rw (le-ltb n 4294967296 (omega (arith, leb-false)))
+set_large (pos n) h = rw (le-ltb n 4294967296 (omega (arith, ltb-true)))
 set_large (negsuc n) h = refl
 
-pub set_is : (z : ℤ) → le_z (pos 0) z ≡ true → le_z z (pos 4294967295) ≡ true → set_cell z ≡ Ok (Vs.Set (nat_abs z))
+pub set_is : (z : ℤ) → lt_z z (pos 0) ≡ false → lt_z (pos 4294967295) z ≡ false → set_cell z ≡ Ok (Vs.Set (nat_abs z))
 unfolding set_cell is_set choose
-set_is (pos n) h k = rw (lt-ltb n 4294967296 (omega (arith, leb-true)))
-set_is (negsuc n) h k = clash (sym h)
+set_is (pos n) h k = rw (lt-ltb n 4294967296 (omega (arith, ltb-false)))
+set_is (negsuc n) h k = clash h
 
-pub set_fits : (z : ℤ) → le_z (pos 0) z ≡ true → le_z z (pos 4294967295) ≡ true → T (non_neg z) × Fits w32 (nat_abs z)
-set_fits (pos n) h k = (tt, record { fits = omega (arith, leb-true) })
-set_fits (negsuc n) h k = clash (sym h)
+pub set_fits : (z : ℤ) → lt_z z (pos 0) ≡ false → lt_z (pos 4294967295) z ≡ false → T (non_neg z) × Fits w32 (nat_abs z)
+set_fits (pos n) h k = unsigned w32 (pos n) h (record { fits = omega (arith, ltb-false) })
+set_fits (negsuc n) h k = clash h

@@ -11,9 +11,9 @@ returns-in-Bool-Bool c =
 
 pub returns-in-Int-Int : goal.returns-in-Int-Int
 returns-in-Int-Int c =
+    let m = c.in-Int-Int in
     c.integers.ensures
-    ∙ rw (c.in-Int-Int.is-0, c.in-Int-Int.is-1, plain32 c.in-Int-Int.x (search rules), plain32 c.in-Int-Int.y (search rules))
-    (sym (two_integers _ _ _))
+    ∙ rw (m.is-0, m.is-1, plain32 m.x (search rules), plain32 m.y (search rules)) (sym (two_integers _ _ _))
 
 pub returns-in-Int-Set : goal.returns-in-Int-Set
 returns-in-Int-Set c =

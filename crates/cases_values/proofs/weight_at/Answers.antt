@@ -5,7 +5,8 @@ use borrow.Author.Tests.{ne_eqb, eq-eqb}
 use Rattle.prelude.specs.Choice.{choose}
 use Rattle.cases_values.specs.Cases.{case_at, weight_at}
 use Rattle.cases_values.proofs.weight_at.Goals as goal
-use Rattle.cases_values.proofs.weight_at.Goals.{else-s-what-via-then-s-what+else-is_good-good, else-s-what-via-else-s-what}
+use Rattle.cases_values.proofs.weight_at.Goals.{else-s-what-via-then-s-what+else-is_good-good}
+use Rattle.cases_values.proofs.weight_at.Goals.{else-s-what-via-else-s-what}
 
 -- `cases_values::weight_at` meets its contract: the part of the cases that it looks at is case k.
 pub returns-then-is_good-good : goal.returns-then-is_good-good

@@ -14,13 +14,16 @@ taken : (c : Then-is_integer) → is_integer c.args.z ≡ true
 taken c = rw (plain64 _ c.ranges.z) at (sym c.is_integer.ensures ∙ c.if-is_integer.true)
 
 pub overflow_cast-result : goal.overflow_cast-result
-overflow_cast-result c = rw (plain64 _ c.ranges.z) (integer_fits _ (taken (goal.at.overflow_cast-result c).Then-is_integer))
+overflow_cast-result c =
+    let b = (goal.at.overflow_cast-result c).Then-is_integer in
+    rw (plain64 _ c.ranges.z) (integer_fits _ (taken b))
 
 pub returns-then-is_integer : goal.returns-then-is_integer
 unfolding integer_of choose
 returns-then-is_integer c =
-    rw (plain64 _ c.ranges.z, taken (goal.at.returns-then-is_integer c).Then-is_integer)
-    (ap (λ z. Ok (Vs.Int z)) (plain32 c.args.z (integer_fits _ (taken (goal.at.returns-then-is_integer c).Then-is_integer))))
+    let b = (goal.at.returns-then-is_integer c).Then-is_integer in
+    rw (plain64 _ c.ranges.z, taken b)
+    (ap (λ z. Ok (Vs.Int z)) (plain32 c.args.z (integer_fits _ (taken b))))
 
 pub returns-else-is_integer : goal.returns-else-is_integer
 unfolding integer_of choose

@@ -38,7 +38,9 @@ unfolding range_of choose
 returns-else-is_element c =
     elim c.else-is_element.branch [
       | else-is_element-via-then-is_element+else-is_element-2 w ↦
-          rw (also_right (is_element c.args.x) (element_no c.ranges.y w.is_element-then-is_element.ensures w.if-is_element-2.false))
+          let no = element_no c.ranges.y w.is_element-then-is_element.ensures w.if-is_element-2.false in
+          rw (also_right (is_element c.args.x) no)
       | else-is_element-via-else-is_element w ↦
-          rw (also_left (is_element c.args.y) (element_no c.ranges.x c.is_element.ensures w.if-is_element.false))
+          let no = element_no c.ranges.x c.is_element.ensures w.if-is_element.false in
+          rw (also_left (is_element c.args.y) no)
     ]
