@@ -177,12 +177,8 @@ pub monadic_typed : (op : ℕ) {v : Value} {k : ℕ} → monadic_kind op (kind_o
 monadic_typed op {v} e p = agree_typed (monadic_agree op v) e p
 
 -- an untyped one always is
-<<<<<<< ours
-pub dyadic_untyped : (op : ℕ) (v w : Value) → dyadic_kind op (kind_of v) (kind_of w) ≡ None → dyadic_of op v w ≡ Err St.Stuck
-=======
-pub dyadic_untyped : (op : ℕ) (v w : Value) → dyadic_kind op (kind_of v) (kind_of w) ≡ Untyped
+pub dyadic_untyped : (op : ℕ) (v w : Value) → dyadic_kind op (kind_of v) (kind_of w) ≡ None
     → dyadic_of op v w ≡ Err St.Stuck
->>>>>>> theirs
 dyadic_untyped op v w e = agree_untyped (dyadic_agree op v w) e
 
 pub monadic_untyped : (op : ℕ) (v : Value) → monadic_kind op (kind_of v) ≡ None → monadic_of op v ≡ Err St.Stuck

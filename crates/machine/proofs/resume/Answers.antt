@@ -1,5 +1,6 @@
 use mathlib.Core.Path.{◌≡◌, sym, ◌∙◌}
 use native.Mathlib.Omega.{arith}
+use Rattle.image.specs.Rows.{Bytes}
 use Rattle.semantics.specs.Running.{refusal}
 use Rattle.semantics.proofs.Outcomes.{refusal_none}
 use Rattle.access.proofs.Opening.{opened_ready}
@@ -16,6 +17,9 @@ passed : (c : Else-question-ne0) → refusal c.args.image.now c.args.store.now �
 passed c =
     store_refuses _ _ (sym c.open_image-answer.ensures.value ∙ c.in-Ok.is)
     ∙ sym c.store_question-question.ensures ∙ c.if-question-ne0.false
+
+bytes : (c : Else-question-ne0) → Bytes c.args.image.now
+bytes c = record { each = λ i. omega (arith, c.shared_slice_known-1.given i) }
 
 pub returns-in_default : goal.returns-in_default
 returns-in_default c =
@@ -46,9 +50,10 @@ continuable-passes-requires c =
 
 pub returns-then-steps-eq0 : goal.returns-then-steps-eq0
 returns-then-steps-eq0 c =
-    let none = passed (goal.at.returns-then-steps-eq0 c).Else-question-ne0 in
+    let asked = (goal.at.returns-then-steps-eq0 c).Else-question-ne0 in
+    let none = passed asked in
     let all = continue_gives _ _ _ _ _ _
-    (continues_kept _ _ _ _ _ _ (record { each = λ i. omega (arith, c.shared_slice_known-1.given i) }) none c.if-steps-eq0.true _
+    (continues_kept _ _ _ _ _ _ (bytes asked) none c.if-steps-eq0.true _
     c.continuable-passes.ensures c.kept.ensures) in
     record { value = all.0; store = all.1.0; output = all.1.1 }
 
@@ -69,10 +74,11 @@ returns-then-not-continuable c =
 
 pub advance-requires : goal.advance-requires
 advance-requires c =
-    let none = passed (goal.at.advance-requires c).Else-question-ne0 in
+    let asked = (goal.at.advance-requires c).Else-question-ne0 in
+    let none = passed asked in
     let passes = sym c.continuable.ensures ∙ c.if-not-continuable.false in
-    let ranged = continued_ranged _ _ _ _ _ _ (record { each = λ i. omega (arith, c.shared_slice_known-1.given i) }) none passes in
-    let marked = continued_marked _ _ _ _ _ _ (record { each = λ i. omega (arith, c.shared_slice_known-1.given i) }) none passes in
+    let ranged = continued_ranged _ _ _ _ _ _ (bytes asked) none passes in
+    let marked = continued_marked _ _ _ _ _ _ (bytes asked) none passes in
     let steps = ((question14_exact _ (sym c.open_image-answer.ensures.value ∙ c.in-Ok.is) _ _ _ _ _).0 passes).steps in (
       record {
         row = omega (arith, ranged.row);
@@ -88,9 +94,10 @@ advance-requires c =
 
 pub returns : goal.returns
 returns c =
-    let none = passed (goal.at.returns c).Else-question-ne0 in
+    let asked = (goal.at.returns c).Else-question-ne0 in
+    let none = passed asked in
     let passes = sym c.continuable.ensures ∙ c.if-not-continuable.false in
     let stops = c.advance.ensures in
     let all = continue_gives _ _ _ _ _ _
-    (continues_run _ _ _ _ _ _ (record { each = λ i. omega (arith, c.shared_slice_known-1.given i) }) none passes stops.answer stops.cells_left stops.output_left) in
+    (continues_run _ _ _ _ _ _ (bytes asked) none passes stops.answer stops.cells_left stops.output_left) in
     record { value = all.0; store = all.1.0; output = all.1.1 }

@@ -60,6 +60,6 @@ pub returns : goal.returns
 returns c =
     let none = passed (goal.at.returns c).Else-question-ne0 in
     let all = run_gives _ _ _ _ _
-    (gives_run _ _ _ _ _ (record { each = λ i. omega (arith, c.shared_slice_known-1.given i) }) none c.global_room.ensures c.first_top-top.ensures c.zero.ensures
-    c.advance.ensures) in
+    (gives_run _ _ _ _ _ (record { each = λ i. omega (arith, c.shared_slice_known-1.given i) }) none
+    c.global_room.ensures c.first_top-top.ensures c.zero.ensures c.advance.ensures) in
     record { value = all.0; store = all.1.0; output = all.1.1 }

@@ -35,14 +35,8 @@ returns-then-is_single c = λ output.
     let fits : SFits w64 c.number_of.result = search rules in
     shows_place _ (seen c.new-view.result c.new-view.ensures _ c.locate-found.ensures) c.in-Ok.is
     (shows_yes _ (rw (← c.is_single.ensures) c.if-is_single.true)
-<<<<<<< ours
-    (shows_value _ (c.fresh-answer.ensures ∙ valued c.new-view.result c.new-view.ensures _ c.eval.ensures) c.in-Ok.is
+    (shows_value _ (c.fresh-answer.ensures ∙ valued c.new-view.result c.new-view.ensures _ c.eval.ensures) c.in-Ok-answer.is
     (rw (plain64 _ fits, c.number_of.ensures) at (c.write_cell.ensures output))))
-=======
-    (shows_value _ (c.fresh-answer.ensures
-    ∙ c.eval_at.ensures) c.in-Ok-answer.is
-    (rw (plain64 _ fits, c.number_of-number.ensures) at (c.write_cell.ensures output))))
->>>>>>> theirs
 
 pub returns-in_default-origin : goal.returns-in_default-origin
 unfolding assigned
