@@ -31,6 +31,7 @@ use Rattle.asking.proofs.Passing.{sound_passes}
 use Rattle.access.specs.Ready.{Planned, Ready}
 use Rattle.access.proofs.Bounds.{procedures_few}
 use Rattle.contents.specs.Kinds.{even_of}
+use Rattle.contents.specs.Reading.{Even}
 use Rattle.unwinding.proofs.Walking.{room_least, walked_base, walked_links}
 use Rattle.unwinding.proofs.Bodies.{inside_missing, body_inside}
 use Rattle.unwinding.specs.Going.{Going}
@@ -40,18 +41,17 @@ use Rattle.resuming.specs.Reading.{ReadableImage, frames_sound}
 
 -- ---- what is read
 
-pub readable_by : {image plan old even : List ℕ} {store : List ℤ} → Planned image plan
-    → rows_of (program_of image).types ≤ length old
-    → Filled 0 (rows_of (program_of image).types) (even_of (program_of image).types (program_of image).fields) old even
-    → length store ≤ 65536 → ReadableImage image plan even store
-readable_by {image} p rows filled most = record {
-  planned = p;
-  readable = record {
-    typed = typed_plan p;
-    evens = record { rows = rw filled.cells rows; each = filled_at filled };
-    most = most;
-  };
-}
+-- by the kinds of an accepted image's types
+pub readable_of : {image plan even : List ℕ} {store : List ℤ} → Planned image plan
+    → Even (program_of image).types (program_of image).fields even → length store ≤ 65536
+    → ReadableImage image plan even store
+readable_of p evens most =
+    record { planned = p; readable = record { typed = typed_plan p; evens = evens; most = most } }
+
+-- which a table holds that was filled with them
+pub evens_by : {t f old even : List ℕ} → rows_of t ≤ length old → Filled 0 (rows_of t) (even_of t f) old even
+    → Even t f even
+evens_by rows filled = record { rows = rw filled.cells rows; each = filled_at filled }
 
 -- the globals are the variables before procedure 0's
 pub globals_first : (g : Program) → first_variable g.variables g.procedures 0 ≡ globals_of g.variables

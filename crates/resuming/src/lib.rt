@@ -9,9 +9,9 @@ ghost use Rattle.semantics.specs.Running.{program_of};
 ghost use Rattle.asking.specs.State.{chain, sound_of};
 ghost use Rattle.asking.specs.Passes.{Walked, variables_pass, frames_pass, value_test, values_pass};
 ghost use Rattle.asking.specs.Continuing.{unfinished, within_lent, mark_within, question14};
-ghost use Rattle.access.specs.Ready.{Ready};
+ghost use Rattle.contents.specs.Reading.{Even};
 ghost use Rattle.unwinding.specs.Next.{Skips};
-ghost use Rattle.resuming.specs.Reading.{ReadableImage, frames_sound};
+ghost use Rattle.resuming.specs.Reading.{frames_sound};
 
 use access::Loaded;
 use semantics::{Registers, RunResult};
@@ -25,102 +25,102 @@ const LINKS: u32 = 3;
 
 // ---- values
 
-// Whether the cells from a on hold values of variable row k's layout, where it is no VAR parameter.
-fn variable_holds(loaded: &Loaded, even: &[u8], store: &[i64], k: u32, a: u32) -> bool
-    requires { ReadableImage loaded.now.image.now loaded.now.plan.now even.now store.now
-        × (k < rows_of (program_of loaded.now.image.now).variables)
-        × (a + width_of (program_of loaded.now.image.now).types (program_of loaded.now.image.now).fields
-        (program_of loaded.now.image.now).variables k ≤ length store.now) }
-    ensures { result ≡ value_test (program_of loaded.now.image.now) k (drop a store.now) }
-{
-    let row = loaded.variable_at(k);
-    if row.kind == 3 {
-        return true;
-    }
-    let t = loaded.table(0);
-    let f = loaded.table(1);
-    let plan = loaded.plan;
-    contents::holds_values(t, f, plan, even, store, row.a, a)
+// A foreign state's store, as the values in it are read: by an image, the kinds of its types' cells, and a table by
+// which loops over variables jump over those without cells.
+#[derive(Clone, Copy)]
+struct Values<'a> {
+    loaded: Loaded<'a>,
+    even: &'a [u8],
+    next: &'a [u16],
+    store: &'a [i64],
+    ghost evens: { Even (program_of loaded.image.now).types (program_of loaded.image.now).fields even.now },
+    ghost skips: { Skips (program_of loaded.image.now) next.now },
+    ghost most: { length store.now ≤ 65536 },
 }
 
-// The same of n variables from row k on, of which the first begins at a; those without cells are left out.
-fn variables_hold(
-    loaded: &Loaded,
-    even: &[u8],
-    next: &[u16],
-    store: &[i64],
-    k: u32,
-    n: u32,
-    a: u32,
-) -> bool
-    requires { ReadableImage loaded.now.image.now loaded.now.plan.now even.now store.now
-        × Skips (program_of loaded.now.image.now) next.now × (k + n ≤ rows_of (program_of loaded.now.image.now).variables)
-        × (a + room_from (program_of loaded.now.image.now).types (program_of loaded.now.image.now).fields
-        (program_of loaded.now.image.now).variables k n ≤ length store.now) }
-    ensures { result ≡ variables_pass (program_of loaded.now.image.now)
-        (value_test (program_of loaded.now.image.now)) k n (drop a store.now) }
-{
-    let end = k + n;
-    let mut j = next[k as usize] as u32;
-    let mut at = a;
-    while j < end {
-        if !variable_holds(loaded, even, store, j, at) {
-            return false;
-        }
-        at += loaded.width_of(j);
-        j = next[j as usize + 1] as u32;
-    }
-    true
-}
-
-// The same of the frame of procedure q that begins at base.
-fn frame_holds(loaded: &Loaded, even: &[u8], next: &[u16], store: &[i64], q: u16, base: u32) -> bool
-    requires { ReadableImage loaded.now.image.now loaded.now.plan.now even.now store.now
-        × Skips (program_of loaded.now.image.now) next.now × (q < rows_of (program_of loaded.now.image.now).procedures)
-        × (base + frame_size (program_of loaded.now.image.now).types (program_of loaded.now.image.now).fields
-        (program_of loaded.now.image.now).variables (program_of loaded.now.image.now).procedures q ≤ length store.now) }
-    ensures { result ≡ variables_pass (program_of loaded.now.image.now)
-        (value_test (program_of loaded.now.image.now))
-        (first_variable (program_of loaded.now.image.now).variables
-        (program_of loaded.now.image.now).procedures q)
-        (claimed_by (row_at (program_of loaded.now.image.now).procedures q))
-        (drop (base + 3) store.now) }
-{
-    let first = loaded.first_variable(q);
-    let own = loaded.claimed_by(q);
-    variables_hold(loaded, even, next, store, first, own, base + LINKS)
-}
-
-// The same of every frame, from that of procedure q on, which begins at base and ends at top.
-fn frames_hold(
-    loaded: &Loaded,
-    even: &[u8],
-    next: &[u16],
-    store: &[i64],
-    q: u16,
-    base: u32,
-    top: u32,
-) -> bool
-    requires { ReadableImage loaded.now.image.now loaded.now.plan.now even.now store.now
-        × Skips (program_of loaded.now.image.now) next.now × (top ≤ length store.now)
-        × Walked (program_of loaded.now.image.now) (chain (program_of loaded.now.image.now) store.now (suc base) q base)
-        store.now base top }
-    ensures { result ≡ frames_pass (program_of loaded.now.image.now)
-        (λ older. value_test (program_of loaded.now.image.now))
-        (chain (program_of loaded.now.image.now) store.now (suc base) q base) store.now }
-{
-    let mut p = q;
-    let mut b = base;
-    loop {
-        if !frame_holds(loaded, even, next, store, p, b) {
-            return false;
-        }
-        if p == 0 {
+impl<'a> Values<'a> {
+    // Whether the cells from a on hold values of variable row k's layout, where it is no VAR parameter.
+    fn variable_holds(&self, k: u32, a: u32) -> bool
+        requires { (k < rows_of (program_of self.now.loaded.image.now).variables)
+            × (a + width_of (program_of self.now.loaded.image.now).types (program_of self.now.loaded.image.now).fields
+            (program_of self.now.loaded.image.now).variables k ≤ length self.now.store.now) }
+        ensures { result ≡ value_test (program_of self.now.loaded.image.now) k (drop a self.now.store.now) }
+    {
+        let row = self.loaded.variable_at(k);
+        if row.kind == 3 {
             return true;
         }
-        let older = unwinding::caller(store, top, b);
-        p = older.procedure;
-        b = older.base;
+        let t = self.loaded.table(0);
+        let f = self.loaded.table(1);
+        let plan = self.loaded.plan;
+        let even = self.even;
+        let store = self.store;
+        contents::holds_values(t, f, plan, even, store, row.a, a)
+    }
+
+    // The same of n variables from row k on, of which the first begins at a; those without cells are left out.
+    fn variables_hold(&self, k: u32, n: u32, a: u32) -> bool
+        requires { (k + n ≤ rows_of (program_of self.now.loaded.image.now).variables)
+            × (a + room_from (program_of self.now.loaded.image.now).types (program_of self.now.loaded.image.now).fields
+            (program_of self.now.loaded.image.now).variables k n ≤ length self.now.store.now) }
+        ensures { result ≡ variables_pass (program_of self.now.loaded.image.now)
+            (value_test (program_of self.now.loaded.image.now)) k n (drop a self.now.store.now) }
+    {
+        let end = k + n;
+        let mut j = self.next[k as usize] as u32;
+        let mut at = a;
+        while j < end {
+            if !self.variable_holds(j, at) {
+                return false;
+            }
+            at += self.loaded.width_of(j);
+            j = self.next[j as usize + 1] as u32;
+        }
+        true
+    }
+
+    // The same of the frame of procedure q that begins at base.
+    fn frame_holds(&self, q: u16, base: u32) -> bool
+        requires { (q < rows_of (program_of self.now.loaded.image.now).procedures)
+            × (base + frame_size (program_of self.now.loaded.image.now).types
+            (program_of self.now.loaded.image.now).fields (program_of self.now.loaded.image.now).variables
+            (program_of self.now.loaded.image.now).procedures q ≤ length self.now.store.now) }
+        ensures { result ≡ variables_pass (program_of self.now.loaded.image.now)
+            (value_test (program_of self.now.loaded.image.now))
+            (first_variable (program_of self.now.loaded.image.now).variables
+            (program_of self.now.loaded.image.now).procedures q)
+            (claimed_by (row_at (program_of self.now.loaded.image.now).procedures q))
+            (drop (base + 3) self.now.store.now) }
+    {
+        let first = self.loaded.first_variable(q);
+        let own = self.loaded.claimed_by(q);
+        self.variables_hold(first, own, base + LINKS)
+    }
+
+    // The same of every frame, from that of procedure q on, which begins at base and ends at top.
+    fn frames_hold(&self, q: u16, base: u32, top: u32) -> bool
+        requires { (top ≤ length self.now.store.now)
+            × Walked (program_of self.now.loaded.image.now)
+            (chain (program_of self.now.loaded.image.now) self.now.store.now (suc base) q base)
+            self.now.store.now base top }
+        ensures { result ≡ frames_pass (program_of self.now.loaded.image.now)
+            (λ older. value_test (program_of self.now.loaded.image.now))
+            (chain (program_of self.now.loaded.image.now) self.now.store.now (suc base) q base) self.now.store.now }
+    {
+        let mut p = q;
+        let mut b = base;
+        loop {
+            if !self.frame_holds(p, b) {
+                return false;
+            }
+            if p == 0 {
+                return true;
+            }
+            let store = self.store;
+            let older = unwinding::caller(store, top, b);
+            p = older.procedure;
+            b = older.base;
+        }
     }
 }
 
@@ -135,9 +135,13 @@ fn values_hold(loaded: &Loaded, next: &[u16], store: &[i64], q: u16, base: u32, 
 {
     let mut even = [0u8; TYPES];
     contents::fill_even(loaded.table(0), loaded.table(1), &mut even);
-    let globals = loaded.first_variable(0);
-    variables_hold(loaded, &even, next, store, 0, globals, 0)
-        && frames_hold(loaded, &even, next, store, q, base, top)
+    let values = Values {
+        loaded: *loaded,
+        even: &even,
+        next,
+        store,
+    };
+    values.variables_hold(0, loaded.first_variable(0), 0) && values.frames_hold(q, base, top)
 }
 
 // ---- the state

@@ -2,7 +2,8 @@ use mathlib.Core.Path.{sym, ◌∙◌}
 use Rattle.prelude.specs.Choice.{choose}
 use Rattle.access.specs.Ready.{table_of}
 use Rattle.resuming.proofs.Testing.{test_reference, test_value, inside_value}
-use Rattle.resuming.proofs.variable_holds.Goals as goal
+use Rattle.resuming.proofs.Passing.{readable_of}
+use Rattle.resuming.proofs.Values.variable_holds.Goals as goal
 
 pub returns-then-row-eq3 : goal.returns-then-row-eq3
 returns-then-row-eq3 c = sym (test_reference _ _ _ (rw c.variable_at-row.ensures at c.if-row-eq3.true))
@@ -12,8 +13,8 @@ unfolding table_of choose
 holds_values-requires c =
     let row = c.variable_at-row.ensures in
     rw (c.table-f.ensures, c.table-t.ensures, row) (
-      c.requires.0.readable,
-      inside_value c.requires.0.planned _ _ c.requires.1 (rw row at c.if-row-eq3.false) c.requires.2,
+      (readable_of c.args.self.now.loaded.planned c.args.self.now.evens c.args.self.now.most).readable,
+      inside_value c.args.self.now.loaded.planned _ _ c.requires.0 (rw row at c.if-row-eq3.false) c.requires.1,
     )
 
 pub returns : goal.returns
