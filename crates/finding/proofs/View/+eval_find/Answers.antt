@@ -229,7 +229,7 @@ pub eval-returns-in_default-variable : goal.eval-returns-in_default-variable
 eval-returns-in_default-variable t c =
     c.no_value.ensures
     ∙ sym (at_variable _ _ _ _ _ _ c.node_at-node.ensures c.in-1.is c.variable_place-variable.ensures
-    ∙ content_other _ c.in_default-variable.not-At _)
+    ∙ content_other _ c.in_default-variable.not-Ok _)
 
 pub eval-load-requires : goal.eval-load-requires
 eval-load-requires t c =
@@ -251,7 +251,7 @@ pub eval-returns-in_default-whole : goal.eval-returns-in_default-whole
 eval-returns-in_default-whole t c =
     c.no_value-in_default-whole.ensures
     ∙ sym (at_whole_lost _ _ _ _ _ _ c.node_at-node.ensures c.in-2.is c.if-r-first.false
-    (c.fresh_place-whole.ensures ∙ c.find.ensures) c.in_default-whole.not-At)
+    (c.fresh_place-whole.ensures ∙ c.find.ensures) c.in_default-whole.not-Ok)
 
 pub eval-field_place-requires : goal.eval-field_place-requires
 eval-field_place-requires t c =
@@ -266,7 +266,7 @@ eval-returns-in_default-part t c =
     ∙ sym (at_part _ _ _ _ _ _ c.node_at-node.ensures c.in-2.is c.if-r-first.false
     (c.fresh_place-whole.ensures ∙ c.find.ensures) c.in-Ok-whole.is
     (c.fresh_place-part.ensures ∙ c.field_place.ensures)
-    ∙ content_other _ c.in_default-part.not-At _)
+    ∙ content_other _ c.in_default-part.not-Ok _)
 
 pub eval-load-requires-in-2 : goal.eval-load-requires-in-2
 eval-load-requires-in-2 t c =
@@ -290,7 +290,7 @@ pub eval-returns-in_default-list : goal.eval-returns-in_default-list
 eval-returns-in_default-list t c =
     c.no_value-in_default-list.ensures
     ∙ sym (at_list_lost _ _ _ _ _ _ c.node_at-node.ensures c.in-3.is c.if-r-first-2.false
-    (c.fresh_place-list.ensures ∙ c.find-in-3.ensures) c.in_default-list.not-At)
+    (c.fresh_place-list.ensures ∙ c.find-in-3.ensures) c.in_default-list.not-Ok)
 
 pub eval-returns-then-row-ne3 : goal.eval-returns-then-row-ne3
 eval-returns-then-row-ne3 t c =
@@ -309,13 +309,13 @@ eval-returns-in_default-index t c =
     sym (at_index _ _ _ _ _ _ c.node_at-node.ensures c.in-3.is c.if-r-first-2.false
     (c.fresh_place-list.ensures ∙ c.find-in-3.ensures) c.in-Ok-list.is _ c.type_at-row.ensures c.if-row-ne3.false
     c.if-r-second.false (c.fresh-index.ensures ∙ c.eval.ensures)
-    ∙ index_handed _ c.in_default-index.not-Val _ _)
+    ∙ index_handed _ c.in_default-index.not-Ok _ _)
 
 pub eval-returns-in_default-value : goal.eval-returns-in_default-value
 eval-returns-in_default-value t c =
     sym (at_no_integer _ _ _ _ _ _ c.node_at-node.ensures c.in-3.is c.if-r-first-2.false
     (c.fresh_place-list.ensures ∙ c.find-in-3.ensures) c.in-Ok-list.is _ c.type_at-row.ensures c.if-row-ne3.false
-    c.if-r-second.false (c.fresh-index.ensures ∙ c.eval.ensures) c.in-Ok.is c.in_default-value.not-Int)
+    c.if-r-second.false (c.fresh-index.ensures ∙ c.eval.ensures) c.in-Ok-index.is c.in_default-value.not-Int)
 
 pub eval-element_place-requires : goal.eval-element_place-requires
 eval-element_place-requires t c =
@@ -330,9 +330,9 @@ eval-returns-in_default-element t c =
     c.no_value-in_default-element.ensures
     ∙ sym (at_element _ _ _ _ _ _ c.node_at-node.ensures c.in-3.is c.if-r-first-2.false
     (c.fresh_place-list.ensures ∙ c.find-in-3.ensures) c.in-Ok-list.is _ c.type_at-row.ensures c.if-row-ne3.false
-    c.if-r-second.false (c.fresh-index.ensures ∙ c.eval.ensures) c.in-Ok.is c.in-Int.is
+    c.if-r-second.false (c.fresh-index.ensures ∙ c.eval.ensures) c.in-Ok-index.is c.in-Int.is
     (c.fresh_place-element.ensures ∙ c.element_place.ensures ∙ ap (element_place _ _ _) (plain32 c.in-Int.i (search rules)))
-    ∙ content_other _ c.in_default-element.not-At _)
+    ∙ content_other _ c.in_default-element.not-Ok _)
 
 pub eval-load-requires-in-3 : goal.eval-load-requires-in-3
 eval-load-requires-in-3 t c =
@@ -345,7 +345,7 @@ eval-returns-in-Ok-element t c =
     c.fresh-in-3.ensures ∙ c.load-in-3.ensures
     ∙ sym (at_element _ _ _ _ _ _ c.node_at-node.ensures c.in-3.is c.if-r-first-2.false
     (c.fresh_place-list.ensures ∙ c.find-in-3.ensures) c.in-Ok-list.is _ c.type_at-row.ensures c.if-row-ne3.false
-    c.if-r-second.false (c.fresh-index.ensures ∙ c.eval.ensures) c.in-Ok.is c.in-Int.is
+    c.if-r-second.false (c.fresh-index.ensures ∙ c.eval.ensures) c.in-Ok-index.is c.in-Int.is
     (c.fresh_place-element.ensures ∙ c.element_place.ensures ∙ ap (element_place _ _ _) (plain32 c.in-Int.i (search rules)))
     ∙ content_object c.in-Ok-element.is _)
 
@@ -353,14 +353,14 @@ pub eval-returns-in_default-guarded : goal.eval-returns-in_default-guarded
 eval-returns-in_default-guarded t c =
     c.no_value-in_default-guarded.ensures
     ∙ sym (at_guarded_lost _ _ _ _ _ _ c.node_at-node.ensures c.in-4.is c.variable_place-guarded.ensures
-    c.in_default-guarded.not-At)
+    c.in_default-guarded.not-Ok)
 
 pub eval-returns-in_default-narrowed : goal.eval-returns-in_default-narrowed
 eval-returns-in_default-narrowed t c =
     c.no_value-in_default-narrowed.ensures
     ∙ sym (at_narrowed _ _ _ _ _ _ c.node_at-node.ensures c.in-4.is c.variable_place-guarded.ensures c.in-Ok-guarded.is
     c.guard_place-narrowed.ensures
-    ∙ content_other _ c.in_default-narrowed.not-At _)
+    ∙ content_other _ c.in_default-narrowed.not-Ok _)
 
 pub eval-load-requires-in-4 : goal.eval-load-requires-in-4
 eval-load-requires-in-4 t c =
@@ -383,7 +383,7 @@ pub eval-returns-in_default-left : goal.eval-returns-in_default-left
 eval-returns-in_default-left t c =
     sym (at_left _ _ _ _ _ _ c.node_at-node.ensures c.in-5.is c.if-r-first-3.false
     (c.fresh-left.ensures ∙ c.eval-in-5.ensures)
-    ∙ bind_other _ (opened c.in_default-left.in_default-left-own.keys2) _)
+    ∙ bind_other _ c.in_default-left.not-Ok _)
 
 pub eval-returns-then-decides : goal.eval-returns-then-decides
 unfolding applied_to choose
@@ -406,17 +406,17 @@ eval-returns-in_default-right t c =
     sym (at_right _ _ _ _ _ _ c.node_at-node.ensures c.in-5.is c.if-r-first-3.false
     (c.fresh-left.ensures ∙ c.eval-in-5.ensures) c.in-Ok-left.is (sym c.decides.ensures ∙ c.if-decides.false)
     c.if-r-second-2.false (c.fresh-right.ensures ∙ c.eval-in-5-2.ensures)
-    ∙ bind_other _ (opened c.in_default-right.in_default-right-own.keys2) _)
+    ∙ bind_other _ c.in_default-right.not-Ok _)
 
 pub eval-returns-in_default-y : goal.eval-returns-in_default-y
 eval-returns-in_default-y t c =
     sym (operands (goal.at.eval-returns-in_default-y t c).In-Ok-right
-    ∙ rw c.in-Bool.is (not_booleans _ _ _ (opened c.in_default-y.in_default-y-own.keys2)))
+    ∙ rw c.in-Bool.is (not_booleans _ _ _ c.in_default-y.not-Bool))
 
 pub eval-returns-in_default-y-2 : goal.eval-returns-in_default-y-2
 eval-returns-in_default-y-2 t c =
     sym (operands (goal.at.eval-returns-in_default-y-2 t c).In-Ok-right
-    ∙ rw c.in-Set.is (not_sets _ _ _ (opened c.in_default-y-2.in_default-y-2-own.keys2)))
+    ∙ rw c.in-Set.is (not_sets _ _ _ c.in_default-y-2.not-Set))
 
 pub eval-returns-in-Bool-y : goal.eval-returns-in-Bool-y
 eval-returns-in-Bool-y t c =
@@ -466,7 +466,7 @@ pub eval-returns-in_default-operand : goal.eval-returns-in_default-operand
 eval-returns-in_default-operand t c =
     sym (at_operand _ _ _ _ _ _ c.node_at-node.ensures c.in-6.is c.if-node-eq8.false c.if-r-first-4.false
     (c.fresh-operand.ensures ∙ c.eval-in-6.ensures)
-    ∙ bind_other _ (opened c.in_default-operand.in_default-operand-own.keys2) _)
+    ∙ bind_other _ c.in_default-operand.not-Ok _)
 
 pub eval-returns-in-Ok-operand : goal.eval-returns-in-Ok-operand
 eval-returns-in-Ok-operand t c =
@@ -479,7 +479,7 @@ pub eval-returns-in_default-tested : goal.eval-returns-in_default-tested
 eval-returns-in_default-tested t c =
     c.no_value-in_default-tested.ensures
     ∙ sym (at_tested _ _ _ _ _ _ c.node_at-node.ensures c.in-7.is c.variable_place-tested.ensures
-    ∙ content_other _ c.in_default-tested.not-At _)
+    ∙ content_other _ c.in_default-tested.not-Ok _)
 
 pub eval-returns-in-Ok-tested : goal.eval-returns-in-Ok-tested
 eval-returns-in-Ok-tested t c =
@@ -521,7 +521,7 @@ pub find-returns-in_default-whole : goal.find-returns-in_default-whole
 find-returns-in_default-whole t c =
     sym (f_whole _ _ _ _ _ _ c.node_at-node.ensures c.in-2.is c.if-r-first.false
     (c.fresh_place-whole.ensures ∙ c.find.ensures)
-    ∙ reach_other _ c.in_default-whole.not-At _)
+    ∙ reach_other _ c.in_default-whole.not-Ok _)
 
 pub find-field_place-requires : goal.find-field_place-requires
 find-field_place-requires t c =
@@ -544,7 +544,7 @@ pub find-returns-in_default-list : goal.find-returns-in_default-list
 find-returns-in_default-list t c =
     sym (f_list _ _ _ _ _ _ c.node_at-node.ensures c.in-3.is c.if-r-first-2.false
     (c.fresh_place-list.ensures ∙ c.find-in-3.ensures)
-    ∙ reach_other _ c.in_default-list.not-At _)
+    ∙ reach_other _ c.in_default-list.not-Ok _)
 
 pub find-returns-then-row-ne3 : goal.find-returns-then-row-ne3
 find-returns-then-row-ne3 t c =
@@ -564,14 +564,14 @@ find-returns-in_default-index t c =
     ∙ sym (f_index _ _ _ _ _ _ c.node_at-node.ensures c.in-3.is c.if-r-first-2.false
     (c.fresh_place-list.ensures ∙ c.find-in-3.ensures) c.in-Ok-list.is _ c.type_at-row.ensures c.if-row-ne3.false
     c.if-r-second.false (c.fresh-index.ensures ∙ c.eval.ensures)
-    ∙ index_other _ c.in_default-index.not-Val _)
+    ∙ index_other _ c.in_default-index.not-Ok _)
 
 pub find-returns-in_default-value : goal.find-returns-in_default-value
 find-returns-in_default-value t c =
     sym (f_index _ _ _ _ _ _ c.node_at-node.ensures c.in-3.is c.if-r-first-2.false
     (c.fresh_place-list.ensures ∙ c.find-in-3.ensures) c.in-Ok-list.is _ c.type_at-row.ensures c.if-row-ne3.false
     c.if-r-second.false (c.fresh-index.ensures ∙ c.eval.ensures)
-    ∙ index_none _ c.in-Ok.is c.in_default-value.not-Int _)
+    ∙ index_none _ c.in-Ok-index.is c.in_default-value.not-Int _)
 
 pub find-element_place-requires : goal.find-element_place-requires
 find-element_place-requires t c =
@@ -585,13 +585,13 @@ pub find-returns-in-Int : goal.find-returns-in-Int
 find-returns-in-Int t c =
     f_element _ _ _ _ _ _ c.node_at-node.ensures c.in-3.is c.if-r-first-2.false
     (c.fresh_place-list.ensures ∙ c.find-in-3.ensures) c.in-Ok-list.is _ c.type_at-row.ensures c.if-row-ne3.false
-    c.if-r-second.false (c.fresh-index.ensures ∙ c.eval.ensures) c.in-Ok.is c.in-Int.is
+    c.if-r-second.false (c.fresh-index.ensures ∙ c.eval.ensures) c.in-Ok-index.is c.in-Int.is
     (c.fresh_place-in-3.ensures ∙ c.element_place.ensures ∙ ap (element_place _ _ _) (plain32 c.in-Int.i (search rules)))
 
 pub find-returns-in_default-guarded : goal.find-returns-in_default-guarded
 find-returns-in_default-guarded t c =
     sym (f_guarded _ _ _ _ _ _ c.node_at-node.ensures c.in-4.is c.variable_place-guarded.ensures
-    ∙ reach_other _ c.in_default-guarded.not-At _)
+    ∙ reach_other _ c.in_default-guarded.not-Ok _)
 
 pub find-returns-in-Ok-guarded : goal.find-returns-in-Ok-guarded
 find-returns-in-Ok-guarded t c =
