@@ -1,5 +1,5 @@
 -- What an accepted image's sizes, places and rows do not exceed.
-use Rattle.relations.specs.Fields.{field_at}
+use Rattle.relations.specs.Fields.{field_at, field_of}
 use Rattle.std.specs.Prelude.{Some, None}
 use mathlib.Core.Path.{◌≡◌, refl, sym, ◌∙◌}
 use mathlib.Core.Bool.{Bool, true, false}
@@ -25,7 +25,6 @@ use Rattle.types.specs.Question.{TypesAccepted}
 use Rattle.types.proofs.Accepted.{scalar_row, later_row}
 use Rattle.shapes.proofs.Accepted.{size_small}
 use Rattle.shapes.proofs.Layouts.{layout_length, field_layout, element_layout}
-use Rattle.relations.specs.Fields.{field_of}
 use Rattle.relations.proofs.Climbing.{planned_other}
 use Rattle.relations.proofs.Fielding.{field_nth}
 use Rattle.frames.specs.Variables.{is_global}

@@ -1,8 +1,7 @@
 -- What the check leaves of an image that it accepts is the plan that a machine needs.
 use Rattle.std.specs.Prelude.{Ok, Err}
 use Rattle.checker.specs.declared.Refusal.{Refusal}
-use Rattle.checker.specs.Check.{refused_at}
-use Rattle.checker.specs.Check.{CheckAnswer}
+use Rattle.checker.specs.Check.{CheckAnswer, check_of}
 use mathlib.Core.Path.{◌≡◌, refl, sym, ◌∙◌}
 use mathlib.Core.Bool.{true}
 use mathlib.Core.List.{List}
@@ -22,7 +21,6 @@ use Rattle.frames.specs.Procedures.{first_variable}
 use Rattle.statements.specs.Statements.{procedure_at}
 use Rattle.places.proofs.Counting.{first_none}
 use Rattle.places.proofs.Owning.{Own as OwnRow, plan_kept, own_place}
-use Rattle.checker.specs.Check.{check_of}
 use Rattle.checker.specs.Prepared.{Whole, Leaves, Leaves.whole, Leaves.some, bound_of}
 use Rattle.checker.specs.Prepared.{Prepared, Prepared.untouched, Prepared.refused, Prepared.prepared}
 use Rattle.checker.proofs.Accepted.{AcceptedTables}

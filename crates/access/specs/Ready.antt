@@ -1,11 +1,9 @@
 -- What a machine needs to know of an image and its plan.
 -- To the cells that `checker` fills, OWNERS + r adds the procedure whose body has statement row r, NODES + r what node
 -- row r designates, and LOWER + r and UPPER + r which of the rows 0 to 31 and 32 to 63 type row r extends.
-use Rattle.std.specs.Prelude.{Ok, Err}
+use Rattle.std.specs.Prelude.{Ok, Err, ℕ, ◌+◌, ◌≤◌, ◌<◌, ◌≡◌, List, eqb, length, get_or}
 use Rattle.checker.specs.declared.Refusal.{Refusal}
-use Rattle.checker.specs.Check.{refused_at}
-use Rattle.checker.specs.Check.{CheckAnswer}
-use Rattle.std.specs.Prelude.{ℕ, ◌+◌, ◌≤◌, ◌<◌, ◌≡◌, List, eqb, length, get_or}
+use Rattle.checker.specs.Check.{CheckAnswer, check_of}
 use Rattle.prelude.specs.Choice.{choose}
 use Rattle.prelude.specs.Cells.{Filled}
 use Rattle.image.specs.Rows.{rows_of}
@@ -16,7 +14,6 @@ use Rattle.relations.specs.Fields.{field_of, planned_field}
 use Rattle.frames.specs.Procedures.{first_variable}
 use Rattle.statements.specs.Statements.{procedure_at}
 use Rattle.places.specs.Places.{frame_size}
-use Rattle.checker.specs.Check.{check_of}
 use Rattle.checker.specs.Prepared.{bound_of, Prepared}
 use Rattle.semantics.specs.Layout.{Program, place_of}
 use Rattle.semantics.specs.Running.{program_of, global_room}

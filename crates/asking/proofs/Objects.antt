@@ -1,5 +1,5 @@
 -- The test `object_at` is true just where Sound has an object.
-use Rattle.relations.specs.Fields.{field_at}
+use Rattle.relations.specs.Fields.{field_at, field_of}
 use Rattle.std.specs.Prelude.{Some}
 use mathlib.Core.Path.{◌≡◌, refl, sym, ◌∙◌, ap}
 use mathlib.Core.Bool.{Bool, true}
@@ -18,7 +18,6 @@ use Rattle.image.specs.Rows.{row_at, rows_of}
 use Rattle.shapes.specs.Sizes.{size_of, fields_of, offset_of}
 use Rattle.shapes.proofs.ByKind.{no_fields}
 use Rattle.shapes.proofs.Layouts.{offset_is, decide}
-use Rattle.relations.specs.Fields.{field_of}
 use Rattle.frames.specs.Variables.{globals_of}
 use Rattle.frames.specs.Procedures.{first_variable, claimed_by}
 use Rattle.frames.proofs.Claiming.{globals_within}

@@ -130,7 +130,11 @@ fn weight_at(cases: &[u8], k: usize, what: u8, good: bool) -> usize
     ensures { (result ≡ weight_at cases.now what good k) × (result ≤ 1) }
 {
     let s = &cases[k * 17..k * 17 + 17];
-    if s[0] == what && is_good(s) == good { 1 } else { 0 }
+    if s[0] == what && is_good(s) == good {
+        1
+    } else {
+        0
+    }
 }
 
 // How many cases of this question are as good as asked.

@@ -1,9 +1,7 @@
 -- What is known of an accepted image: for every row of every table what its question says.
-use Rattle.std.specs.Prelude.{Result}
+use Rattle.std.specs.Prelude.{Result, Some, Ok}
 use Rattle.header.specs.declared.Tables.{Tables}
-use Rattle.std.specs.Prelude.{Some}
 use Rattle.header.specs.declared.Tables.{Tables}
-use Rattle.std.specs.Prelude.{Ok}
 use mathlib.Core.Path.{◌≡◌, refl, sym, ◌∙◌, ap}
 use mathlib.Core.Bool.{Bool, true, false}
 use mathlib.Core.List.{List}

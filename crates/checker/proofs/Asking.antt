@@ -1,10 +1,7 @@
 -- Laws of the functions that ask the questions.
-use Rattle.std.specs.Prelude.{Result}
-use Rattle.std.specs.Prelude.{Err}
+use Rattle.std.specs.Prelude.{Result, Err, Ok}
 use Rattle.checker.specs.declared.Refusal.{Refusal}
-use Rattle.checker.specs.Check.{refused_at}
-use Rattle.checker.specs.Check.{CheckAnswer}
-use Rattle.std.specs.Prelude.{Ok}
+use Rattle.checker.specs.Check.{refused_at, CheckAnswer}
 use Rattle.image.specs.Faults.{Verdict}
 use mathlib.Core.Path.{◌≡◌, refl, ◌∙◌, ap}
 use mathlib.Core.List.{List}

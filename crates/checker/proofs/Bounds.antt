@@ -82,6 +82,6 @@ module _ (ts : Tables) (fit : BoundsFit ts) (k : ℕ) (more : k < 6) where
       let one = filled_next BOUNDS (2 * k) (bound_of ts) old plan (BOUNDS + 2 * k) _ filled refl (omega arith) start in
       let last = rw add-one at end in
       let two = filled_next BOUNDS (suc (2 * k)) (bound_of ts) old _ (BOUNDS + 2 * k + 1) _ one (omega arith)
-          (omega arith) last in
+      (omega arith) last in
       let twice : suc (suc (2 * k)) ≡ 2 * (k + 1) = omega arith in
       rw twice at two

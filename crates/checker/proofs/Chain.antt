@@ -1,6 +1,5 @@
 -- Laws of "The first 'no' decides".
-use Rattle.checker.specs.Check.{refused_at}
-use Rattle.checker.specs.Check.{CheckAnswer}
+use Rattle.checker.specs.Check.{refused_at, CheckAnswer, asked, first_no}
 use Rattle.std.specs.Prelude.{Ok, Err}
 use Rattle.image.specs.Faults.{Verdict}
 use mathlib.Core.Path.{◌≡◌, refl, sym, ◌∙◌, ap}
@@ -8,7 +7,6 @@ use Prim.Native.Nat.{ℕ, zero, suc, ◌+◌, ◌≤◌, ◌<◌}
 use native.Mathlib.Omega.{arith}
 use native.Mathlib.Decide.{dec_le}
 use Rattle.checker.specs.declared.Refusal.{Refusal}
-use Rattle.checker.specs.Check.{asked, first_no}
 
 -- ---- one question more
 

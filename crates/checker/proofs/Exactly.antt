@@ -1,9 +1,8 @@
 -- The check accepts exactly the images in which no row is at fault, and otherwise answers the first question with its
 -- lowest row at fault.
 -- Cited: `check_of`, `question_of` (specs/Check); `Faultless`, `FirstAtFault` (specs/Exactly).
-use Rattle.std.specs.Prelude.{Err}
-use Rattle.checker.specs.Check.{refused_at}
-use Rattle.std.specs.Prelude.{Ok}
+use Rattle.std.specs.Prelude.{Err, Ok}
+use Rattle.checker.specs.Check.{refused_at, yes_or_no, table_question, question_of, check_of}
 use mathlib.Core.Path.{◌≡◌, refl, sym, ◌∙◌, subst}
 use mathlib.Core.Bool.{Bool, true, false}
 use mathlib.Core.List.{List}
@@ -22,7 +21,6 @@ use Rattle.statements.specs.Statements.{question8}
 use Rattle.names.specs.Names.{question9}
 use Rattle.typing.specs.Typing.{question10}
 use Rattle.rules.specs.Rules.{rules_by, question11}
-use Rattle.checker.specs.Check.{yes_or_no, table_question, question_of, check_of}
 use Rattle.checker.specs.Exactly.{rule_of, rows_asked, Faultless, FirstAtFault}
 use Rattle.checker.proofs.Chain.{accepted_all, all_accepted, refused_first, first_refused}
 

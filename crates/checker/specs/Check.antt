@@ -1,8 +1,7 @@
 -- The check: eleven questions, and the first "no" decides.
-use Rattle.std.specs.Prelude.{Result, Ok, Err}
+use Rattle.std.specs.Prelude.{Result, Ok, Err, ℕ, zero, suc, ◌+◌, ◌*◌, Bool, true, false, List, eqb}
 use Rattle.checker.specs.declared.Refusal.{Refusal}
 use Rattle.image.specs.Faults.{Verdict}
-use Rattle.std.specs.Prelude.{ℕ, zero, suc, ◌+◌, ◌*◌, Bool, true, false, List, eqb}
 use Rattle.prelude.specs.Choice.{choose}
 use Rattle.header.specs.Header.{version_of, question1, question2, question3, tables_in, part_of}
 use Rattle.types.specs.Question.{question4}

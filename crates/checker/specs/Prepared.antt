@@ -1,9 +1,7 @@
 -- What the check leaves in a lent plan.
-use Rattle.std.specs.Prelude.{Ok, Err}
+use Rattle.std.specs.Prelude.{Ok, Err, ℕ, ◌≤◌, ◌≡◌, List, eqb}
 use Rattle.checker.specs.declared.Refusal.{Refusal}
-use Rattle.checker.specs.Check.{refused_at}
-use Rattle.checker.specs.Check.{CheckAnswer}
-use Rattle.std.specs.Prelude.{ℕ, ◌≤◌, ◌≡◌, List, eqb}
+use Rattle.checker.specs.Check.{refused_at, CheckAnswer, types_in, fields_in, variables_in, procedures_in}
 use Rattle.prelude.specs.Choice.{choose}
 use Rattle.prelude.specs.Cells.{Filled}
 use Rattle.image.specs.Rows.{rows_of}
@@ -14,7 +12,6 @@ use Rattle.types.specs.Plan.{Plan, Rest, passed}
 use Rattle.types.specs.Question.{question4}
 use Rattle.places.specs.Places.{Places}
 use Rattle.checker.specs.declared.Parts.{Parts}
-use Rattle.checker.specs.Check.{types_in, fields_in, variables_in, procedures_in}
 
 -- the parts that the tables are
 pub record PartsOf (image : List ℕ) (ts : Tables) (x : Parts) : Type 0 where

@@ -1,5 +1,5 @@
 -- What a field's cell says.
-use Rattle.relations.specs.Fields.{field_at}
+use Rattle.relations.specs.Fields.{field_at, field_of}
 use Rattle.relations.specs.declared.FieldAt.{FieldAt}
 use Rattle.std.specs.Prelude.{Option, Some, None}
 use mathlib.Core.Path.{◌≡◌, sym, ◌∙◌, ap}
@@ -14,7 +14,6 @@ use Rattle.prelude.specs.Rec.{below}
 use Rattle.prelude.proofs.Choice.{choose_yes, choose_no}
 use Rattle.prelude.proofs.Rec.{rec_eq}
 use Rattle.image.specs.Rows.{row_at}
-use Rattle.relations.specs.Fields.{field_of}
 use Rattle.designators.specs.Designators.{UNKNOWN, offset_in, type_in, record_in, field_cell}
 use Rattle.designators.specs.Designators.{cell_by, cell_of}
 

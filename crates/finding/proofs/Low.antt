@@ -1,7 +1,6 @@
 -- Objects that are found lie low enough to add an offset, and are of types that there are.
-use Rattle.relations.specs.Fields.{field_at}
 use Rattle.relations.specs.declared.FieldAt.{FieldAt}
-use Rattle.std.specs.Prelude.{Option}
+use Rattle.std.specs.Prelude.{Option, Ok, Err, Some, None}
 use mathlib.Core.Path.{◌≡◌, refl, sym, subst, ◌∙◌}
 use mathlib.Core.List.{List}
 use Prim.Native.Nat.{ℕ, ◌+◌, ◌*◌, ◌≤◌, ◌<◌}
@@ -33,7 +32,6 @@ use Rattle.access.proofs.Bounds.{field_low, element_typed, element_low, variable
 use Rattle.access.proofs.Bounds.{nodes_few}
 use Rattle.finding.specs.Within.{Within}
 use Rattle.finding.proofs.Laws.{find_other}
-use Rattle.std.specs.Prelude.{Ok, Err, Some, None}
 use Rattle.values.specs.Values.{Answer}
 
 -- an object at n or below, of a type that there is; or none

@@ -78,7 +78,13 @@ fn field_place(loaded: &Loaded, whole: Place, k: u32) -> Result<Place, Stop>
         (program_of loaded.now.image.now).fields whole.declared
         (row_at (program_of loaded.now.image.now).nodes k).b) }
 {
-    let Some(FieldAt { offset: offset, declared: r }) = loaded.field(k, whole.declared) else {
+    let Some(
+        FieldAt {
+            offset: offset,
+            declared: r,
+        },
+    ) = loaded.field(k, whole.declared)
+    else {
         return Err(Stop::Stuck);
     };
     plain(whole.address + offset, r)

@@ -1,10 +1,9 @@
 -- Question 6: the procedures, their bodies and their variables.
-use Rattle.image.specs.Faults.{Verdict}
+use Rattle.image.specs.Faults.{Verdict, all_from, lowest_fault, rule_up_to}
 use Rattle.std.specs.Prelude.{ℕ, zero, suc, ◌+◌, Bool, true, List, ltb, leb, eqb}
 use Rattle.prelude.specs.Choice.{choose, ◌also◌}
 use Rattle.image.specs.declared.Row.{Row}
 use Rattle.image.specs.Rows.{row_at, rows_of}
-use Rattle.image.specs.Faults.{all_from, lowest_fault, rule_up_to}
 use Rattle.frames.specs.Variables.{is_local, is_parameter, globals_of}
 
 -- "b parameter count, c local count": how many variables a procedure row claims

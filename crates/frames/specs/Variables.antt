@@ -1,10 +1,9 @@
 -- Question 5: the variables.
-use Rattle.image.specs.Faults.{Verdict}
+use Rattle.image.specs.Faults.{Verdict, all_from, lowest_fault}
 use Rattle.std.specs.Prelude.{ℕ, zero, suc, ◌+◌, Bool, true, List, ltb, leb, eqb}
 use Rattle.prelude.specs.Choice.{choose, ◌also◌}
 use Rattle.image.specs.declared.Row.{Row}
 use Rattle.image.specs.Rows.{row_at, rows_of}
-use Rattle.image.specs.Faults.{all_from, lowest_fault}
 
 -- "Kind 0 global, 1 local, 2 value parameter, 3 VAR parameter; a the type."
 unfoldable pub is_global : List ℕ → ℕ → Bool

@@ -1,6 +1,5 @@
 -- The type rules of the operators: which kinds they take, and the kind that they give.
-use Rattle.std.specs.Prelude.{Option, Some, None}
-use Rattle.std.specs.Prelude.{ℕ, ◌&&◌, leb, eqb}
+use Rattle.std.specs.Prelude.{Option, Some, None, ℕ, ◌&&◌, leb, eqb}
 use Rattle.prelude.specs.Choice.{choose}
 use Rattle.values.specs.Values.{BOOLEAN, INTEGER, SET}
 

@@ -1,6 +1,6 @@
 -- The fresh state in the lent store, and what the code of a run and of a continuation gives back.
 use Rattle.std.specs.Prelude.{Ok, Err}
-use Rattle.checker.specs.Check.{CheckAnswer}
+use Rattle.checker.specs.Check.{CheckAnswer, question_of, check_of, refusal_of, row_of}
 use mathlib.Core.Path.{◌≡◌, sym, ◌∙◌, ap}
 use mathlib.Core.Bool.{Bool, true, false}
 use mathlib.Core.List.{List, ◌∷◌, ◌++◌, map-id}
@@ -11,7 +11,6 @@ use lib.IntN.{ℤ, pos}
 use lib.ListN.{length, drop, replicate, length-replicate}
 use Rattle.prelude.specs.Choice.{choose}
 use Rattle.prelude.proofs.Choice.{choose_yes, choose_no}
-use Rattle.checker.specs.Check.{question_of, check_of, refusal_of, row_of}
 use Rattle.checker.proofs.Chain.{refused_first}
 use Rattle.image.specs.Rows.{Bytes, row_at}
 use Rattle.frames.specs.Variables.{globals_of}

@@ -1,10 +1,9 @@
 -- Question 9: each node is named exactly once.
-use Rattle.image.specs.Faults.{Verdict}
+use Rattle.image.specs.Faults.{Verdict, lowest_fault}
 use Rattle.std.specs.Prelude.{ℕ, zero, suc, ◌+◌, Bool, List, [], ◌∷◌, ◌++◌, eqb}
 use Rattle.prelude.specs.Choice.{choose}
 use Rattle.image.specs.declared.Row.{Row}
 use Rattle.image.specs.Rows.{row_at, rows_of}
-use Rattle.image.specs.Faults.{lowest_fault}
 
 -- "2 field b .. of a"; "3 element of a at b"; "5 dyadic a, b"; "6 monadic a"; "8 argument holding a":
 -- no other node names any

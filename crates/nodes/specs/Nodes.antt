@@ -1,10 +1,9 @@
 -- Question 7: the form of a node.
-use Rattle.image.specs.Faults.{Verdict}
+use Rattle.image.specs.Faults.{Verdict, lowest_fault}
 use Rattle.std.specs.Prelude.{ℕ, Bool, true, false, not, List, ltb, leb, eqb}
 use Rattle.prelude.specs.Choice.{choose, ◌also◌}
 use Rattle.image.specs.declared.Row.{Row}
 use Rattle.image.specs.Rows.{row_at, rows_of}
-use Rattle.image.specs.Faults.{lowest_fault}
 use Rattle.image.specs.Versions.{scalar_rows, monadics}
 
 -- "Kinds 1 to 4 are designators"

@@ -1,5 +1,5 @@
 -- Each result of an operator is in its kind's range.
-use Rattle.std.specs.Prelude.{Option}
+use Rattle.std.specs.Prelude.{Option, Ok}
 use mathlib.Core.Path.{◌≡◌}
 use Prim.Native.Nat.{ℕ}
 use Rattle.values.specs.Values.{InRange, Answer}
@@ -9,7 +9,6 @@ use Rattle.values.proofs.Cells.{no_value}
 use Rattle.values.proofs.Giving.{gives_range}
 use Rattle.operators.proofs.Typed.{Agree, dyadic_agree, monadic_agree}
 use Rattle.operators.proofs.Typed.Agree.{typed, untyped}
-use Rattle.std.specs.Prelude.{Ok}
 
 -- operators, typed or not
 

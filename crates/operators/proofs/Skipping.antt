@@ -1,6 +1,6 @@
 -- "Operands go left to right": & and OR "skip the right one when the left decides", which changes nothing and keeps
 -- kinds and ranges; elsewhere a trap of the right one comes before the operator's own.
-use Rattle.std.specs.Prelude.{Some, None}
+use Rattle.std.specs.Prelude.{Some, None, Ok, Err}
 use mathlib.Core.Path.{◌≡◌, refl, sym}
 use mathlib.Core.Bool.{Bool, true, false}
 use mathlib.Core.Logic.{inl, inr}
@@ -22,7 +22,6 @@ use Rattle.values.proofs.Giving.{gives_one}
 use Rattle.operators.proofs.Typed.{dyadic_typed}
 use Rattle.operators.proofs.Ranges.{dyadic_range}
 use Rattle.values.proofs.Cells.{no_value}
-use Rattle.std.specs.Prelude.{Ok, Err}
 
 no_kind : {X : Type 0} {k : ℕ} → None ≡ Some k → X
 no_kind e = let z : ◌≡◌ {A = ℕ} 0 1 = cc in absurd (omega arith)

@@ -1,6 +1,6 @@
 -- The type rules and the operators agree: a typed operator gives a value of its kind, in its range, or a trap,
 -- and an untyped one is stuck.
-use Rattle.std.specs.Prelude.{Option, Some, None}
+use Rattle.std.specs.Prelude.{Option, Some, None, Err}
 use mathlib.Core.Path.{◌≡◌, refl, ap, ◌∙◌}
 use mathlib.Core.Bool.{Bool, true, false, ◌&&◌}
 use Prim.Native.Nat.{ℕ, suc, ◌<◌, ◌≤◌}
@@ -25,7 +25,6 @@ use Rattle.values.proofs.Numbers.{inside, under, over, integer_fits}
 use Rattle.values.proofs.Giving.{gives_boolean, gives_set}
 use Rattle.integers.proofs.Results.{integer_gives, arithmetic_gives}
 use Rattle.sets.proofs.Results.{contains_gives, range_gives, complement_gives}
-use Rattle.std.specs.Prelude.{Err}
 
 -- ---- a kind and an answer that go together
 

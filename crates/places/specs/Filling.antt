@@ -1,6 +1,5 @@
 -- What the functions that fill the plan ask and give.
-use Rattle.std.specs.Prelude.{Ok}
-use Rattle.std.specs.Prelude.{ℕ, ◌+◌, ◌≤◌, ◌<◌, ◌≡◌, List, length, get_or}
+use Rattle.std.specs.Prelude.{Ok, ℕ, ◌+◌, ◌≤◌, ◌<◌, ◌≡◌, List, length, get_or}
 use Rattle.image.specs.Rows.{row_at, rows_of}
 use Rattle.sizes.specs.Cells.{PLACES, FRAMES, FIRSTS, BOUNDS}
 use Rattle.types.specs.Question.{TypesAccepted}

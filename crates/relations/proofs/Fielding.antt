@@ -1,5 +1,5 @@
 -- A plan that question 4 filled has every field at its offset.
-use Rattle.relations.specs.Fields.{field_at}
+use Rattle.relations.specs.Fields.{field_at, field_of, planned_own, planned_field}
 use Rattle.relations.specs.declared.FieldAt.{FieldAt}
 use Rattle.std.specs.Prelude.{Option, Some, None}
 use mathlib.Core.Path.{◌≡◌, refl, sym, ◌∙◌, ap}
@@ -22,7 +22,6 @@ use Rattle.types.specs.Question.{TypesAccepted}
 use Rattle.types.proofs.Accepted.{types_kept}
 use Rattle.shapes.specs.Forms.{Form.record_of, form, of_base, own_types}
 use Rattle.shapes.specs.Sizes.{size_of, fields_of, offset_of}
-use Rattle.relations.specs.Fields.{field_of, planned_own, planned_field}
 use Rattle.types.specs.Plan.{inherited_of, own_offset, Plan}
 use Rattle.shapes.proofs.Rows.{of_record, record_form, less_one, of_no_base, of_row, own_length, own_take, own_at}
 use Rattle.shapes.proofs.Accepted.{Based, Based.on_base, TypesKept}

@@ -1,7 +1,6 @@
 -- The field of a number, with its place and type.
 use Rattle.relations.specs.declared.FieldAt.{FieldAt}
-use Rattle.std.specs.Prelude.{Option, Some, None}
-use Rattle.std.specs.Prelude.{ℕ, ◌+◌, ◌-◌, List, ltb, length, get_or}
+use Rattle.std.specs.Prelude.{Option, Some, None, ℕ, ◌+◌, ◌-◌, List, ltb, length, get_or}
 use Rattle.prelude.specs.Choice.{choose}
 use Rattle.prelude.specs.Rec.{rec}
 use Rattle.image.specs.Rows.{row_at}

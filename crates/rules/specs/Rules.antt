@@ -1,12 +1,9 @@
 -- Question 11: the type and variable rules of a statement.
-use Rattle.std.specs.Prelude.{Option, Some, None}
-use Rattle.std.specs.Prelude.{Ok}
-use Rattle.image.specs.Faults.{Verdict}
-use Rattle.std.specs.Prelude.{ℕ, ◌+◌, ◌≤◌, ◌≡◌, Bool, true, false, List, eqb, get_or}
+use Rattle.std.specs.Prelude.{Option, Some, None, Ok, ℕ, ◌+◌, ◌≤◌, ◌≡◌, Bool, true, false, List, eqb, get_or}
+use Rattle.image.specs.Faults.{Verdict, all_from, lowest_fault}
 use Rattle.prelude.specs.Choice.{choose, ◌also◌}
 use Rattle.image.specs.declared.Row.{Row}
 use Rattle.image.specs.Rows.{row_at, rows_of}
-use Rattle.image.specs.Faults.{all_from, lowest_fault}
 use Rattle.values.specs.Values.{BOOLEAN, INTEGER}
 use Rattle.relations.specs.Extends.{extends}
 use Rattle.frames.specs.Procedures.{first_variable, question6}

@@ -133,7 +133,14 @@ impl Body<'_, '_> {
 }
 
 // Question 11, by a table that holds the type of each node.
-pub fn check_rules(t: &[u8], v: &[u8], p: &[u8], n: &[u8], s: &[u8], types: &[u16]) -> Result<(), u16>
+pub fn check_rules(
+    t: &[u8],
+    v: &[u8],
+    p: &[u8],
+    n: &[u8],
+    s: &[u8],
+    types: &[u16],
+) -> Result<(), u16>
     requires { RowsFit v.now p.now n.now s.now }
     ensures { result ≡ rules_by t.now v.now p.now n.now s.now (type_in types.now) }
 {

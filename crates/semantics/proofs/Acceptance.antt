@@ -1,6 +1,5 @@
 -- Document 01's starred cases as one table: the paper's words, and what the definitions give.
-use Rattle.checker.specs.Check.{refused_at}
-use Rattle.std.specs.Prelude.{Ok, Err}
+use Rattle.std.specs.Prelude.{Ok, Err, Ok, Err}
 use mathlib.Core.Path.{◌≡◌, refl}
 use mathlib.Core.Bool.{true, false}
 use mathlib.Core.List.{List, [], ◌∷◌}
@@ -23,7 +22,6 @@ use Rattle.semantics.specs.Stepping.{State}
 use Rattle.semantics.specs.Running.{program_of, ran_of, result_of, store_after, output_after}
 use Rattle.semantics.proofs.Opened.{rows, shapes, sizes, integers, operators, run}
 use Rattle.semantics.proofs.Images.{start, count, row, zeros, results}
-use Rattle.std.specs.Prelude.{Ok, Err}
 
 -- ---- values: dyadic 4 DIV, 5 MOD, 15 IN, 16 range; monadic 1 -
 

@@ -1,7 +1,7 @@
 -- Finding and evaluating from a sound state: an object of the node's type, a value of its kind, or a trap; and what
 -- cells below top read as.
-use Rattle.relations.specs.Fields.{field_at}
-use Rattle.std.specs.Prelude.{Option}
+use Rattle.relations.specs.Fields.{field_at, field_of}
+use Rattle.std.specs.Prelude.{Option, Ok, Err, Some}
 use mathlib.Core.Path.{◌≡◌, refl, sym, ◌∙◌, subst}
 use mathlib.Core.Bool.{true}
 use mathlib.Core.List.{[], List, ◌∷◌}
@@ -25,7 +25,6 @@ use Rattle.shapes.specs.Forms.{kind_in, is_single}
 use Rattle.shapes.proofs.Singles.{kind_single, single_layout}
 use Rattle.types.proofs.Accepted.{scalar_row}
 use Rattle.relations.specs.Extends.{extends}
-use Rattle.relations.specs.Fields.{field_of}
 use Rattle.relations.proofs.Extension.{extends_refl, extends_trans}
 use Rattle.values.specs.Values.{BOOLEAN, INTEGER, Scalar, Scalar.a_boolean, Scalar.an_integer, kind_of, InRange, Answer}
 use Rattle.values.specs.Values.{Gives, Gives.value, Gives.trapped, bind, cell_of}
@@ -71,7 +70,6 @@ use Rattle.semantics.proofs.Holding.{part_next, part_end, matched_at, cell_below
 use Rattle.semantics.proofs.Objects.{global_is, own_kind, object_typed, object_part, object_front, slot_at}
 use Rattle.semantics.proofs.Objects.{place_own, place_global}
 use Rattle.semantics.proofs.Kinship.{extends_other, extension_field, global_low}
-use Rattle.std.specs.Prelude.{Ok, Err, Some}
 
 -- an object of type x was found, or a trap ends the step
 pub data FoundOk (g : Program) (fs : List Frame) (x : ℕ) : Found → Type 0 where

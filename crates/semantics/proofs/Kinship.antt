@@ -1,6 +1,6 @@
 -- Laws of extension, of guards, and of the globals that come first.
-use Rattle.relations.specs.Fields.{field_at}
-use Rattle.std.specs.Prelude.{Some}
+use Rattle.relations.specs.Fields.{field_at, field_of}
+use Rattle.std.specs.Prelude.{Some, Ok, Err}
 use mathlib.Core.Path.{◌≡◌, refl}
 use mathlib.Core.Bool.{Bool, true, false}
 use mathlib.Core.List.{List}
@@ -17,7 +17,6 @@ use Rattle.shapes.proofs.Singles.{single_base, single_low}
 use Rattle.shapes.proofs.Accepted.{TypesKept}
 use Rattle.shapes.proofs.ByKind.{base_record}
 use Rattle.relations.specs.Extends.{extends}
-use Rattle.relations.specs.Fields.{field_of}
 use Rattle.relations.proofs.Extension.{Extends, Extends.same, Extends.up, extends_yes, extended_low, extension_begins}
 use Rattle.relations.proofs.Fielding.{field_more}
 use Rattle.frames.specs.Variables.{is_global, globals_from, globals_of}
@@ -27,7 +26,6 @@ use Rattle.values.specs.declared.Stop.TheVariants as St
 use Rattle.semantics.specs.declared.Place.{Place}
 use Rattle.semantics.specs.Layout.{Program}
 use Rattle.semantics.specs.Finding.{guard_place, Found}
-use Rattle.std.specs.Prelude.{Ok, Err}
 
 -- ---- extension
 

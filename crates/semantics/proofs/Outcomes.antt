@@ -1,7 +1,7 @@
 -- What demand 3 says of a run: its outcome has a number of the paper's, and the bare machine does the same. And what
 -- every run keeps, whatever the image: the numbers of traps and HALT, and output places that were not written.
 use Rattle.std.specs.Prelude.{Ok, Err}
-use Rattle.checker.specs.Check.{CheckAnswer}
+use Rattle.checker.specs.Check.{CheckAnswer, question_of, check_of, refusal_of, row_of}
 use mathlib.Core.Path.{◌≡◌, refl, sym, ◌∙◌}
 use mathlib.Core.Bool.{Bool, true, false}
 use mathlib.Core.List.{List}
@@ -18,7 +18,6 @@ use Rattle.image.specs.Rows.{Bytes}
 use Rattle.values.specs.declared.Trap.{Trap}
 use Rattle.values.specs.Values.{trap_number}
 use Rattle.values.proofs.Ranges.{trap_range}
-use Rattle.checker.specs.Check.{question_of, check_of, refusal_of, row_of}
 use Rattle.checker.proofs.Chain.{refused_first}
 use Rattle.checker.proofs.Accepted.{AcceptedTables}
 use Rattle.semantics.specs.Memory.{Memory, Cell, tagged, bare}

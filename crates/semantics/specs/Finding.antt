@@ -1,8 +1,6 @@
 -- Finding a designator and evaluating an expression.
-use Rattle.relations.specs.Fields.{field_at}
 use Rattle.relations.specs.declared.FieldAt.{FieldAt}
-use Rattle.std.specs.Prelude.{Option}
-use Rattle.std.specs.Prelude.{ℕ, ◌+◌, ◌*◌, List, ltb, leb, eqb, ℤ, pos, negsuc, Result, Ok, Err, Some, None}
+use Rattle.std.specs.Prelude.{Option, ℕ, ◌+◌, ◌*◌, List, ltb, leb, eqb, ℤ, pos, negsuc, Result, Ok, Err, Some, None}
 use Rattle.prelude.specs.Choice.{choose}
 use Rattle.prelude.specs.Rec.{rec}
 use Rattle.image.specs.declared.Row.{Row}

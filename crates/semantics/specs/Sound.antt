@@ -1,12 +1,10 @@
 -- Sound states of the tagged machine. The frames are ghost data: what they say is of the cells, by place.
-use Rattle.relations.specs.Fields.{field_at}
-use Rattle.std.specs.Prelude.{Some}
-use Rattle.std.specs.Prelude.{ℕ, ◌+◌, ◌*◌, ◌≤◌, ◌<◌, ◌≡◌, true, List, [], ◌∷◌, ◌++◌, map, pos, length, take, Ok}
+use Rattle.relations.specs.Fields.{field_at, field_of}
+use Rattle.std.specs.Prelude.{Some, ℕ, ◌+◌, ◌*◌, ◌≤◌, ◌<◌, ◌≡◌, true, List, [], ◌∷◌, ◌++◌, map, pos, length, take, Ok}
 use Rattle.prelude.specs.Parts.{joined}
 use Rattle.image.specs.Rows.{row_at, rows_of}
 use Rattle.shapes.specs.Sizes.{size_of, layout_of}
 use Rattle.relations.specs.Extends.{extends}
-use Rattle.relations.specs.Fields.{field_of}
 use Rattle.frames.specs.Variables.{globals_of}
 use Rattle.frames.specs.Procedures.{first_variable, claimed_by, body_end}
 use Rattle.names.specs.Names.{rows_from}

@@ -1,10 +1,9 @@
 -- Question 8: the form of a statement.
-use Rattle.image.specs.Faults.{Verdict}
+use Rattle.image.specs.Faults.{Verdict, all_from, lowest_fault}
 use Rattle.std.specs.Prelude.{ℕ, zero, suc, ◌+◌, Bool, true, false, not, List, ltb, leb, eqb}
 use Rattle.prelude.specs.Choice.{choose, ◌also◌}
 use Rattle.image.specs.declared.Row.{Row}
 use Rattle.image.specs.Rows.{row_at, rows_of}
-use Rattle.image.specs.Faults.{all_from, lowest_fault}
 use Rattle.frames.specs.Procedures.{body_end}
 use Rattle.nodes.specs.Nodes.{is_designator, is_argument}
 

@@ -1,6 +1,6 @@
 -- Laws of the loop that asks question 4, row by row.
 use Rattle.std.specs.Prelude.{Ok, Err}
-use Rattle.image.specs.Faults.{Verdict}
+use Rattle.image.specs.Faults.{Verdict, KeptIn}
 use mathlib.Core.Path.{◌≡◌, sym, ◌∙◌, ap}
 use mathlib.Core.Bool.{true, false}
 use mathlib.Core.List.{List}
@@ -12,7 +12,6 @@ use lib.ListN.{length, get_or}
 use Rattle.prelude.proofs.Choice.{also_yes, also_left, also_right}
 use Rattle.image.specs.declared.Row.{Row}
 use Rattle.image.specs.Rows.{row_at, rows_of}
-use Rattle.image.specs.Faults.{KeptIn}
 use Rattle.image.proofs.Faults.{kept_none, kept_next, up_to_bad, up_to_some, up_to_end}
 use Rattle.shapes.specs.Forms.{form_of, form, count_of}
 use Rattle.shapes.specs.Sizes.{size_by, size_of}

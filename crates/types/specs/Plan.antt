@@ -1,9 +1,8 @@
 -- The plan: a table of numbers that question 4 fills, so that a step need not add up sizes.
 -- Cell r: the size of type row r. Cell INHERITED + r: how many fields the record in row r has from its base.
 -- Cell OFFSETS + k: where field row k begins in its record.
-use Rattle.std.specs.Prelude.{Ok, Err}
+use Rattle.std.specs.Prelude.{Ok, Err, ℕ, ◌+◌, ◌≤◌, ◌<◌, ◌≡◌, List, map, length, get_or}
 use Rattle.image.specs.Faults.{Verdict}
-use Rattle.std.specs.Prelude.{ℕ, ◌+◌, ◌≤◌, ◌<◌, ◌≡◌, List, map, length, get_or}
 use Rattle.prelude.specs.Parts.{sum}
 use Rattle.image.specs.Rows.{rows_of}
 use Rattle.shapes.specs.Forms.{Form.record_of, form, base_of, of_base, own_types}

@@ -1,9 +1,7 @@
 -- Question 4: does each type row, with its own fields, keep its rule?
-use Rattle.std.specs.Prelude.{Ok}
-use Rattle.image.specs.Faults.{Verdict}
-use Rattle.std.specs.Prelude.{ℕ, ◌+◌, ◌≡◌, List, eqb}
+use Rattle.std.specs.Prelude.{Ok, ℕ, ◌+◌, ◌≡◌, List, eqb}
+use Rattle.image.specs.Faults.{Verdict, lowest_fault, rule_up_to}
 use Rattle.image.specs.Rows.{rows_of}
-use Rattle.image.specs.Faults.{lowest_fault, rule_up_to}
 use Rattle.shapes.specs.Shapes.{used_below, type_kept}
 
 -- "4. Does each type row, with its own fields, keep its rule? (Unclaimed field: row = type count.)"

@@ -1,8 +1,7 @@
 -- What question 10 says of an accepted node: its type, by its kind.
-use Rattle.relations.specs.Fields.{field_at}
+use Rattle.relations.specs.Fields.{field_at, field_of}
 use Rattle.relations.specs.declared.FieldAt.{FieldAt}
-use Rattle.std.specs.Prelude.{Option, Some, None}
-use Rattle.std.specs.Prelude.{Ok}
+use Rattle.std.specs.Prelude.{Option, Some, None, Ok}
 use mathlib.Core.Path.{◌≡◌, refl, sym, ◌∙◌, ap}
 use mathlib.Core.Bool.{Bool, true, false}
 use mathlib.Core.List.{List}
@@ -23,7 +22,6 @@ use Rattle.kinds.specs.Kinds.{dyadic_kind, monadic_kind}
 use Rattle.kinds.proofs.Scalars.{dyadic_scalar, monadic_scalar}
 use Rattle.shapes.specs.Forms.{kind_in}
 use Rattle.relations.specs.Extends.{extends}
-use Rattle.relations.specs.Fields.{field_of}
 use Rattle.nodes.proofs.Accepted.{NodeRow, NodeRow.is_constant, NodeRow.is_variable, NodeRow.is_field}
 use Rattle.nodes.proofs.Accepted.{NodeRow.is_element_lem, NodeRow.is_guard, NodeRow.is_dyadic, NodeRow.is_monadic}
 use Rattle.nodes.proofs.Accepted.{NodeRow.is_test, NodeRow.is_argument_lem, NodesAccepted}

@@ -1,5 +1,5 @@
 -- The types of fields and elements are rows of the types table.
-use Rattle.relations.specs.Fields.{field_at}
+use Rattle.relations.specs.Fields.{field_at, field_of}
 use Rattle.std.specs.Prelude.{Some}
 use mathlib.Core.Path.{◌≡◌}
 use mathlib.Core.List.{List}
@@ -9,7 +9,6 @@ use Rattle.prelude.proofs.Each.{each_nth}
 use Rattle.image.specs.Rows.{row_at, rows_of}
 use Rattle.shapes.proofs.Accepted.{TypesKept}
 use Rattle.shapes.proofs.ByKind.{array_row, fields_low}
-use Rattle.relations.specs.Fields.{field_of}
 use Rattle.relations.proofs.Fielding.{field_nth}
 
 module _ (t f : List ℕ) (kept : TypesKept t f) where

@@ -1,15 +1,12 @@
 -- Question 10: the type of a node.
-use Rattle.relations.specs.Fields.{field_at}
 use Rattle.relations.specs.declared.FieldAt.{FieldAt}
-use Rattle.std.specs.Prelude.{Option, Some, None}
-use Rattle.std.specs.Prelude.{Ok, Err}
-use Rattle.image.specs.Faults.{Verdict}
+use Rattle.std.specs.Prelude.{Option, Some, None, Ok, Err}
+use Rattle.image.specs.Faults.{Verdict, lowest_fault}
 use Rattle.std.specs.Prelude.{ℕ, ◌≤◌, ◌<◌, ◌≡◌, Bool, true, false, List, ltb, eqb, length, get_or}
 use Rattle.prelude.specs.Choice.{choose, ◌also◌}
 use Rattle.prelude.specs.Rec.{rec}
 use Rattle.image.specs.declared.Row.{Row}
 use Rattle.image.specs.Rows.{row_at, rows_of}
-use Rattle.image.specs.Faults.{lowest_fault}
 use Rattle.relations.specs.Extends.{extends}
 use Rattle.relations.specs.Fields.{field_of}
 use Rattle.values.specs.Values.{BOOLEAN, INTEGER}

@@ -1,5 +1,5 @@
 use Rattle.std.specs.Prelude.{Ok}
-use Rattle.checker.specs.Check.{CheckAnswer}
+use Rattle.checker.specs.Check.{CheckAnswer, check_of, question_in, first_no}
 use mathlib.Core.Path.{◌≡◌, refl, sym, ◌∙◌}
 use Rattle.std.proofs.lemmas.Result.{err_from_is_err_and}
 use mathlib.Core.List.{List}
@@ -9,7 +9,6 @@ use Rattle.header.specs.declared.Tables.{Tables}
 use Rattle.header.specs.Header.{version_of, header_of, part_of}
 use Rattle.header.proofs.Fitting.{header_fits}
 use Rattle.checker.specs.declared.Parts.{Parts}
-use Rattle.checker.specs.Check.{check_of, question_in, first_no}
 use Rattle.checker.specs.Prepared.{PartsOf, CountsIn, Leaves, Prepared.untouched}
 use Rattle.checker.proofs.Asking.{header_no, header_yes, counts_fit, prepared_no, prepared_yes}
 use Rattle.checker.proofs.Bounds.{bounds_fit}

@@ -1,5 +1,4 @@
-use Rattle.std.specs.Prelude.{Option, Some, None, Err}
-use Rattle.std.specs.Prelude.{ok_or}
+use Rattle.std.specs.Prelude.{Option, Some, None, Err, ok_or}
 use Rattle.image.specs.Rows.{word_at}
 use lib.ListN.{length}
 use lib.Dec.{ltb}

@@ -23,13 +23,29 @@ table_from-requires-6 c = found_within _ _ _ _ (sym c.in_ok-nodes.ensures)
 pub returns-then-statements-image : goal.returns-then-statements-image
 unfolding tables_of then_table choose
 returns-then-statements-image c =
-    rw (← c.requires.0, ← c.scalar_rows-scalars.ensures, ← c.in_ok-types.ensures, ← c.in_ok-fields.ensures,
-    ← c.in_ok-variables.ensures, ← c.in_ok-procedures.ensures, ← c.in_ok-nodes.ensures, ← c.in_ok-statements.ensures,
-    ne_eqb _ _ c.if-statements-image.true)
+    rw (
+      ← c.requires.0,
+      ← c.scalar_rows-scalars.ensures,
+      ← c.in_ok-types.ensures,
+      ← c.in_ok-fields.ensures,
+      ← c.in_ok-variables.ensures,
+      ← c.in_ok-procedures.ensures,
+      ← c.in_ok-nodes.ensures,
+      ← c.in_ok-statements.ensures,
+      ne_eqb _ _ c.if-statements-image.true,
+    )
 
 pub returns : goal.returns
 unfolding tables_of then_table choose
 returns c =
-    rw (← c.requires.0, ← c.scalar_rows-scalars.ensures, ← c.in_ok-types.ensures, ← c.in_ok-fields.ensures,
-    ← c.in_ok-variables.ensures, ← c.in_ok-procedures.ensures, ← c.in_ok-nodes.ensures, ← c.in_ok-statements.ensures,
-    eq-eqb _ _ c.if-statements-image.false)
+    rw (
+      ← c.requires.0,
+      ← c.scalar_rows-scalars.ensures,
+      ← c.in_ok-types.ensures,
+      ← c.in_ok-fields.ensures,
+      ← c.in_ok-variables.ensures,
+      ← c.in_ok-procedures.ensures,
+      ← c.in_ok-nodes.ensures,
+      ← c.in_ok-statements.ensures,
+      eq-eqb _ _ c.if-statements-image.false,
+    )
