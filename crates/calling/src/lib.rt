@@ -20,7 +20,7 @@ use image::Row;
 use semantics::{Place, Registers};
 use values::{Stop, Trap, Value};
 
-// What a step comes to.
+// What a step comes to: document 01's four outcomes, of which three end the run.
 #[derive(Clone, Copy)]
 pub enum Step {
     Goes(Registers),

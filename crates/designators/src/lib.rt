@@ -16,7 +16,7 @@ use image::Row;
 use relations::FieldAt;
 use sizes::NODES;
 
-// The cell of a node that designates nothing, or whose numbers have no room.
+// The cell of a node that designates nothing, or whose numbers have no room: the plan holds numbers of 32 bits alone.
 const UNKNOWN: u32 = 65535;
 
 // ---- what a cell holds

@@ -38,6 +38,7 @@ fn read_image<R: Read>(input: &mut R, image: &mut [u8]) -> usize
         (take result image.new) }
 {
     let mut done = 0;
+    // A read may give less than there is room for, and std's reads that go on want a heap or an exact length.
     while done < image.len() {
         match input.read(&mut image[done..]) {
             Ok(0) | Err(_) => break,

@@ -35,7 +35,7 @@ pub fn fresh_place(x: Result<Place, Stop>) -> Result<Place, Stop>
     x
 }
 
-// ---- a trap in an operand
+// ---- a trap in an operand: by document 01's list of forms `let .. else` takes an answer apart, and hands the trap on
 
 // Why there is no value, where an object was sought.
 fn no_place(x: Result<Value, Stop>) -> Result<Place, Stop>

@@ -5,7 +5,8 @@ ghost use Rattle.std.specs.Prelude.{◌≡◌, ◌+◌, ◌*◌, ◌≤◌, ◌<
 ghost use Rattle.image.specs.Rows.{number_at, word_at, rows_of, row_at};
 ghost use Rattle.image.specs.Versions.{scalar_rows, monadics};
 
-// A row of a table.
+// A row of a table. Its kind stays a number, as document 01's definitions have it, also where no rule allows it: so a
+// match on it is one jump, with one arm for all that is no kind (docs/DESIGN-PASS.md, point 1).
 #[derive(Clone, Copy)]
 pub struct Row {
     pub kind: u8,

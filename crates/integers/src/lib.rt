@@ -92,7 +92,7 @@ fn divide(op: u16, x: i32, y: i32) -> Result<Value, Stop>
     }
 }
 
-// Operators 1 to 5 on two INTEGERs.
+// Operators 1 to 5 on two INTEGERs, by number: document 01's list of forms.
 pub fn arithmetic(op: u16, x: i32, y: i32) -> Result<Value, Stop>
     ensures { result ≡ arithmetic_of op x y }
 {

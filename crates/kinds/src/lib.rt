@@ -1,4 +1,5 @@
 // The type rules of the operators: which kinds they take, and the kind that they give.
+// Operators and kinds are matched as numbers: so document 01's list of forms has it.
 #![tactic(auto)]
 
 ghost use Rattle.std.specs.Prelude.{◌≡◌};

@@ -118,7 +118,7 @@ fn first_top(loaded: &Loaded) -> u32
     loaded.global_room() + loaded.frame_size(0)
 }
 
-// 12 or 13, where a store of so many cells is too large or too small, else 0.
+// 12 or 13, where a store of so many cells is too large or too small, else 0, as C has it in `refusal`.
 fn store_question(loaded: &Loaded, cells: usize) -> u32
     ensures { result ≡ store_question (program_of loaded.now.image.now) cells }
 {

@@ -195,6 +195,7 @@ fn reached(t: &[u8], f: &[u8], plan: &[u32], tables: Tables, w: u16, r: u16, o: 
 {
     let mut at = r as usize;
     let mut into = o;
+    // from part to part, not by an index
     loop {
         match parts(t, f, plan, tables, w, at, into) {
             Look::Yes => return true,

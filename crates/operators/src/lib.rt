@@ -1,4 +1,5 @@
 // The operators on values of the scalar kinds, by operator number and operand kind.
+// Operators and kinds are matched as numbers: so document 01's list of forms has it.
 #![tactic(auto)]
 
 ghost use Rattle.std.specs.Prelude.{◌≡◌};

@@ -32,6 +32,7 @@ fn first_reaching(loaded: &Loaded, k: u32, n: u32, at: u32) -> u32
 {
     let mut low = k;
     let mut high = k + n;
+    // by halving: a plan is no slice of places alone, which `partition_point` would want
     while 1 < high - low {
         let middle = low + (high - low) / 2;
         if loaded.place_of(middle) < at {
@@ -234,6 +235,7 @@ impl<'a> State<'a> {
     {
         let mut procedure = q;
         let mut at = base;
+        // along the links, not by an index
         loop {
             if !self.frame_references(next, procedure, at) {
                 return false;

@@ -20,6 +20,7 @@ pub fn extends(t: &[u8], r: u16, u: u16) -> bool
 {
     let sought = u as usize;
     let mut at = r as usize;
+    // up the bases, not by an index
     while at != sought {
         let row = image::row_at(t, at);
         let Some(next) = (shapes::base_of(row) as usize).checked_sub(1) else {
@@ -53,6 +54,7 @@ pub fn field(t: &[u8], f: &[u8], plan: &[u32], r: u16, n: u16) -> Option<FieldAt
 {
     let sought = n as usize;
     let mut at = r as usize;
+    // up the bases, not by an index
     loop {
         let row = image::row_at(t, at);
         if row.kind != 4 {

@@ -69,6 +69,7 @@ impl<'a> Values<'a> {
         let end = k + n;
         let mut j = self.next[k as usize] as u32;
         let mut at = a;
+        // by the table's jumps, not one by one
         while j < end {
             if !self.variable_holds(j, at) {
                 return false;
@@ -109,6 +110,7 @@ impl<'a> Values<'a> {
     {
         let mut p = q;
         let mut b = base;
+        // along the links, not by an index
         loop {
             if !self.frame_holds(p, b) {
                 return false;

@@ -94,7 +94,8 @@ pub fn base_of(row: Row) -> u16
     if row.kind == 4 { row.a } else { 0 }
 }
 
-// The kind of a type row whose objects are single cells; 255 of any other.
+// The kind of a type row whose objects are single cells; 255 of any other, as the definition has it: the operators' rules
+// match on numbers (crate kinds).
 pub const NO_KIND: u16 = 255;
 
 pub fn kind_of(row: Row) -> u16

@@ -1,4 +1,5 @@
-// One step: the eight statements.
+// One step: the eight statements. An operand's answer is taken apart by `let .. else`, which hands a trap on: document
+// 01's list of forms.
 #![tactic(auto)]
 
 ghost use Rattle.std.specs.Prelude.{◌≡◌, List, [], ◌∷◌, ◌<◌, ℤ};

@@ -40,7 +40,8 @@ pub const NEXT: usize = 257;
 
 // ---- links
 
-// The number of a link: 65,535 where there is none.
+// The number of a link: 65,535 where there is none, as the definition has it. No procedure has that number, and no frame
+// begins there.
 fn link(store: &[i64], top: u32, at: u32) -> u16
     requires { top ≤ length store.now }
     ensures { result ≡ link_at top store.now at }
@@ -71,6 +72,7 @@ fn caller_below(store: &[i64], top: u32, base: u32, at: u32) -> Spot
         → result ≡ spot_of (newest_below g qs at) }
 {
     let mut b = base;
+    // along the links, not by an index
     loop {
         let older = caller(store, top, b);
         if older.base < at || b <= older.base {
@@ -175,6 +177,7 @@ pub fn walk(loaded: &Loaded, store: &[i64], q: u16, base: u32, top: u32, blocks:
     // the blocks from `high` on are filled, and the oldest frame above those before it, so far, begins at `above`
     let mut high = BLOCKS;
     let mut above = NOWHERE;
+    // along the links, not by an index
     loop {
         if !size_kept(loaded, procedure, start, end) {
             return false;

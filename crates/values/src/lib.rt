@@ -96,7 +96,7 @@ fn set_cell(z: i64) -> Result<Value, Stop>
     }
 }
 
-// A cell's number as a value of a kind: 0 BOOLEAN, 1 INTEGER, 2 SET.
+// A cell's number as a value of a kind: 0 BOOLEAN, 1 INTEGER, 2 SET. Any number may be asked: others are no kind.
 pub fn cell(kind: u16, z: i64) -> Result<Value, Stop>
     ensures { result ≡ cell_of kind z }
 {
