@@ -1,7 +1,7 @@
 // The rows of an image's tables, and the numbers in them.
 #![tactic(auto)]
 
-ghost use Rattle.std.specs.Prelude.{◌≡◌, ◌+◌, ◌*◌, ◌≤◌, ◌<◌, length};
+ghost use Rattle.std.specs.Prelude.{◌≡◌, ◌+◌, ◌≤◌, ◌<◌, length};
 ghost use Rattle.image.specs.Rows.{number_at, word_at, rows_of, row_at};
 ghost use Rattle.image.specs.Versions.{scalar_rows, monadics};
 
@@ -16,18 +16,12 @@ pub struct Row {
     pub c: u16,
 }
 
-fn number(high: u8, low: u8) -> u16
-    ensures { result ≡ high * 256 + low }
-{
-    (high as u16) * 256 + (low as u16)
-}
-
 // The 16-bit number at a byte.
 pub fn number_at(t: &[u8], at: usize) -> u16
     requires { at + 2 ≤ length t.now }
     ensures { result ≡ number_at t.now at }
 {
-    number(t[at], t[at + 1])
+    u16::from_be_bytes([t[at], t[at + 1]])
 }
 
 // The 32-bit number at a byte.

@@ -10,6 +10,7 @@ ghost use Rattle.asking.specs.State.{chain, sound_of};
 ghost use Rattle.asking.specs.Passes.{Walked, variables_pass, frames_pass, value_test, values_pass};
 ghost use Rattle.asking.specs.Continuing.{unfinished, within_lent, mark_within, question14};
 ghost use Rattle.contents.specs.Reading.{Even};
+ghost use Rattle.access.specs.Ready.{Ready};
 ghost use Rattle.unwinding.specs.Next.{Skips};
 ghost use Rattle.resuming.specs.Reading.{frames_sound};
 
