@@ -5,10 +5,8 @@ use mathlib.Core.List.{List, [], ◌∷◌}
 use Prim.Native.Nat.{ℕ, zero, suc, ◌+◌, ◌-◌, ◌≤◌, ◌<◌}
 use native.Mathlib.Omega.{arith}
 use borrow.Author.Tests.{eq-eqb, ne_eqb, le-leb, lt-leb}
-use denote.Enum.Declared.{tag_of}
 use lib.IntN.{ℤ, pos}
 use lib.ListN.{length}
-use types.Run.{OneOf}
 use Rattle.prelude.proofs.Choice.{choose_yes, choose_no}
 use Rattle.image.specs.declared.Row.{Row}
 use Rattle.image.specs.Rows.{row_at, rows_of}
@@ -18,7 +16,6 @@ use Rattle.shapes.proofs.Singles.{single_size}
 use Rattle.places.specs.Places.{width_by, width_of}
 use Rattle.values.specs.declared.Value.{Value}
 use Rattle.values.specs.declared.Stop.TheVariants as St
-use Rattle.values.proofs.Binding.{neither}
 use Rattle.semantics.specs.declared.Place.{Place}
 use Rattle.semantics.specs.declared.Registers.{Registers}
 use Rattle.semantics.specs.Memory.{bare, part_at, overwrite}
@@ -30,13 +27,10 @@ use Rattle.semantics.specs.Running.{program_of}
 use Rattle.semantics.proofs.Demand3.{program_accepted}
 use Rattle.access.specs.Ready.{Planned}
 use Rattle.access.proofs.Bounds.{variable_typed}
-use Rattle.calling.specs.declared.Step.TheVariants as Steps
-use Rattle.calling.specs.declared.Passing.{Passing}
-use Rattle.calling.specs.declared.Passing.TheVariants as Ps
 use Rattle.calling.specs.Showing.{state_of, Stands}
-use Rattle.calling.specs.Passing.{lost_place, lost_value, ended_by, framed, passed_one, Roomy}
+use Rattle.finding.specs.Missed.{lost}
+use Rattle.calling.specs.Passing.{Passing, framed, passed_one, Roomy}
 use Rattle.calling.specs.Passing.{Passes, Passes.passes_done, Passes.passes_trap, Passes.passes_stuck}
-use Rattle.calling.specs.contracts.Passing.{the_type as passing_type}
 use Rattle.std.specs.Prelude.{Ok, Err}
 use Rattle.values.specs.Values.{Answer}
 
@@ -56,28 +50,20 @@ pub roomy_kept : {image : List ℕ} {top a : ℕ} {old cells : List ℤ} → Roo
     → Roomy image top a cells
 roomy_kept roomy e = record { there = roomy.there; room = rw e roomy.room }
 
--- ---- what is no trap is stuck
-
-pub ended_stuck : (x : Passing) → OneOf (0 ∷ 2 ∷ []) (tag_of passing_type x) → ended_by x ≡ Steps.Stuck
-unfolding ended_by
-ended_stuck Ps.Done h = refl
-ended_stuck (Ps.Trapped t) h = neither (omega arith) (omega arith) h
-ended_stuck Ps.Stuck h = refl
-
 -- ---- what an argument comes to
 
 module _ (s : State ℤ) where
   -- an operand that is no object, or no value: no cell is written
   pub place_lost : (x : Found) (next : (State ℤ → Next ℤ) → Place → Next ℤ) → ((p : Place) → x ≡ Ok p → ⊥)
-      → Passes s (λ after. on_place s x (next after)) (lost_place x) s.cells
-  unfolding lost_place on_place with_cells
+      → Passes s (λ after. on_place s x (next after)) (lost x) s.cells
+  unfolding lost on_place with_cells
   place_lost (Ok place) next h = absurd (h place refl)
   place_lost (Err (St.Trap t)) next h = passes_trap (λ after. refl)
   place_lost (Err St.Stuck) next h = passes_stuck (λ after. refl)
 
   pub value_lost : (x : Answer) (next : (State ℤ → Next ℤ) → Value → Next ℤ) → ((v : Value) → x ≡ Ok v → ⊥)
-      → Passes s (λ after. on_value s x (next after)) (lost_value x) s.cells
-  unfolding lost_value on_value with_cells
+      → Passes s (λ after. on_value s x (next after)) (lost x) s.cells
+  unfolding lost on_value with_cells
   value_lost (Ok v) next h = absurd (h v refl)
   value_lost (Err (St.Trap t)) next h = passes_trap (λ after. refl)
   value_lost (Err St.Stuck) next h = passes_stuck (λ after. refl)
@@ -85,13 +71,13 @@ module _ (s : State ℤ) where
   -- an object, or a value, whose cells are written
   pub place_written : {x : Found} {object : Place} (place : ℕ) (new : Place → List ℤ) {cells : List ℤ}
       → x ≡ Ok object → cells ≡ overwrite s.cells (s.at.top + place) (new object)
-      → Passes s (λ after. on_place s x (λ o. framed s place after (new o))) Ps.Done cells
+      → Passes s (λ after. on_place s x (λ o. framed s place after (new o))) (Ok tt) cells
   unfolding on_place framed
   place_written place new {cells} found e = passes_done {cells = cells} (λ after. rw (found, e))
 
   pub value_written : {x : Answer} {v : Value} (place : ℕ) (new : Value → List ℤ) {cells : List ℤ}
       → x ≡ Ok v → cells ≡ overwrite s.cells (s.at.top + place) (new v)
-      → Passes s (λ after. on_value s x (λ w. framed s place after (new w))) Ps.Done cells
+      → Passes s (λ after. on_value s x (λ w. framed s place after (new w))) (Ok tt) cells
   unfolding on_value framed
   value_written place new {cells} found e = passes_done {cells = cells} (λ after. rw (found, e))
 
@@ -99,14 +85,14 @@ module _ (s : State ℤ) where
   pub place_copied : {x : Found} {object : Place} (place size : ℕ) {cells : List ℤ} → x ≡ Ok object
       → object.address + size ≤ s.at.top
       → cells ≡ overwrite s.cells (s.at.top + place) (part_at s.cells object.address size)
-      → Passes s (λ after. on_place s x (λ o. on_part s o.address size (framed s place after))) Ps.Done cells
+      → Passes s (λ after. on_place s x (λ o. on_part s o.address size (framed s place after))) (Ok tt) cells
   unfolding on_place on_part framed
   place_copied place size {cells} found low e =
       passes_done {cells = cells} (λ after. rw (found, e) (choose_yes _ _ _ (le-leb _ _ low)))
 
   pub place_beyond : {x : Found} {object : Place} (place size : ℕ) → x ≡ Ok object
       → s.at.top < object.address + size
-      → Passes s (λ after. on_place s x (λ o. on_part s o.address size (framed s place after))) Ps.Stuck s.cells
+      → Passes s (λ after. on_place s x (λ o. on_part s o.address size (framed s place after))) (Err St.Stuck) s.cells
   unfolding on_place on_part with_cells
   place_beyond place size found high =
       passes_stuck {cells = s.cells} (λ after. rw found (choose_no _ _ _ (lt-leb _ _ high)))
@@ -188,16 +174,16 @@ module _ (g : Program) (k : ℕ) (s : State ℤ) where
 -- ---- one argument after the other
 
 -- an argument that is passed
-pub passed_on : {s : State ℤ} {x : (State ℤ → Next ℤ) → Next ℤ} {cells : List ℤ} → Passes s x Ps.Done cells
+pub passed_on : {s : State ℤ} {x : (State ℤ → Next ℤ) → Next ℤ} {cells : List ℤ} → Passes s x (Ok tt) cells
     → (after : State ℤ → Next ℤ) → x after ≡ after (with_cells s cells)
 passed_on (passes_done h) after = h after
 
 -- an argument that is not passed ends all
 passed_off : {s u : State ℤ} {x y : (State ℤ → Next ℤ) → Next ℤ} {r : Passing} {cells : List ℤ}
-    (next : (State ℤ → Next ℤ) → State ℤ → Next ℤ) → OneOf (1 ∷ 2 ∷ []) (tag_of passing_type r)
+    (next : (State ℤ → Next ℤ) → State ℤ → Next ℤ) → ((u : Unit {0}) → r ≡ Ok u → ⊥)
     → with_cells s cells ≡ with_cells u cells → ((after : State ℤ → Next ℤ) → y after ≡ x (next after))
     → Passes s x r cells → Passes u y r cells
-passed_off next h same e (passes_done k) = neither (omega arith) (omega arith) h
+passed_off next h same e (passes_done k) = absurd (h tt refl)
 passed_off next h same e (passes_trap {t = t} k) =
     passes_trap (λ after. e after ∙ k (next after) ∙ ap (λ (v : State ℤ). trapped t (pos 0) v) same)
 passed_off next h same e (passes_stuck k) = passes_stuck (λ after. e after ∙ k (next after) ∙ ap stuck same)
@@ -239,7 +225,7 @@ module _ {g : Program} {k a n : ℕ} {s : Registers} {old : List ℤ} where
 
     -- one more
     pub along_next : {new : List ℤ} → j < n → length new ≡ length cells → ((output : List ℤ)
-        → Passes (state_of s cells output) (passed_one bare g (k + j) (a + j) (state_of s cells output)) Ps.Done new)
+        → Passes (state_of s cells output) (passed_one bare g (k + j) (a + j) (state_of s cells output)) (Ok tt) new)
         → Along g k a n s old new (j + 1)
     unfolding with_cells
     along_next h same one =
@@ -254,7 +240,7 @@ module _ {g : Program} {k a n : ℕ} {s : Registers} {old : List ℤ} where
         }
 
     -- the next one is not passed
-    pub along_lost : {new : List ℤ} {r : Passing} → j < n → OneOf (1 ∷ 2 ∷ []) (tag_of passing_type r)
+    pub along_lost : {new : List ℤ} {r : Passing} → j < n → ((u : Unit {0}) → r ≡ Ok u → ⊥)
         → (output : List ℤ)
         → Passes (state_of s cells output) (passed_one bare g (k + j) (a + j) (state_of s cells output)) r new
         → Passes (state_of s old output) (passed bare g k a n (state_of s old output)) r new
@@ -263,7 +249,7 @@ module _ {g : Program} {k a n : ℕ} {s : Registers} {old : List ℤ} where
 
     -- all are passed
     pub along_end : n ≤ j → (output : List ℤ)
-        → Passes (state_of s old output) (passed bare g k a n (state_of s old output)) Ps.Done cells
+        → Passes (state_of s old output) (passed bare g k a n (state_of s old output)) (Ok tt) cells
     unfolding passed with_cells
     along_end h output =
         let none : n - j ≡ 0 = omega arith in

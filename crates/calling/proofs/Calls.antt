@@ -4,10 +4,8 @@ use mathlib.Core.List.{List, [], ◌∷◌}
 use Prim.Native.Nat.{ℕ, ◌+◌, ◌≤◌, ◌<◌}
 use native.Mathlib.Omega.{arith}
 use borrow.Author.Tests.{lt-ltb, le-ltb}
-use denote.Enum.Declared.{tag_of}
 use lib.IntN.{ℤ, pos}
 use lib.ListN.{length}
-use types.Run.{OneOf}
 use Rattle.prelude.proofs.Choice.{choose_yes, choose_no}
 use Rattle.image.specs.declared.Row.{Row}
 use Rattle.image.specs.Rows.{row_at, rows_of}
@@ -16,7 +14,6 @@ use Rattle.frames.specs.Procedures.{claimed_by, first_variable}
 use Rattle.places.specs.Places.{frame_size}
 use Rattle.places.proofs.Rooms.{room_up}
 use Rattle.values.specs.declared.Trap.TheVariants as Ts
-use Rattle.values.proofs.Binding.{neither}
 use Rattle.semantics.specs.declared.Registers.{Registers}
 use Rattle.semantics.specs.Memory.{bare}
 use Rattle.semantics.specs.Layout.{Program}
@@ -26,12 +23,10 @@ use Rattle.access.specs.Ready.{Planned}
 use Rattle.access.proofs.Bounds.{claimed_there, variables_few, place_in_lem}
 use Rattle.calling.specs.declared.Step.{Step}
 use Rattle.calling.specs.declared.Step.TheVariants as Steps
-use Rattle.calling.specs.declared.Passing.{Passing}
-use Rattle.calling.specs.declared.Passing.TheVariants as Ps
 use Rattle.calling.specs.Showing.{state_of, Shows, Shows.shows_goes, Shows.shows_trap, Shows.shows_stuck}
-use Rattle.calling.specs.Passing.{ended_by, Roomy}
+use Rattle.calling.specs.Passing.{Passing, ended_by, Roomy}
 use Rattle.calling.specs.Passing.{Passes, Passes.passes_done, Passes.passes_trap, Passes.passes_stuck}
-use Rattle.calling.specs.contracts.Passing.{the_type as passing_type}
+use Rattle.std.specs.Prelude.{Ok}
 
 -- ---- the room of the arguments
 
@@ -63,10 +58,10 @@ module _ {image plan : List ℕ} (p : Planned image plan) (q : ℕ) (exists : q 
 
 -- arguments that are not passed end the step
 shows_ended : {s : State ℤ} {x : (State ℤ → Next ℤ) → Next ℤ} {r : Passing} {cells : List ℤ}
-    → OneOf (1 ∷ 2 ∷ []) (tag_of passing_type r) → Passes s x r cells → (next : State ℤ → Next ℤ)
+    → ((u : Unit {0}) → r ≡ Ok u → ⊥) → Passes s x r cells → (next : State ℤ → Next ℤ)
     → Shows s (x next) (ended_by r) cells s.output
 unfolding ended_by with_cells
-shows_ended h (passes_done k) next = neither (omega arith) (omega arith) h
+shows_ended h (passes_done k) next = absurd (h tt refl)
 shows_ended h (passes_trap k) next = rw (k next) (shows_trap refl refl)
 shows_ended h (passes_stuck k) next = rw (k next) (shows_stuck refl refl)
 
@@ -101,12 +96,12 @@ module _ (g : Program) (statement : Row) (s : Registers) (cells output : List �
     arguments = passed bare g statement.b at row.b state
 
     -- arguments that are not passed
-    pub call_ended : {r : Passing} {left : List ℤ} → OneOf (1 ∷ 2 ∷ []) (tag_of passing_type r)
+    pub call_ended : {r : Passing} {left : List ℤ} → ((u : Unit {0}) → r ≡ Ok u → ⊥)
         → Passes state arguments r left → Shows state (called bare g statement state) (ended_by r) left output
     call_ended h passes = rw called_is (shows_ended h passes (entered bare g statement.a row))
 
     -- arguments that are passed, and the frame entered
-    pub call_entered : {left after : List ℤ} {x : Step} → Passes state arguments Ps.Done left
+    pub call_entered : {left after : List ℤ} {x : Step} → Passes state arguments (Ok tt) left
         → Shows (state_of s left output)
         (entered bare g statement.a (row_at g.procedures statement.a) (state_of s left output)) x after output
         → Shows state (called bare g statement state) x after output

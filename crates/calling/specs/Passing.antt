@@ -1,7 +1,8 @@
 -- What the code that passes arguments asks, answers and leaves.
-use Rattle.std.specs.Prelude.{ℕ, ◌+◌, ◌≤◌, ◌<◌, ◌≡◌, List, ℤ, pos, length, Ok, Err}
+use Rattle.std.specs.Prelude.{ℕ, ◌+◌, ◌≤◌, ◌<◌, ◌≡◌, List, ℤ, pos, length, Result, Ok, Err}
 use Rattle.image.specs.Rows.{row_at, rows_of}
 use Rattle.values.specs.declared.Trap.{Trap}
+use Rattle.values.specs.declared.Stop.{Stop}
 use Rattle.values.specs.declared.Stop.TheVariants as St
 use Rattle.places.specs.Places.{width_of}
 use Rattle.semantics.specs.Memory.{Memory, overwrite}
@@ -10,27 +11,17 @@ use Rattle.semantics.specs.Stepping.{State, Next, Next.trapped, Next.stuck, with
 use Rattle.semantics.specs.Running.{program_of}
 use Rattle.calling.specs.declared.Step.{Step}
 use Rattle.calling.specs.declared.Step.TheVariants as Steps
-use Rattle.calling.specs.declared.Passing.{Passing}
-use Rattle.calling.specs.declared.Passing.TheVariants as Ps
-use Rattle.values.specs.Values.{Answer}
-use Rattle.semantics.specs.Finding.{Found}
+
+-- What passing arguments comes to: nothing more, or why they are not passed, a trap or that no rule applies ("stuck").
+abbrev pub Passing : Type 0
+Passing = Result (Unit {0}) Stop
 
 -- ---- "A trap in an operand ends the step with that trap."
 
-unfoldable pub lost_place : Found → Passing
-lost_place (Ok place) = Ps.Stuck
-lost_place (Err (St.Trap t)) = Ps.Trapped t
-lost_place (Err St.Stuck) = Ps.Stuck
-
-unfoldable pub lost_value : Answer → Passing
-lost_value (Ok v) = Ps.Stuck
-lost_value (Err (St.Trap t)) = Ps.Trapped t
-lost_value (Err St.Stuck) = Ps.Stuck
-
 unfoldable pub ended_by : Passing → Step
-ended_by Ps.Done = Steps.Stuck
-ended_by (Ps.Trapped t) = Steps.Trapped t (pos 0)
-ended_by Ps.Stuck = Steps.Stuck
+ended_by (Ok done) = Steps.Stuck
+ended_by (Err (St.Trap t)) = Steps.Trapped t (pos 0)
+ended_by (Err St.Stuck) = Steps.Stuck
 
 -- ---- "each argument is written once found"
 
@@ -51,9 +42,9 @@ pub record Roomy (image : List ℕ) (top a : ℕ) (cells : List ℤ) : Type 0 wh
 -- from state s: what arguments come to, whatever follows them, the code's answer, and the cells that it leaves
 pub data Passes (s : State ℤ) (x : (State ℤ → Next ℤ) → Next ℤ) : Passing → List ℤ → Type 0 where
   passes_done : {cells : List ℤ} → ((next : State ℤ → Next ℤ) → x next ≡ next (with_cells s cells))
-      → Passes s x Ps.Done cells
+      → Passes s x (Ok tt) cells
   passes_trap : {t : Trap} {cells : List ℤ}
       → ((next : State ℤ → Next ℤ) → x next ≡ trapped t (pos 0) (with_cells s cells))
-      → Passes s x (Ps.Trapped t) cells
+      → Passes s x (Err (St.Trap t)) cells
   passes_stuck : {cells : List ℤ} → ((next : State ℤ → Next ℤ) → x next ≡ stuck (with_cells s cells))
-      → Passes s x Ps.Stuck cells
+      → Passes s x (Err St.Stuck) cells

@@ -12,13 +12,13 @@ ghost use Rattle.semantics.specs.Stepping.{on_place, on_value, on_part, passed, 
 ghost use Rattle.semantics.specs.Running.{program_of, asked_by};
 ghost use Rattle.access.specs.Ready.{Ready};
 ghost use Rattle.calling.specs.Showing.{state_of, Stands, Shows};
-ghost use Rattle.calling.specs.Passing.{lost_place, lost_value, ended_by, framed, passed_one, Roomy, Passes};
+ghost use Rattle.calling.specs.Passing.{ended_by, framed, passed_one, Roomy, Passes};
 
 use access::Loaded;
 use finding::View;
 use image::Row;
-use semantics::{Place, Registers};
-use values::{Stop, Trap, Value};
+use semantics::Registers;
+use values::{Stop, Trap};
 
 // What a step comes to: document 01's four outcomes, of which three end the run.
 #[derive(Clone, Copy)]
@@ -29,49 +29,23 @@ pub enum Step {
     Stuck,
 }
 
-// What passing arguments comes to.
-#[derive(Clone, Copy)]
-pub enum Passing {
-    Done,
-    Trapped(Trap),
-    Stuck,
-}
-
 // ---- a trap in an operand
 
-pub fn lost_place(x: Result<Place, Stop>) -> Passing
-    ensures { result ≡ lost_place x }
-{
-    match x {
-        Ok(_) => Passing::Stuck,
-        Err(Stop::Trap(t)) => Passing::Trapped(t),
-        Err(Stop::Stuck) => Passing::Stuck,
-    }
-}
-
-pub fn lost_value(x: Result<Value, Stop>) -> Passing
-    ensures { result ≡ lost_value x }
-{
-    match x {
-        Ok(_) => Passing::Stuck,
-        Err(Stop::Trap(t)) => Passing::Trapped(t),
-        Err(Stop::Stuck) => Passing::Stuck,
-    }
-}
-
-pub fn ended_by(x: Passing) -> Step
+// Why arguments are not passed ends the step.
+pub fn ended_by(x: Result<(), Stop>) -> Step
     ensures { result ≡ ended_by x }
 {
     match x {
-        Passing::Trapped(t) => Step::Trapped(t, 0),
-        _ => Step::Stuck,
+        Ok(()) => Step::Stuck,
+        Err(Stop::Trap(t)) => Step::Trapped(t, 0),
+        Err(Stop::Stuck) => Step::Stuck,
     }
 }
 
 // ---- arguments
 
 // An object, at a place of the new frame: its address and dynamic type.
-fn pass_object(loaded: &Loaded, store: &mut [i64], s: Registers, k: u32, place: u32) -> Passing
+fn pass_object(loaded: &Loaded, store: &mut [i64], s: Registers, k: u32, place: u32) -> Result<(), Stop>
     requires { Stands s store.old × (s.top + (place + 2) ≤ length store.old) }
     ensures { (output : List ℤ) → Passes (state_of s store.old output)
         (λ next. on_place (state_of s store.old output)
@@ -81,16 +55,16 @@ fn pass_object(loaded: &Loaded, store: &mut [i64], s: Registers, k: u32, place: 
 {
     let found = View::new(loaded, store, s).find(k);
     let Ok(object) = found else {
-        return lost_place(found);
+        return finding::lost(found);
     };
     let address = object.address as i64;
     let dynamic = object.dynamic as i64;
     cells::put_pair(&mut store[s.top as usize..], place, address, dynamic);
-    Passing::Done
+    Ok(())
 }
 
 // A scalar value, at a place of the new frame.
-fn pass_value(loaded: &Loaded, store: &mut [i64], s: Registers, k: u32, place: u32) -> Passing
+fn pass_value(loaded: &Loaded, store: &mut [i64], s: Registers, k: u32, place: u32) -> Result<(), Stop>
     requires { Stands s store.old × (s.top + (place + 1) ≤ length store.old) }
     ensures { (output : List ℤ) → Passes (state_of s store.old output)
         (λ next. on_value (state_of s store.old output)
@@ -99,11 +73,11 @@ fn pass_value(loaded: &Loaded, store: &mut [i64], s: Registers, k: u32, place: u
 {
     let answer = finding::fresh(View::new(loaded, store, s).eval(k));
     let Ok(value) = answer else {
-        return lost_value(answer);
+        return finding::lost(answer);
     };
     let number = values::number_of(value);
     cells::put(&mut store[s.top as usize..], place, number);
-    Passing::Done
+    Ok(())
 }
 
 // The cells of an object, as one of type row r, at a place of the new frame.
@@ -114,7 +88,7 @@ fn pass_cells(
     k: u32,
     place: u32,
     r: u16,
-) -> Passing
+) -> Result<(), Stop>
     requires { Stands s store.old × (r < rows_of (program_of loaded.now.image.now).types)
         × (s.top + (place + size_of (program_of loaded.now.image.now).types (program_of loaded.now.image.now).fields r)
         ≤ length store.old) }
@@ -127,18 +101,18 @@ fn pass_cells(
 {
     let found = View::new(loaded, store, s).find(k);
     let Ok(object) = found else {
-        return lost_place(found);
+        return finding::lost(found);
     };
     let size = loaded.size_of(r);
     if s.top < object.address + size {
-        return Passing::Stuck;
+        return Err(Stop::Stuck);
     }
     cells::copy_above(store, s.top, object.address, place, size);
-    Passing::Done
+    Ok(())
 }
 
 // One argument: node row k, to variable row a.
-fn pass(loaded: &Loaded, store: &mut [i64], s: Registers, k: u32, a: u32) -> Passing
+fn pass(loaded: &Loaded, store: &mut [i64], s: Registers, k: u32, a: u32) -> Result<(), Stop>
     requires { Stands s store.old × Roomy loaded.now.image.now s.top a store.old }
     ensures { (output : List ℤ) → Passes (state_of s store.old output)
         (passed_one bare (program_of loaded.now.image.now) k a (state_of s store.old output))
@@ -156,7 +130,7 @@ fn pass(loaded: &Loaded, store: &mut [i64], s: Registers, k: u32, a: u32) -> Pas
 }
 
 // n arguments from node row k on, to the variables from row a on.
-fn pass_all(loaded: &Loaded, store: &mut [i64], s: Registers, k: u32, a: u32, n: u32) -> Passing
+fn pass_all(loaded: &Loaded, store: &mut [i64], s: Registers, k: u32, a: u32, n: u32) -> Result<(), Stop>
     requires { Stands s store.old × (k ≤ 65536) × (a ≤ 65536) × (n ≤ 65536)
         × ((j : ℕ) → j < n → Roomy loaded.now.image.now s.top (a + j) store.old) }
     ensures { (output : List ℤ) → Passes (state_of s store.old output)
@@ -165,11 +139,11 @@ fn pass_all(loaded: &Loaded, store: &mut [i64], s: Registers, k: u32, a: u32, n:
 {
     for j in 0..n {
         let one = pass(loaded, store, s, k + j, a + j);
-        let Passing::Done = one else {
+        let Ok(()) = one else {
             return one;
         };
     }
-    Passing::Done
+    Ok(())
 }
 
 // ---- the frame
@@ -280,7 +254,7 @@ pub fn call(loaded: &Loaded, store: &mut [i64], s: Registers, statement: Row) ->
         first,
         procedure.b as u32,
     );
-    let Passing::Done = passing else {
+    let Ok(()) = passing else {
         return ended_by(passing);
     };
     enter(loaded, store, s, q)

@@ -12,7 +12,7 @@ use Rattle.values.proofs.Cases.{is_integer_lem}
 use Rattle.semantics.specs.declared.Place.{Place}
 use Rattle.semantics.specs.Layout.{Program}
 use Rattle.semantics.specs.Finding.{reach, content, index, element_place, array_place, Found}
-use Rattle.finding.specs.Missed.{no_place, no_value}
+use Rattle.finding.specs.Missed.{lost}
 use Rattle.std.specs.Prelude.{Ok, Err}
 
 -- what follows from an object: another one
@@ -34,15 +34,15 @@ reach_other (Err stop) t next = refl
 
 -- and no value
 pub content_other : (x : Found) → ((p : Place) → x ≡ Ok p → ⊥) → (next : Place → Answer)
-    → content x next ≡ no_value x
-unfolding content no_value
+    → content x next ≡ lost x
+unfolding content lost
 content_other (Ok place) t next = absurd (t place refl)
 content_other (Err stop) t next = refl
 
 -- an answer without a value is no index
 pub index_other : (x : Answer) → ((v : Value) → x ≡ Ok v → ⊥) → (next : ℤ → Found)
-    → index x next ≡ no_place x
-unfolding index no_place
+    → index x next ≡ lost x
+unfolding index lost
 index_other (Ok v) t next = absurd (t v refl)
 index_other (Err stop) t next = refl
 

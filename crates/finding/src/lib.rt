@@ -10,7 +10,7 @@ ghost use Rattle.semantics.specs.Finding.{reach, content, object, parameter_plac
 ghost use Rattle.semantics.specs.Finding.{element_place, array_place, guard_place, test_of, find_of, eval_of};
 ghost use Rattle.semantics.specs.Running.{program_of};
 ghost use Rattle.finding.specs.Within.{Within};
-ghost use Rattle.finding.specs.Missed.{no_place, no_value};
+ghost use Rattle.finding.specs.Missed.{lost};
 
 use access::Loaded;
 use image::Row;
@@ -37,19 +37,9 @@ pub fn fresh_place(x: Result<Place, Stop>) -> Result<Place, Stop>
 
 // ---- a trap in an operand: by document 01's list of forms `let .. else` takes an answer apart, and hands the trap on
 
-// Why there is no value, where an object was sought.
-fn no_place(x: Result<Value, Stop>) -> Result<Place, Stop>
-    ensures { result ≡ no_place x }
-{
-    match x {
-        Ok(_) => Err(Stop::Stuck),
-        Err(stop) => Err(stop),
-    }
-}
-
-// Why there is no object, where a value was sought.
-fn no_value(x: Result<Place, Stop>) -> Result<Value, Stop>
-    ensures { result ≡ no_value x }
+// Why there is no value or object, where another type was sought.
+pub fn lost<T: Copy, U>(x: Result<T, Stop>) -> Result<U, Stop>
+    ensures { result ≡ lost x }
 {
     match x {
         Ok(_) => Err(Stop::Stuck),
@@ -78,16 +68,10 @@ fn field_place(loaded: &Loaded, whole: Place, k: u32) -> Result<Place, Stop>
         (program_of loaded.now.image.now).fields whole.declared
         (row_at (program_of loaded.now.image.now).nodes k).b) }
 {
-    let Some(
-        FieldAt {
-            offset: offset,
-            declared: r,
-        },
-    ) = loaded.field(k, whole.declared)
-    else {
+    let Some(FieldAt { offset, declared }) = loaded.field(k, whole.declared) else {
         return Err(Stop::Stuck);
     };
-    plain(whole.address + offset, r)
+    plain(whole.address + offset, declared)
 }
 
 // Node kind 3: the element at an index of an object whose type row is `array`.
@@ -244,7 +228,7 @@ impl<'a, 'b> View<'a, 'b> {
                 }
                 let index = fresh(self.eval(second));
                 let Ok(value) = index else {
-                    return no_place(index);
+                    return lost(index);
                 };
                 let Value::Int(i) = value else {
                     return Err(Stop::Stuck);
@@ -282,7 +266,7 @@ impl<'a, 'b> View<'a, 'b> {
             1 => {
                 let variable = self.variable_place(node.a);
                 let Ok(object) = variable else {
-                    return no_value(variable);
+                    return lost(variable);
                 };
                 fresh(self.load(object))
             }
@@ -292,11 +276,11 @@ impl<'a, 'b> View<'a, 'b> {
                 }
                 let whole = fresh_place(self.find(first));
                 let Ok(owner) = whole else {
-                    return no_value(whole);
+                    return lost(whole);
                 };
                 let part = fresh_place(field_place(&self.loaded, owner, r));
                 let Ok(object) = part else {
-                    return no_value(part);
+                    return lost(part);
                 };
                 fresh(self.load(object))
             }
@@ -306,7 +290,7 @@ impl<'a, 'b> View<'a, 'b> {
                 }
                 let list = fresh_place(self.find(first));
                 let Ok(array) = list else {
-                    return no_value(list);
+                    return lost(list);
                 };
                 let row = self.loaded.type_at(array.declared);
                 if row.kind != 3 {
@@ -324,18 +308,18 @@ impl<'a, 'b> View<'a, 'b> {
                 };
                 let element = fresh_place(element_place(&self.loaded, array, row, i));
                 let Ok(object) = element else {
-                    return no_value(element);
+                    return lost(element);
                 };
                 fresh(self.load(object))
             }
             4 => {
                 let guarded = self.variable_place(node.a);
                 let Ok(whole) = guarded else {
-                    return no_value(guarded);
+                    return lost(guarded);
                 };
                 let narrowed = guard_place(&self.loaded, whole, node.b);
                 let Ok(object) = narrowed else {
-                    return no_value(narrowed);
+                    return lost(narrowed);
                 };
                 fresh(self.load(object))
             }
@@ -394,7 +378,7 @@ impl<'a, 'b> View<'a, 'b> {
             7 => {
                 let tested = self.variable_place(node.a);
                 let Ok(object) = tested else {
-                    return no_value(tested);
+                    return lost(tested);
                 };
                 type_test(&self.loaded, object, node.b)
             }

@@ -29,11 +29,11 @@ use Rattle.semantics.specs.Memory.{Memory, bare, mark_at, part_at, overwrite, Ma
 use Rattle.semantics.specs.Stepping.{State, Next, Next.goes, Next.stuck, on_place, on_value}
 use Rattle.semantics.specs.Stepping.{on_mark, go_to, following, with_cells, written, on_part, input_at, after_read}
 use Rattle.cells.proofs.Overwriting.{overwrite_length}
+use Rattle.finding.specs.Missed.{lost}
 use Rattle.calling.specs.declared.Step.{Step}
 use Rattle.calling.specs.declared.Step.TheVariants as Steps
-use Rattle.calling.specs.declared.Passing.{Passing}
 use Rattle.calling.specs.Showing.{state_of, Stands, Shows, Shows.shows_goes, Shows.shows_trap, Shows.shows_stuck}
-use Rattle.calling.specs.Passing.{lost_place, lost_value, ended_by}
+use Rattle.calling.specs.Passing.{Passing, ended_by}
 use Rattle.stepping.specs.Counting.{at_row}
 use Rattle.std.specs.Prelude.{Ok, Err, Some, None}
 use Rattle.semantics.specs.Finding.{Found}
@@ -90,15 +90,15 @@ module _ {s : State ℤ} {r : Step} {cells output : List ℤ} where
 -- ---- "A trap in an operand ends the step with that trap."
 
 lost_place_lem : (s : State ℤ) (found : Found) (next : Place → Next ℤ) → ((p : Place) → found ≡ Ok p → ⊥)
-    → Shows s (on_place s found next) (ended_by (lost_place found)) s.cells s.output
-unfolding on_place lost_place ended_by
+    → Shows s (on_place s found next) (ended_by (lost found)) s.cells s.output
+unfolding on_place lost ended_by
 lost_place_lem s (Ok place) next t = absurd (t place refl)
 lost_place_lem s (Err (St.Trap u)) next t = shows_trap refl refl
 lost_place_lem s (Err St.Stuck) next t = shows_stuck refl refl
 
 lost_value_lem : (s : State ℤ) (answer : Answer) (next : Value → Next ℤ) → ((v : Value) → answer ≡ Ok v → ⊥)
-    → Shows s (on_value s answer next) (ended_by (lost_value answer)) s.cells s.output
-unfolding on_value lost_value ended_by
+    → Shows s (on_value s answer next) (ended_by (lost answer)) s.cells s.output
+unfolding on_value lost ended_by
 lost_value_lem s (Ok v) next t = absurd (t v refl)
 lost_value_lem s (Err (St.Trap u)) next t = shows_trap refl refl
 lost_value_lem s (Err St.Stuck) next t = shows_stuck refl refl
@@ -106,14 +106,14 @@ lost_value_lem s (Err St.Stuck) next t = shows_stuck refl refl
 -- as the code has it: the answer found, what it loses, and how that ends
 module _ {s : State ℤ} {p : Passing} {r : Step} where
   pub shows_lost_place : {found x : Found} (next : Place → Next ℤ) → found ≡ x
-      → ((p : Place) → found ≡ Ok p → ⊥) → p ≡ lost_place found → r ≡ ended_by p
+      → ((p : Place) → found ≡ Ok p → ⊥) → p ≡ lost found → r ≡ ended_by p
       → Shows s (on_place s x next) r s.cells s.output
-  shows_lost_place {found} next e t lost ended = rw (ended, lost, ← e) (lost_place_lem s found next t)
+  shows_lost_place {found} next e t why ended = rw (ended, why, ← e) (lost_place_lem s found next t)
 
   pub shows_lost_value : {answer x : Answer} (next : Value → Next ℤ) → answer ≡ x
-      → ((v : Value) → answer ≡ Ok v → ⊥) → p ≡ lost_value answer → r ≡ ended_by p
+      → ((v : Value) → answer ≡ Ok v → ⊥) → p ≡ lost answer → r ≡ ended_by p
       → Shows s (on_value s x next) r s.cells s.output
-  shows_lost_value {answer} next e t lost ended = rw (ended, lost, ← e) (lost_value_lem s answer next t)
+  shows_lost_value {answer} next e t why ended = rw (ended, why, ← e) (lost_value_lem s answer next t)
 
 -- ---- no rule applies
 

@@ -92,18 +92,18 @@ fn assign(loaded: &Loaded, store: &mut [i64], s: Registers, statement: Row) -> S
     let view = View::new(loaded, store, s);
     let found = view.locate(statement.a as u32);
     let Ok(target) = found else {
-        return calling::ended_by(calling::lost_place(found));
+        return calling::ended_by(finding::lost(found));
     };
     if loaded.is_single(target.declared) {
         let answer = finding::fresh(view.eval(statement.b as u32));
         let Ok(value) = answer else {
-            return calling::ended_by(calling::lost_value(answer));
+            return calling::ended_by(finding::lost(answer));
         };
         return write_cell(store, s, target.address, values::number_of(value));
     }
     let origin = finding::fresh_place(view.find(statement.b as u32));
     let Ok(source) = origin else {
-        return calling::ended_by(calling::lost_place(origin));
+        return calling::ended_by(finding::lost(origin));
     };
     copy_object(loaded, store, s, target, source)
 }
@@ -118,7 +118,7 @@ fn jump(loaded: &Loaded, store: &[i64], s: Registers, statement: Row) -> Step
 {
     let answer = View::new(loaded, store, s).eval(statement.a as u32);
     let Ok(value) = answer else {
-        return calling::ended_by(calling::lost_value(answer));
+        return calling::ended_by(finding::lost(answer));
     };
     let Value::Bool(holds) = value else {
         return Step::Stuck;
@@ -165,7 +165,7 @@ fn receive(loaded: &Loaded, input: &[i32], store: &mut [i64], s: Registers, stat
 {
     let found = View::new(loaded, store, s).find(statement.a as u32);
     let Ok(target) = found else {
-        return calling::ended_by(calling::lost_place(found));
+        return calling::ended_by(finding::lost(found));
     };
     if input.len() <= s.read as usize {
         return Step::Trapped(Trap::Input, 0);
@@ -191,7 +191,7 @@ fn send(loaded: &Loaded, store: &[i64], output: &mut [i32], s: Registers, statem
 {
     let answer = View::new(loaded, store, s).eval(statement.a as u32);
     let Ok(value) = answer else {
-        return calling::ended_by(calling::lost_value(answer));
+        return calling::ended_by(finding::lost(answer));
     };
     let Value::Int(number) = value else {
         return Step::Stuck;
@@ -217,7 +217,7 @@ fn halt(loaded: &Loaded, store: &[i64], s: Registers, statement: Row) -> Step
 {
     let answer = View::new(loaded, store, s).eval(statement.a as u32);
     let Ok(value) = answer else {
-        return calling::ended_by(calling::lost_value(answer));
+        return calling::ended_by(finding::lost(answer));
     };
     let Value::Int(number) = value else {
         return Step::Stuck;

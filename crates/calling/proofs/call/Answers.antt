@@ -1,4 +1,3 @@
-use borrow.Enum.Refused.{opened}
 use native.Mathlib.Omega.{arith}
 use Rattle.semantics.specs.Running.{program_of}
 use Rattle.calling.proofs.Arguments.{stands_kept}
@@ -27,7 +26,7 @@ pub returns-in_default : goal.returns-in_default
 returns-in_default c = λ output.
     let row = c.procedure_at-procedure.ensures in
     let ended = call_ended (program_of c.args.loaded.now.image.now) c.args.statement c.args.s
-    c.args.store.now output (rw (← c.new_top-end.ensures) c.if-store-end.false) _ row _ c.first_variable-first.ensures (opened c.in_default.in_default-own.keys2)
+    c.args.store.now output (rw (← c.new_top-end.ensures) c.if-store-end.false) _ row _ c.first_variable-first.ensures c.in_default.not-Ok
     (c.pass_all-passing.ensures output) in
     rw c.ended_by.ensures ended
 
@@ -40,6 +39,6 @@ pub returns : goal.returns
 returns c = λ output.
     let row = c.procedure_at-procedure.ensures in
     let all = c.pass_all-passing in
-    let passes = rw c.in-Done.is at (all.ensures output) in
+    let passes = rw c.in-Ok.is at (all.ensures output) in
     call_entered (program_of c.args.loaded.now.image.now) c.args.statement c.args.s c.args.store.now
     output (rw (← c.new_top-end.ensures) c.if-store-end.false) _ row _ c.first_variable-first.ensures passes (c.enter.ensures output)

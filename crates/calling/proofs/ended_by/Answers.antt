@@ -1,12 +1,22 @@
-use borrow.Enum.Refused.{opened}
-use mathlib.Core.Path.{sym, ap}
+use mathlib.Core.Path.{◌≡◌}
+use Rattle.values.specs.declared.Stop.TheVariants as St
 use Rattle.calling.specs.Passing.{ended_by}
-use Rattle.calling.proofs.Arguments.{ended_stuck}
 use Rattle.calling.proofs.ended_by.Goals as goal
 
-pub returns-in-Trapped : goal.returns-in-Trapped
+pub returns-in-Ok : goal.returns-in-Ok
 unfolding ended_by
-returns-in-Trapped c = sym (ap ended_by c.in-Trapped.is)
+returns-in-Ok c = rw c.in-Ok.is
 
-pub returns-in_default : goal.returns-in_default
-returns-in_default c = sym (ended_stuck c.args.x (opened c.in_default.in_default-own.keys2))
+pub returns-in-Err-Trap : goal.returns-in-Err-Trap
+unfolding ended_by
+returns-in-Err-Trap c =
+    let m = c.in-Err-Trap in
+    let e : m.field-0 ≡ St.Trap m.t = rw m.is at m.field-0-is in
+    rw (m.is, e)
+
+pub returns-in-Err-Stuck : goal.returns-in-Err-Stuck
+unfolding ended_by
+returns-in-Err-Stuck c =
+    let m = c.in-Err-Stuck in
+    let e : m.field-0 ≡ St.Stuck = rw m.is at m.field-0-is in
+    rw (m.is, e)

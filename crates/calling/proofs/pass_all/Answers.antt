@@ -1,4 +1,3 @@
-use borrow.Enum.Refused.{opened}
 use Rattle.calling.proofs.Arguments.{along_none, along_next, along_lost, along_end}
 use Rattle.calling.proofs.Arguments.{stands_kept, roomy_kept}
 use Rattle.calling.proofs.pass_all.Goals as goal
@@ -16,14 +15,14 @@ pass-one-requires c =
 pub returns-in_default : goal.returns-in_default
 returns-in_default c =
     λ output.
-    along_lost c.loop-j.invariant c.loop-j-test.true (opened c.in_default.in_default-own.keys2) output
+    along_lost c.loop-j.invariant c.loop-j-test.true c.in_default.not-Ok output
     (c.pass-one.ensures output)
 
 pub loop-j-preserved : goal.loop-j-preserved
 loop-j-preserved c =
     let one = c.pass-one in
     along_next c.loop-j.invariant c.loop-j-test.true one.auto.store
-    (λ output. rw c.in-Done.is at (one.ensures output))
+    (λ output. rw c.in-Ok.is at (one.ensures output))
 
 pub shape_of-store : goal.shape_of-store
 shape_of-store c = c.loop-j.invariant.kept

@@ -12,7 +12,7 @@ use Rattle.calling.proofs.pass_cells.Goals as goal
 -- `calling::pass_cells` meets its contract: the cells, copied, or what the operand's loss comes to.
 pub returns-in_default : goal.returns-in_default
 returns-in_default c = λ output.
-    rw (c.lost_place.ensures, ← (seen c.new.result c.new.ensures c.args.k c.find-found.ensures))
+    rw (c.lost.ensures, ← (seen c.new.result c.new.ensures c.args.k c.find-found.ensures))
     (place_lost _ _ _ c.in_default.not-Ok)
 
 pub size_of-size-requires : goal.size_of-size-requires

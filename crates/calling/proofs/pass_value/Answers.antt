@@ -12,7 +12,7 @@ use Rattle.calling.proofs.pass_value.Goals as goal
 -- `calling::pass_value` meets its contract: a cell of the lent part, or what the operand's loss comes to.
 pub returns-in_default : goal.returns-in_default
 returns-in_default c = λ output.
-    rw (c.lost_value.ensures, ← (c.fresh-answer.ensures ∙ valued c.new.result c.new.ensures c.args.k c.eval.ensures))
+    rw (c.lost.ensures, ← (c.fresh-answer.ensures ∙ valued c.new.result c.new.ensures c.args.k c.eval.ensures))
     (value_lost _ _ _ c.in_default.not-Ok)
 
 pub returns : goal.returns

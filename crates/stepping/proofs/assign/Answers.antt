@@ -15,7 +15,7 @@ pub returns-in_default : goal.returns-in_default
 unfolding assigned
 returns-in_default c = λ output.
     shows_lost_place _ (seen c.new-view.result c.new-view.ensures _ c.locate-found.ensures) c.in_default.not-Ok
-    c.lost_place.ensures c.ended_by.ensures
+    c.lost.ensures c.ended_by.ensures
 
 pub is_single-requires : goal.is_single-requires
 is_single-requires c =
@@ -27,7 +27,7 @@ returns-in_default-answer c = λ output.
     shows_place _ (seen c.new-view.result c.new-view.ensures _ c.locate-found.ensures) c.in-Ok.is
     (shows_yes _ (rw (← c.is_single.ensures) c.if-is_single.true)
     (shows_lost_value _ (c.fresh-answer.ensures ∙ valued c.new-view.result c.new-view.ensures _ c.eval.ensures) c.in_default-answer.not-Ok
-    c.lost_value.ensures c.ended_by-in_default-answer.ensures))
+    c.lost-in_default-answer.ensures c.ended_by-in_default-answer.ensures))
 
 pub returns-then-is_single : goal.returns-then-is_single
 unfolding assigned bare
@@ -45,7 +45,7 @@ returns-in_default-origin c = λ output.
     (shows_no _ (rw (← c.is_single.ensures) c.if-is_single.false)
     (shows_lost_place _ (c.fresh_place-origin.ensures ∙ seen c.new-view.result c.new-view.ensures _ c.find.ensures)
     c.in_default-origin.not-Ok
-    c.lost_place-in_default-origin.ensures c.ended_by-in_default-origin.ensures))
+    c.lost-in_default-origin.ensures c.ended_by-in_default-origin.ensures))
 
 pub copy_object-requires : goal.copy_object-requires
 copy_object-requires c =

@@ -18,7 +18,7 @@ pub returns-in_default : goal.returns-in_default
 unfolding received
 returns-in_default c = λ output.
     shows_lost_place _ (seen c.new.result c.new.ensures _ c.find-found.ensures) c.in_default.not-Ok
-    c.lost_place.ensures c.ended_by.ensures
+    c.lost.ensures c.ended_by.ensures
 
 pub returns-then-input-s : goal.returns-then-input-s
 unfolding received

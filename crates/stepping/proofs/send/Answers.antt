@@ -17,7 +17,7 @@ pub returns-in_default : goal.returns-in_default
 unfolding sent
 returns-in_default c =
     shows_lost_value _ (valued c.new.result c.new.ensures _ c.eval-answer.ensures) c.in_default.not-Ok
-    c.lost_value.ensures c.ended_by.ensures
+    c.lost.ensures c.ended_by.ensures
 
 pub returns-in_default-value : goal.returns-in_default-value
 unfolding sent

@@ -28,7 +28,7 @@ use Rattle.semantics.specs.Layout.{Program}
 use Rattle.semantics.specs.Finding.{reach, content, index, variable_place, field_place, element_place, array_place}
 use Rattle.semantics.specs.Finding.{guard_place, test_of, designator, Meaning, meaning_by, find_of, eval_of, Found}
 use Rattle.semantics.specs.Running.{program_of}
-use Rattle.finding.specs.Missed.{no_value}
+use Rattle.finding.specs.Missed.{lost}
 use Rattle.finding.proofs.Missed.{reach_object, content_object, reach_other, content_other, index_other}
 use Rattle.finding.proofs.Missed.{index_handed, index_none, index_value, array_stuck, array_none, array_index}
 use Rattle.finding.proofs.Laws.{lower, find_row, eval_row, find_lower, eval_lower, not_lower, find_other}
@@ -69,8 +69,8 @@ module _ (g : Program) (base top : ℕ) (store : List ℤ) (r : ℕ) (row : Row)
   held x = content x (λ place. value_at bare top store (kind_in g.types place.declared) place.address)
 
   -- what is no object holds nothing, whatever would follow from it
-  lost : {x : Found} → ((p : Place) → x ≡ Ok p → ⊥) → (next : Place → Found) → held (reach x next) ≡ no_value x
-  lost none next = ap held (reach_other _ none next) ∙ content_other _ none _
+  lost_held : {x : Found} → ((p : Place) → x ≡ Ok p → ⊥) → (next : Place → Found) → held (reach x next) ≡ lost x
+  lost_held none next = ap held (reach_other _ none next) ∙ content_other _ none _
 
   -- a node of a kind
   at_row : (kind : ℕ) → row.kind ≡ kind → worth ≡ (meaning_by bare g base top store low kind row).value
@@ -91,8 +91,8 @@ module _ (g : Program) (base top : ℕ) (store : List ℤ) (r : ℕ) (row : Row)
     unfolding meaning_by designator choose
     at_whole = at_row 2 kind ∙ rw (find_lower _ _ _ _ _ _ _ less f)
 
-    at_whole_lost : ((p : Place) → x ≡ Ok p → ⊥) → worth ≡ no_value x
-    at_whole_lost none = at_whole ∙ lost none field
+    at_whole_lost : ((p : Place) → x ≡ Ok p → ⊥) → worth ≡ lost x
+    at_whole_lost none = at_whole ∙ lost_held none field
 
     f_whole : found ≡ reach x field
     unfolding meaning_by designator choose
@@ -116,8 +116,8 @@ module _ (g : Program) (base top : ℕ) (store : List ℤ) (r : ℕ) (row : Row)
     unfolding meaning_by designator choose
     at_list = at_row 3 kind ∙ rw (find_lower _ _ _ _ _ _ _ less f)
 
-    at_list_lost : ((p : Place) → x ≡ Ok p → ⊥) → worth ≡ no_value x
-    at_list_lost none = at_list ∙ lost none (element (low row.b).value)
+    at_list_lost : ((p : Place) → x ≡ Ok p → ⊥) → worth ≡ lost x
+    at_list_lost none = at_list ∙ lost_held none (element (low row.b).value)
 
     f_list : found ≡ reach x (element (low row.b).value)
     unfolding meaning_by designator choose
@@ -167,8 +167,8 @@ module _ (g : Program) (base top : ℕ) (store : List ℤ) (r : ℕ) (row : Row)
     unfolding meaning_by designator choose
     at_guarded = at_row 4 kind ∙ rw (← f)
 
-    at_guarded_lost : ((p : Place) → x ≡ Ok p → ⊥) → worth ≡ no_value x
-    at_guarded_lost none = at_guarded ∙ lost none (guard_place g row.b)
+    at_guarded_lost : ((p : Place) → x ≡ Ok p → ⊥) → worth ≡ lost x
+    at_guarded_lost none = at_guarded ∙ lost_held none (guard_place g row.b)
 
     f_guarded : found ≡ reach x (guard_place g row.b)
     unfolding meaning_by designator choose
@@ -227,7 +227,7 @@ eval-returns-in-0 t c = c.constant.ensures ∙ sym (at_row _ _ _ _ _ _ c.node_at
 
 pub eval-returns-in_default-variable : goal.eval-returns-in_default-variable
 eval-returns-in_default-variable t c =
-    c.no_value.ensures
+    c.lost.ensures
     ∙ sym (at_variable _ _ _ _ _ _ c.node_at-node.ensures c.in-1.is c.variable_place-variable.ensures
     ∙ content_other _ c.in_default-variable.not-Ok _)
 
@@ -249,7 +249,7 @@ eval-returns-then-r-first t c =
 
 pub eval-returns-in_default-whole : goal.eval-returns-in_default-whole
 eval-returns-in_default-whole t c =
-    c.no_value-in_default-whole.ensures
+    c.lost-in_default-whole.ensures
     ∙ sym (at_whole_lost _ _ _ _ _ _ c.node_at-node.ensures c.in-2.is c.if-r-first.false
     (c.fresh_place-whole.ensures ∙ c.find.ensures) c.in_default-whole.not-Ok)
 
@@ -262,7 +262,7 @@ eval-field_place-requires t c =
 
 pub eval-returns-in_default-part : goal.eval-returns-in_default-part
 eval-returns-in_default-part t c =
-    c.no_value-in_default-part.ensures
+    c.lost-in_default-part.ensures
     ∙ sym (at_part _ _ _ _ _ _ c.node_at-node.ensures c.in-2.is c.if-r-first.false
     (c.fresh_place-whole.ensures ∙ c.find.ensures) c.in-Ok-whole.is
     (c.fresh_place-part.ensures ∙ c.field_place.ensures)
@@ -288,7 +288,7 @@ eval-returns-then-r-first-2 t c =
 
 pub eval-returns-in_default-list : goal.eval-returns-in_default-list
 eval-returns-in_default-list t c =
-    c.no_value-in_default-list.ensures
+    c.lost-in_default-list.ensures
     ∙ sym (at_list_lost _ _ _ _ _ _ c.node_at-node.ensures c.in-3.is c.if-r-first-2.false
     (c.fresh_place-list.ensures ∙ c.find-in-3.ensures) c.in_default-list.not-Ok)
 
@@ -327,7 +327,7 @@ eval-element_place-requires t c =
 
 pub eval-returns-in_default-element : goal.eval-returns-in_default-element
 eval-returns-in_default-element t c =
-    c.no_value-in_default-element.ensures
+    c.lost-in_default-element.ensures
     ∙ sym (at_element _ _ _ _ _ _ c.node_at-node.ensures c.in-3.is c.if-r-first-2.false
     (c.fresh_place-list.ensures ∙ c.find-in-3.ensures) c.in-Ok-list.is _ c.type_at-row.ensures c.if-row-ne3.false
     c.if-r-second.false (c.fresh-index.ensures ∙ c.eval.ensures) c.in-Ok-index.is c.in-Int.is
@@ -351,13 +351,13 @@ eval-returns-in-Ok-element t c =
 
 pub eval-returns-in_default-guarded : goal.eval-returns-in_default-guarded
 eval-returns-in_default-guarded t c =
-    c.no_value-in_default-guarded.ensures
+    c.lost-in_default-guarded.ensures
     ∙ sym (at_guarded_lost _ _ _ _ _ _ c.node_at-node.ensures c.in-4.is c.variable_place-guarded.ensures
     c.in_default-guarded.not-Ok)
 
 pub eval-returns-in_default-narrowed : goal.eval-returns-in_default-narrowed
 eval-returns-in_default-narrowed t c =
-    c.no_value-in_default-narrowed.ensures
+    c.lost-in_default-narrowed.ensures
     ∙ sym (at_narrowed _ _ _ _ _ _ c.node_at-node.ensures c.in-4.is c.variable_place-guarded.ensures c.in-Ok-guarded.is
     c.guard_place-narrowed.ensures
     ∙ content_other _ c.in_default-narrowed.not-Ok _)
@@ -477,7 +477,7 @@ eval-returns-in-Ok-operand t c =
 
 pub eval-returns-in_default-tested : goal.eval-returns-in_default-tested
 eval-returns-in_default-tested t c =
-    c.no_value-in_default-tested.ensures
+    c.lost-in_default-tested.ensures
     ∙ sym (at_tested _ _ _ _ _ _ c.node_at-node.ensures c.in-7.is c.variable_place-tested.ensures
     ∙ content_other _ c.in_default-tested.not-Ok _)
 
@@ -560,7 +560,7 @@ find-returns-then-r-second t c =
 
 pub find-returns-in_default-index : goal.find-returns-in_default-index
 find-returns-in_default-index t c =
-    c.no_place.ensures
+    c.lost.ensures
     ∙ sym (f_index _ _ _ _ _ _ c.node_at-node.ensures c.in-3.is c.if-r-first-2.false
     (c.fresh_place-list.ensures ∙ c.find-in-3.ensures) c.in-Ok-list.is _ c.type_at-row.ensures c.if-row-ne3.false
     c.if-r-second.false (c.fresh-index.ensures ∙ c.eval.ensures)
