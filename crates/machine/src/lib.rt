@@ -45,9 +45,9 @@ fn stop_by(x: Step, s: Registers, k: u32, mark: u32) -> RunResult
     }
 }
 
-// At most n steps more from any state, where `done` were done before and the mark was `first`. A step that goes on leaves
-// the top that it asked for, or one no higher than before, so that only the last step is asked. Top is read from s: read
-// from q, it costs five instructions a step more.
+// At most n steps more from any state, where `done` were done before and the mark was `first`. A step that goes on
+// leaves the top that it asked for, or one no higher than before, so that only the last step is asked. Top is read from
+// s: read from q, it costs five instructions a step more.
 pub fn advance(
     loaded: &Loaded,
     input: &[i32],
