@@ -45,7 +45,13 @@ pub fn ended_by(x: Result<(), Stop>) -> Step
 // ---- arguments
 
 // An object, at a place of the new frame: its address and dynamic type.
-fn pass_object(loaded: &Loaded, store: &mut [i64], s: Registers, k: u32, place: u32) -> Result<(), Stop>
+fn pass_object(
+    loaded: &Loaded,
+    store: &mut [i64],
+    s: Registers,
+    k: u32,
+    place: u32,
+) -> Result<(), Stop>
     requires { Stands s store.old × (s.top + (place + 2) ≤ length store.old) }
     ensures { (output : List ℤ) → Passes (state_of s store.old output)
         (λ next. on_place (state_of s store.old output)
@@ -64,7 +70,13 @@ fn pass_object(loaded: &Loaded, store: &mut [i64], s: Registers, k: u32, place: 
 }
 
 // A scalar value, at a place of the new frame.
-fn pass_value(loaded: &Loaded, store: &mut [i64], s: Registers, k: u32, place: u32) -> Result<(), Stop>
+fn pass_value(
+    loaded: &Loaded,
+    store: &mut [i64],
+    s: Registers,
+    k: u32,
+    place: u32,
+) -> Result<(), Stop>
     requires { Stands s store.old × (s.top + (place + 1) ≤ length store.old) }
     ensures { (output : List ℤ) → Passes (state_of s store.old output)
         (λ next. on_value (state_of s store.old output)
@@ -130,7 +142,14 @@ fn pass(loaded: &Loaded, store: &mut [i64], s: Registers, k: u32, a: u32) -> Res
 }
 
 // n arguments from node row k on, to the variables from row a on.
-fn pass_all(loaded: &Loaded, store: &mut [i64], s: Registers, k: u32, a: u32, n: u32) -> Result<(), Stop>
+fn pass_all(
+    loaded: &Loaded,
+    store: &mut [i64],
+    s: Registers,
+    k: u32,
+    a: u32,
+    n: u32,
+) -> Result<(), Stop>
     requires { Stands s store.old × (k ≤ 65536) × (a ≤ 65536) × (n ≤ 65536)
         × ((j : ℕ) → j < n → Roomy loaded.now.image.now s.top (a + j) store.old) }
     ensures { (output : List ℤ) → Passes (state_of s store.old output)
