@@ -20,7 +20,6 @@ use Rattle.values.specs.declared.Value.TheVariants as Vs
 use Rattle.values.specs.Values.{number_of, as_boolean, as_integer, Answer}
 use Rattle.values.specs.contracts.Value.{the_type as value_type}
 use Rattle.values.specs.declared.Stop.TheVariants as St
-use Rattle.values.proofs.Binding.{neither}
 use Rattle.values.proofs.Cases.{is_boolean, is_integer_lem, no_boolean, no_integer}
 use Rattle.values.proofs.Numbers.{fits_integer}
 use Rattle.semantics.specs.declared.Registers.{Registers}

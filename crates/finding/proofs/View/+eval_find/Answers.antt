@@ -6,7 +6,6 @@ use mathlib.Core.List.{List}
 use Prim.Native.Nat.{ℕ, ◌<◌}
 use lib.IntN.{ℤ}
 use borrow.Author.Tests.{ne_eqb}
-use borrow.Enum.Refused.{opened}
 use borrow.Author.Rules.{rules}
 use Rattle.prelude.specs.Choice.{choose}
 use Rattle.image.specs.declared.Row.{Row}
