@@ -37,7 +37,7 @@ pub fn fresh_place(x: Result<Place, Stop>) -> Result<Place, Stop>
 
 // ---- a trap in an operand: by document 01's list of forms `let .. else` takes an answer apart, and hands the trap on
 
-// Why there is no value or object, where another type was sought: "A trap in an operand ends the step with that trap."
+// Why there is no value or object, where another type was sought.
 pub fn lost<T: Copy, U>(x: Result<T, Stop>) -> Result<U, Stop>
     ensures { result ≡ lost x }
 {
