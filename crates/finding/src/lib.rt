@@ -21,15 +21,9 @@ use values::{Stop, Trap, Value};
 // ---- answers of calls
 
 // A call leaves its answer in memory, piece by piece, and a copy of the whole would wait for the pieces. Handed through
-// one of these two, it is copied piece by piece.
+// this one, it is copied piece by piece.
 
-pub fn fresh(x: Result<Value, Stop>) -> Result<Value, Stop>
-    ensures { result ≡ x }
-{
-    x
-}
-
-pub fn fresh_place(x: Result<Place, Stop>) -> Result<Place, Stop>
+pub fn fresh<T: Copy>(x: Result<T, Stop>) -> Result<T, Stop>
     ensures { result ≡ x }
 {
     x
@@ -205,17 +199,17 @@ impl<'a, 'b> View<'a, 'b> {
                 if r <= first {
                     return Err(Stop::Stuck);
                 }
-                let whole = fresh_place(self.find(first));
+                let whole = fresh(self.find(first));
                 let Ok(owner) = whole else {
                     return whole;
                 };
-                fresh_place(field_place(&self.loaded, owner, r))
+                fresh(field_place(&self.loaded, owner, r))
             }
             3 => {
                 if r <= first {
                     return Err(Stop::Stuck);
                 }
-                let list = fresh_place(self.find(first));
+                let list = fresh(self.find(first));
                 let Ok(array) = list else {
                     return list;
                 };
@@ -233,7 +227,7 @@ impl<'a, 'b> View<'a, 'b> {
                 let Value::Int(i) = value else {
                     return Err(Stop::Stuck);
                 };
-                fresh_place(element_place(&self.loaded, array, row, i))
+                fresh(element_place(&self.loaded, array, row, i))
             }
             4 => {
                 let guarded = self.variable_place(node.a);
@@ -246,7 +240,7 @@ impl<'a, 'b> View<'a, 'b> {
                 if r <= first {
                     return Err(Stop::Stuck);
                 }
-                fresh_place(self.find(first))
+                fresh(self.find(first))
             }
             _ => Err(Stop::Stuck),
         }
@@ -274,11 +268,11 @@ impl<'a, 'b> View<'a, 'b> {
                 if r <= first {
                     return Err(Stop::Stuck);
                 }
-                let whole = fresh_place(self.find(first));
+                let whole = fresh(self.find(first));
                 let Ok(owner) = whole else {
                     return lost(whole);
                 };
-                let part = fresh_place(field_place(&self.loaded, owner, r));
+                let part = fresh(field_place(&self.loaded, owner, r));
                 let Ok(object) = part else {
                     return lost(part);
                 };
@@ -288,7 +282,7 @@ impl<'a, 'b> View<'a, 'b> {
                 if r <= first {
                     return Err(Stop::Stuck);
                 }
-                let list = fresh_place(self.find(first));
+                let list = fresh(self.find(first));
                 let Ok(array) = list else {
                     return lost(list);
                 };
@@ -306,7 +300,7 @@ impl<'a, 'b> View<'a, 'b> {
                 let Value::Int(i) = value else {
                     return Err(Stop::Stuck);
                 };
-                let element = fresh_place(element_place(&self.loaded, array, row, i));
+                let element = fresh(element_place(&self.loaded, array, row, i));
                 let Ok(object) = element else {
                     return lost(element);
                 };
@@ -395,6 +389,6 @@ impl<'a, 'b> View<'a, 'b> {
         if node.kind == 1 {
             return self.variable_place(node.a);
         }
-        fresh_place(self.find(r))
+        fresh(self.find(r))
     }
 }

@@ -1,6 +1,6 @@
 -- The fresh state in the lent store, and what the code of a run and of a continuation gives back.
 use Rattle.std.specs.Prelude.{Ok, Err}
-use Rattle.checker.specs.Check.{CheckAnswer, question_of, check_of, refusal_of, row_of}
+use Rattle.checker.specs.Check.{refused_at, CheckAnswer, question_of, check_of, refusal_of, row_of}
 use mathlib.Core.Path.{◌≡◌, sym, ◌∙◌, ap}
 use mathlib.Core.Bool.{Bool, true, false}
 use mathlib.Core.List.{List, ◌∷◌, ◌++◌, map-id}

@@ -101,7 +101,7 @@ fn assign(loaded: &Loaded, store: &mut [i64], s: Registers, statement: Row) -> S
         };
         return write_cell(store, s, target.address, values::number_of(value));
     }
-    let origin = finding::fresh_place(view.find(statement.b as u32));
+    let origin = finding::fresh(view.find(statement.b as u32));
     let Ok(source) = origin else {
         return calling::ended_by(finding::lost(origin));
     };

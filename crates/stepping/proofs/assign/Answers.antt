@@ -43,7 +43,7 @@ unfolding assigned
 returns-in_default-origin c = λ output.
     shows_place _ (seen c.new-view.result c.new-view.ensures _ c.locate-found.ensures) c.in-Ok.is
     (shows_no _ (rw (← c.is_single.ensures) c.if-is_single.false)
-    (shows_lost_place _ (c.fresh_place-origin.ensures ∙ seen c.new-view.result c.new-view.ensures _ c.find.ensures)
+    (shows_lost_place _ (c.fresh-origin.ensures ∙ seen c.new-view.result c.new-view.ensures _ c.find.ensures)
     c.in_default-origin.not-Ok
     c.lost-in_default-origin.ensures c.ended_by-in_default-origin.ensures))
 
@@ -54,7 +54,7 @@ copy_object-requires c =
       c.requires.0,
       c.requires.1,
       find_within planned low _ _ _ (sym (seen c.new-view.result c.new-view.ensures _ c.locate-found.ensures) ∙ c.in-Ok.is),
-      find_within planned low _ _ _ (sym (c.fresh_place-origin.ensures ∙ seen c.new-view.result c.new-view.ensures _ c.find.ensures) ∙ c.in-Ok-origin.is),
+      find_within planned low _ _ _ (sym (c.fresh-origin.ensures ∙ seen c.new-view.result c.new-view.ensures _ c.find.ensures) ∙ c.in-Ok-origin.is),
     )
 
 pub returns : goal.returns
@@ -62,5 +62,5 @@ unfolding assigned
 returns c = λ output.
     shows_place _ (seen c.new-view.result c.new-view.ensures _ c.locate-found.ensures) c.in-Ok.is
     (shows_no _ (rw (← c.is_single.ensures) c.if-is_single.false)
-    (shows_place _ (c.fresh_place-origin.ensures ∙ seen c.new-view.result c.new-view.ensures _ c.find.ensures)
+    (shows_place _ (c.fresh-origin.ensures ∙ seen c.new-view.result c.new-view.ensures _ c.find.ensures)
     c.in-Ok-origin.is (c.copy_object.ensures output)))

@@ -250,12 +250,12 @@ pub eval-returns-in_default-whole : goal.eval-returns-in_default-whole
 eval-returns-in_default-whole t c =
     c.lost-in_default-whole.ensures
     ∙ sym (at_whole_lost _ _ _ _ _ _ c.node_at-node.ensures c.in-2.is c.if-r-first.false
-    (c.fresh_place-whole.ensures ∙ c.find.ensures) c.in_default-whole.not-Ok)
+    (c.fresh-whole.ensures ∙ c.find.ensures) c.in_default-whole.not-Ok)
 
 pub eval-field_place-requires : goal.eval-field_place-requires
 eval-field_place-requires t c =
     let s = c.args.self.now in (
-      find_within s.loaded.planned s.low _ _ _ (sym (c.fresh_place-whole.ensures ∙ c.find.ensures) ∙ c.in-Ok-whole.is),
+      find_within s.loaded.planned s.low _ _ _ (sym (c.fresh-whole.ensures ∙ c.find.ensures) ∙ c.in-Ok-whole.is),
       rw (← c.node_at-node.ensures) c.in-2.is,
     )
 
@@ -263,21 +263,21 @@ pub eval-returns-in_default-part : goal.eval-returns-in_default-part
 eval-returns-in_default-part t c =
     c.lost-in_default-part.ensures
     ∙ sym (at_part _ _ _ _ _ _ c.node_at-node.ensures c.in-2.is c.if-r-first.false
-    (c.fresh_place-whole.ensures ∙ c.find.ensures) c.in-Ok-whole.is
-    (c.fresh_place-part.ensures ∙ c.field_place.ensures)
+    (c.fresh-whole.ensures ∙ c.find.ensures) c.in-Ok-whole.is
+    (c.fresh-part.ensures ∙ c.field_place.ensures)
     ∙ content_other _ c.in_default-part.not-Ok _)
 
 pub eval-load-requires-in-2 : goal.eval-load-requires-in-2
 eval-load-requires-in-2 t c =
     let s = c.args.self.now in
-    field_there s.loaded.planned c.in-Ok-part.is _ _ _ (c.fresh_place-part.ensures ∙ c.field_place.ensures)
+    field_there s.loaded.planned c.in-Ok-part.is _ _ _ (c.fresh-part.ensures ∙ c.field_place.ensures)
 
 pub eval-returns-in-Ok-part : goal.eval-returns-in-Ok-part
 eval-returns-in-Ok-part t c =
     c.fresh-in-2.ensures ∙ c.load-in-2.ensures
     ∙ sym (at_part _ _ _ _ _ _ c.node_at-node.ensures c.in-2.is c.if-r-first.false
-    (c.fresh_place-whole.ensures ∙ c.find.ensures) c.in-Ok-whole.is
-    (c.fresh_place-part.ensures ∙ c.field_place.ensures)
+    (c.fresh-whole.ensures ∙ c.find.ensures) c.in-Ok-whole.is
+    (c.fresh-part.ensures ∙ c.field_place.ensures)
     ∙ content_object c.in-Ok-part.is _)
 
 pub eval-returns-then-r-first-2 : goal.eval-returns-then-r-first-2
@@ -289,37 +289,37 @@ pub eval-returns-in_default-list : goal.eval-returns-in_default-list
 eval-returns-in_default-list t c =
     c.lost-in_default-list.ensures
     ∙ sym (at_list_lost _ _ _ _ _ _ c.node_at-node.ensures c.in-3.is c.if-r-first-2.false
-    (c.fresh_place-list.ensures ∙ c.find-in-3.ensures) c.in_default-list.not-Ok)
+    (c.fresh-list.ensures ∙ c.find-in-3.ensures) c.in_default-list.not-Ok)
 
 pub eval-returns-then-row-ne3 : goal.eval-returns-then-row-ne3
 eval-returns-then-row-ne3 t c =
     sym (at_no_array _ _ _ _ _ _ c.node_at-node.ensures c.in-3.is c.if-r-first-2.false
-    (c.fresh_place-list.ensures ∙ c.find-in-3.ensures) c.in-Ok-list.is _ c.type_at-row.ensures c.if-row-ne3.true)
+    (c.fresh-list.ensures ∙ c.find-in-3.ensures) c.in-Ok-list.is _ c.type_at-row.ensures c.if-row-ne3.true)
 
 pub eval-returns-then-r-second : goal.eval-returns-then-r-second
 unfolding content
 eval-returns-then-r-second t c =
     sym (at_array _ _ _ _ _ _ c.node_at-node.ensures c.in-3.is c.if-r-first-2.false
-    (c.fresh_place-list.ensures ∙ c.find-in-3.ensures) c.in-Ok-list.is
+    (c.fresh-list.ensures ∙ c.find-in-3.ensures) c.in-Ok-list.is
     ∙ rw (not_lower _ _ _ _ _ _ _ c.if-r-second.true, array_stuck _ _))
 
 pub eval-returns-in_default-index : goal.eval-returns-in_default-index
 eval-returns-in_default-index t c =
     sym (at_index _ _ _ _ _ _ c.node_at-node.ensures c.in-3.is c.if-r-first-2.false
-    (c.fresh_place-list.ensures ∙ c.find-in-3.ensures) c.in-Ok-list.is _ c.type_at-row.ensures c.if-row-ne3.false
+    (c.fresh-list.ensures ∙ c.find-in-3.ensures) c.in-Ok-list.is _ c.type_at-row.ensures c.if-row-ne3.false
     c.if-r-second.false (c.fresh-index.ensures ∙ c.eval.ensures)
     ∙ index_handed _ c.in_default-index.not-Ok _ _)
 
 pub eval-returns-in_default-value : goal.eval-returns-in_default-value
 eval-returns-in_default-value t c =
     sym (at_no_integer _ _ _ _ _ _ c.node_at-node.ensures c.in-3.is c.if-r-first-2.false
-    (c.fresh_place-list.ensures ∙ c.find-in-3.ensures) c.in-Ok-list.is _ c.type_at-row.ensures c.if-row-ne3.false
+    (c.fresh-list.ensures ∙ c.find-in-3.ensures) c.in-Ok-list.is _ c.type_at-row.ensures c.if-row-ne3.false
     c.if-r-second.false (c.fresh-index.ensures ∙ c.eval.ensures) c.in-Ok-index.is c.in_default-value.not-Int)
 
 pub eval-element_place-requires : goal.eval-element_place-requires
 eval-element_place-requires t c =
     let s = c.args.self.now in (
-      find_within s.loaded.planned s.low _ _ _ (sym (c.fresh_place-list.ensures ∙ c.find-in-3.ensures) ∙ c.in-Ok-list.is),
+      find_within s.loaded.planned s.low _ _ _ (sym (c.fresh-list.ensures ∙ c.find-in-3.ensures) ∙ c.in-Ok-list.is),
       c.type_at-row.ensures,
       c.if-row-ne3.false,
     )
@@ -328,24 +328,24 @@ pub eval-returns-in_default-element : goal.eval-returns-in_default-element
 eval-returns-in_default-element t c =
     c.lost-in_default-element.ensures
     ∙ sym (at_element _ _ _ _ _ _ c.node_at-node.ensures c.in-3.is c.if-r-first-2.false
-    (c.fresh_place-list.ensures ∙ c.find-in-3.ensures) c.in-Ok-list.is _ c.type_at-row.ensures c.if-row-ne3.false
+    (c.fresh-list.ensures ∙ c.find-in-3.ensures) c.in-Ok-list.is _ c.type_at-row.ensures c.if-row-ne3.false
     c.if-r-second.false (c.fresh-index.ensures ∙ c.eval.ensures) c.in-Ok-index.is c.in-Int.is
-    (c.fresh_place-element.ensures ∙ c.element_place.ensures ∙ ap (element_place _ _ _) (plain32 c.in-Int.i (search rules)))
+    (c.fresh-element.ensures ∙ c.element_place.ensures ∙ ap (element_place _ _ _) (plain32 c.in-Int.i (search rules)))
     ∙ content_other _ c.in_default-element.not-Ok _)
 
 pub eval-load-requires-in-3 : goal.eval-load-requires-in-3
 eval-load-requires-in-3 t c =
     let s = c.args.self.now in
     element_there s.loaded.planned c.in-Ok-element.is _ _ c.type_at-row.ensures c.if-row-ne3.false
-    (c.fresh_place-element.ensures ∙ c.element_place.ensures)
+    (c.fresh-element.ensures ∙ c.element_place.ensures)
 
 pub eval-returns-in-Ok-element : goal.eval-returns-in-Ok-element
 eval-returns-in-Ok-element t c =
     c.fresh-in-3.ensures ∙ c.load-in-3.ensures
     ∙ sym (at_element _ _ _ _ _ _ c.node_at-node.ensures c.in-3.is c.if-r-first-2.false
-    (c.fresh_place-list.ensures ∙ c.find-in-3.ensures) c.in-Ok-list.is _ c.type_at-row.ensures c.if-row-ne3.false
+    (c.fresh-list.ensures ∙ c.find-in-3.ensures) c.in-Ok-list.is _ c.type_at-row.ensures c.if-row-ne3.false
     c.if-r-second.false (c.fresh-index.ensures ∙ c.eval.ensures) c.in-Ok-index.is c.in-Int.is
-    (c.fresh_place-element.ensures ∙ c.element_place.ensures ∙ ap (element_place _ _ _) (plain32 c.in-Int.i (search rules)))
+    (c.fresh-element.ensures ∙ c.element_place.ensures ∙ ap (element_place _ _ _) (plain32 c.in-Int.i (search rules)))
     ∙ content_object c.in-Ok-element.is _)
 
 pub eval-returns-in_default-guarded : goal.eval-returns-in_default-guarded
@@ -519,20 +519,20 @@ find-returns-then-r-first t c =
 pub find-returns-in_default-whole : goal.find-returns-in_default-whole
 find-returns-in_default-whole t c =
     sym (f_whole _ _ _ _ _ _ c.node_at-node.ensures c.in-2.is c.if-r-first.false
-    (c.fresh_place-whole.ensures ∙ c.find.ensures)
+    (c.fresh-whole.ensures ∙ c.find.ensures)
     ∙ reach_other _ c.in_default-whole.not-Ok _)
 
 pub find-field_place-requires : goal.find-field_place-requires
 find-field_place-requires t c =
     let s = c.args.self.now in (
-      find_within s.loaded.planned s.low _ _ _ (sym (c.fresh_place-whole.ensures ∙ c.find.ensures) ∙ c.in-Ok.is),
+      find_within s.loaded.planned s.low _ _ _ (sym (c.fresh-whole.ensures ∙ c.find.ensures) ∙ c.in-Ok.is),
       rw (← c.node_at-node.ensures) c.in-2.is,
     )
 
 pub find-returns-in-Ok : goal.find-returns-in-Ok
 find-returns-in-Ok t c =
     f_part _ _ _ _ _ _ c.node_at-node.ensures c.in-2.is c.if-r-first.false
-    (c.fresh_place-whole.ensures ∙ c.find.ensures) c.in-Ok.is (c.fresh_place.ensures ∙ c.field_place.ensures)
+    (c.fresh-whole.ensures ∙ c.find.ensures) c.in-Ok.is (c.fresh.ensures ∙ c.field_place.ensures)
 
 pub find-returns-then-r-first-2 : goal.find-returns-then-r-first-2
 unfolding meaning_by designator choose reach
@@ -542,40 +542,40 @@ find-returns-then-r-first-2 t c =
 pub find-returns-in_default-list : goal.find-returns-in_default-list
 find-returns-in_default-list t c =
     sym (f_list _ _ _ _ _ _ c.node_at-node.ensures c.in-3.is c.if-r-first-2.false
-    (c.fresh_place-list.ensures ∙ c.find-in-3.ensures)
+    (c.fresh-list.ensures ∙ c.find-in-3.ensures)
     ∙ reach_other _ c.in_default-list.not-Ok _)
 
 pub find-returns-then-row-ne3 : goal.find-returns-then-row-ne3
 find-returns-then-row-ne3 t c =
     sym (f_array _ _ _ _ _ _ c.node_at-node.ensures c.in-3.is c.if-r-first-2.false
-    (c.fresh_place-list.ensures ∙ c.find-in-3.ensures) c.in-Ok-list.is
+    (c.fresh-list.ensures ∙ c.find-in-3.ensures) c.in-Ok-list.is
     ∙ array_none _ _ _ (λ e. c.if-row-ne3.true (ap (λ (x : Row). x.kind) c.type_at-row.ensures ∙ e)))
 
 pub find-returns-then-r-second : goal.find-returns-then-r-second
 find-returns-then-r-second t c =
     sym (f_array _ _ _ _ _ _ c.node_at-node.ensures c.in-3.is c.if-r-first-2.false
-    (c.fresh_place-list.ensures ∙ c.find-in-3.ensures) c.in-Ok-list.is
+    (c.fresh-list.ensures ∙ c.find-in-3.ensures) c.in-Ok-list.is
     ∙ rw (not_lower _ _ _ _ _ _ _ c.if-r-second.true, array_stuck _ _))
 
 pub find-returns-in_default-index : goal.find-returns-in_default-index
 find-returns-in_default-index t c =
     c.lost.ensures
     ∙ sym (f_index _ _ _ _ _ _ c.node_at-node.ensures c.in-3.is c.if-r-first-2.false
-    (c.fresh_place-list.ensures ∙ c.find-in-3.ensures) c.in-Ok-list.is _ c.type_at-row.ensures c.if-row-ne3.false
+    (c.fresh-list.ensures ∙ c.find-in-3.ensures) c.in-Ok-list.is _ c.type_at-row.ensures c.if-row-ne3.false
     c.if-r-second.false (c.fresh-index.ensures ∙ c.eval.ensures)
     ∙ index_other _ c.in_default-index.not-Ok _)
 
 pub find-returns-in_default-value : goal.find-returns-in_default-value
 find-returns-in_default-value t c =
     sym (f_index _ _ _ _ _ _ c.node_at-node.ensures c.in-3.is c.if-r-first-2.false
-    (c.fresh_place-list.ensures ∙ c.find-in-3.ensures) c.in-Ok-list.is _ c.type_at-row.ensures c.if-row-ne3.false
+    (c.fresh-list.ensures ∙ c.find-in-3.ensures) c.in-Ok-list.is _ c.type_at-row.ensures c.if-row-ne3.false
     c.if-r-second.false (c.fresh-index.ensures ∙ c.eval.ensures)
     ∙ index_none _ c.in-Ok-index.is c.in_default-value.not-Int _)
 
 pub find-element_place-requires : goal.find-element_place-requires
 find-element_place-requires t c =
     let s = c.args.self.now in (
-      find_within s.loaded.planned s.low _ _ _ (sym (c.fresh_place-list.ensures ∙ c.find-in-3.ensures) ∙ c.in-Ok-list.is),
+      find_within s.loaded.planned s.low _ _ _ (sym (c.fresh-list.ensures ∙ c.find-in-3.ensures) ∙ c.in-Ok-list.is),
       c.type_at-row.ensures,
       c.if-row-ne3.false,
     )
@@ -583,9 +583,9 @@ find-element_place-requires t c =
 pub find-returns-in-Int : goal.find-returns-in-Int
 find-returns-in-Int t c =
     f_element _ _ _ _ _ _ c.node_at-node.ensures c.in-3.is c.if-r-first-2.false
-    (c.fresh_place-list.ensures ∙ c.find-in-3.ensures) c.in-Ok-list.is _ c.type_at-row.ensures c.if-row-ne3.false
+    (c.fresh-list.ensures ∙ c.find-in-3.ensures) c.in-Ok-list.is _ c.type_at-row.ensures c.if-row-ne3.false
     c.if-r-second.false (c.fresh-index.ensures ∙ c.eval.ensures) c.in-Ok-index.is c.in-Int.is
-    (c.fresh_place-in-3.ensures ∙ c.element_place.ensures ∙ ap (element_place _ _ _) (plain32 c.in-Int.i (search rules)))
+    (c.fresh-in-3.ensures ∙ c.element_place.ensures ∙ ap (element_place _ _ _) (plain32 c.in-Int.i (search rules)))
 
 pub find-returns-in_default-guarded : goal.find-returns-in_default-guarded
 find-returns-in_default-guarded t c =
@@ -608,7 +608,7 @@ unfolding meaning_by choose
 find-returns-else-r-first-3 t c =
     sym
     (f_row _ _ _ _ _ _ c.node_at-node.ensures 8 c.in-8.is
-    ∙ find_lower _ _ _ _ _ _ _ c.if-r-first-3.false (c.fresh_place-in-8.ensures ∙ c.find-in-8.ensures))
+    ∙ find_lower _ _ _ _ _ _ _ c.if-r-first-3.false (c.fresh-in-8.ensures ∙ c.find-in-8.ensures))
 
 pub find-returns-in_default : goal.find-returns-in_default
 find-returns-in_default t c =

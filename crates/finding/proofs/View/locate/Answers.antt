@@ -11,4 +11,4 @@ returns-then-node-eq1 c =
     c.variable_place.ensures ∙ sym (find_row _ _ _ _ _ _ node.result node.ensures 1 c.if-node-eq1.true)
 
 pub returns : goal.returns
-returns c = c.fresh_place.ensures ∙ c.find.ensures
+returns c = c.fresh.ensures ∙ c.find.ensures
