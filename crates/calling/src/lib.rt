@@ -20,7 +20,7 @@ use image::Row;
 use semantics::Registers;
 use values::{Stop, Trap};
 
-// What a step comes to: document 01's four outcomes, of which three end the run.
+// What a step comes to: the four cases of the definition's `Next`.
 #[derive(Clone, Copy)]
 pub enum Step {
     Goes(Registers),

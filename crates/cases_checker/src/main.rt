@@ -24,7 +24,9 @@ fn main(rt: HostRuntime) -> io::Result<()> {
         };
         match checker::check(&buffer[..n]) {
             Ok(()) => packs::print_answer(&rt, 0, 0)?,
-            Err(Refusal { question, row }) => packs::print_answer(&rt, question, row)?,
+            Err(Refusal { question, row }) => {
+                packs::print_answer(&rt, question as u32, row as u32)?
+            }
         }
     }
     Ok(())

@@ -19,7 +19,7 @@ pub fn value_at(store: &[i64], top: u32, kind: u16, address: u32) -> Result<Valu
     values::cell(kind, store[address as usize])
 }
 
-// A number as a link, an address or a type.
+// A number as a link, an address or a type. (Not by std's try_from: see values::is_integer.)
 #[tactic(auto, using(crate::proofs::Marks::mark_negative, crate::proofs::Marks::mark_large, crate::proofs::Marks::mark_is, crate::proofs::Marks::mark_fits, values::proofs::Numbers::plain64))]
 fn mark_of(z: i64) -> Option<u16>
     ensures { result ≡ mark_of z }

@@ -20,7 +20,7 @@ ghost use Rattle.contents.specs.Reading.{Readable, Reads, Inside, Holds};
 use image::Row;
 
 // ---- what the cells of a type are: the kind of them all, or one of these numbers
-// They are numbers and no enum, since the table that is lent for them has bytes (`fill_even`, no heap).
+// They are numbers and no enum: + s carries a row in the same byte, where an enum's row would be a second one.
 
 // No cells.
 const EMPTY: u8 = 3;

@@ -91,9 +91,8 @@ fn guard_place(loaded: &Loaded, place: Place, b: u16) -> Result<Place, Stop>
 {
     if loaded.extends(place.dynamic, b) {
         return Ok(Place {
-            address: place.address,
             declared: b,
-            dynamic: place.dynamic,
+            ..place
         });
     }
     Err(Stop::Trap(Trap::Guard))
@@ -246,7 +245,7 @@ impl<'a, 'b> View<'a, 'b> {
         }
     }
 
-    // The value of node row r.
+    // The value of node row r. Arms 2 to 4 find their object here: a call of `find` on the same row would not fall.
     #[cycle(eval_find)]
     pub fn eval(&self, r: u32) -> Result<Value, Stop>
         ensures { result ≡ eval_of bare (program_of self.now.loaded.image.now)

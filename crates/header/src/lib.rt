@@ -70,7 +70,7 @@ fn tables_of(version: u8, image: &[u8]) -> Option<Tables>
     })
 }
 
-// Questions 1 to 3: the six tables, or the question that fails.
+// Questions 1 to 3: the six tables, or the question that fails, by the number that document 01 has for it.
 pub fn header(image: &[u8]) -> Result<Tables, u8>
     ensures { result ≡ header_of image.now }
 {

@@ -24,7 +24,7 @@ pub fn number_at(t: &[u8], at: usize) -> u16
     u16::from_be_bytes([t[at], t[at + 1]])
 }
 
-// The 32-bit number at a byte.
+// The 32-bit number at a byte, of two of 16 bits, as the definition has it.
 pub fn word_at(t: &[u8], at: usize) -> u32
     requires { at + 4 ≤ length t.now }
     ensures { result ≡ word_at t.now at }

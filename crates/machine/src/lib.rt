@@ -131,7 +131,8 @@ fn store_question(loaded: &Loaded, cells: usize) -> u32
     0
 }
 
-// Checks an image and runs it from the fresh state, with at most `steps` steps.
+// Checks an image and runs it from the fresh state, with at most `steps` steps. (`resume` begins alike: a function for
+// both would hand out references to a plan that it made.)
 pub fn run(
     image: &[u8],
     input: &[i32],

@@ -75,6 +75,7 @@ fn dyadic_kept(n: &[u8], r: usize, row: Row) -> bool
     child_kept(n, r, row.a) && child_kept(n, r, row.b) && 1 <= row.c && row.c <= 16
 }
 
+// Like `argument_kept` but for the operator: two lines, as above.
 fn monadic_kept(version: u8, n: &[u8], r: usize, row: Row) -> bool
     ensures { result ≡ monadic_kept version n.now r row }
 {

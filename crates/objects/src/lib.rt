@@ -38,7 +38,7 @@ type RowWords = Edged<u64>;
 type Tables<'a> = Edged<&'a Words>;
 
 // What a look at the parts of an object settles: one begins there, none does, or the answer is that of a part of this
-// type, so many cells into it.
+// type, so many cells into it. Three answers, and not a value or its absence.
 #[derive(Clone, Copy)]
 pub enum Look {
     Yes,
@@ -313,7 +313,7 @@ fn edges(t: &[u8], f: &[u8], plan: &[u32], tables: Tables, r: usize) -> RowWords
     }
 }
 
-// Fills the tables: the words of every type row.
+// Fills the tables: the words of every type row. The two are lent apart, as who has them makes them.
 pub fn fill(t: &[u8], f: &[u8], plan: &[u32], starts: &mut Words, ends: &mut Words)
     requires { Typed t.now f.now plan.now × (ROWS ≤ length starts.old) × (ROWS ≤ length ends.old) }
     ensures all_edges { AllEdges t.now f.now plan.now starts.new

@@ -57,11 +57,7 @@ fn variable_span(v: &[u8], a: u16) -> Span
 fn span_at(spans: &[Span], k: usize) -> Span
     ensures { result ≡ span_in spans.now k }
 {
-    if k < spans.len() {
-        spans[k]
-    } else {
-        Span::NONE
-    }
+    spans.get(k).copied().unwrap_or(Span::NONE)
 }
 
 fn both_spans(spans: &[Span], a: u16, b: u16) -> Span

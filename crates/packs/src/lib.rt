@@ -45,7 +45,7 @@ pub fn next_record<R: Read>(reader: &mut R, buffer: &mut [u8]) -> Result<usize, 
 }
 
 // Prints an answer of the check on a line: the question that refuses and its row, or 0 and 0.
-pub fn print_answer(rt: &impl Print, refusal: u8, row: u16) -> io::Result<()>
+pub fn print_answer(rt: &impl Print, refusal: u32, row: u32) -> io::Result<()>
     ensures { IfOk result (λ x. x ≡ tt) }
 {
     println!(rt; "{refusal} {row}")

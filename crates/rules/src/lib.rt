@@ -85,6 +85,7 @@ impl Body<'_, '_> {
             && self.is_owned(k)
     }
 
+    // What the table holds is asked here and not of each body: the definition names `Body`, whose field it would be.
     fn call_rule(&self, row: Row) -> bool
         requires { FirstTable self.now.v.now self.now.p.now self.now.firsts.now }
         ensures { result ≡ call_rule self.now.t.now self.now.v.now self.now.p.now self.now.n.now (types_in self.now)

@@ -52,7 +52,7 @@ pub const UPPER: usize = LOWER + 64;
 
 pub const RUN_PLAN: usize = UPPER + 64;
 
-// A cell of the plan, 0 past its end.
+// A cell of the plan, 0 past its end. (Not by `get`, since an edit moves the test: must-fail/plan_past_end.)
 pub fn cell(plan: &[u32], i: usize) -> u32
     ensures { result ≡ get_or plan.now i 0 }
 {

@@ -24,13 +24,7 @@ use values::{Trap, Value};
 fn at_row(s: Registers, row: u32) -> Registers
     ensures { result ≡ at_row s row }
 {
-    Registers {
-        row,
-        base: s.base,
-        top: s.top,
-        read: s.read,
-        written: s.written,
-    }
+    Registers { row, ..s }
 }
 
 // Writes one cell at an address below top, and goes on.

@@ -86,6 +86,7 @@ fn integer_cell(z: i64) -> Result<Value, Stop>
     }
 }
 
+// (Not by std's try_from: see is_integer.)
 fn set_cell(z: i64) -> Result<Value, Stop>
     ensures { result ≡ set_cell z }
 {
