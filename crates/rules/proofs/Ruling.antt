@@ -106,8 +106,8 @@ module _ (t v p n s : List ℕ) (spans : List Span) (firsts : List ℕ) (ready :
 
 -- ---- the tables
 
-pub empty : (n : ℕ) → length (replicate n no_span) ≡ n
-empty n = length-replicate n no_span
+pub empty : (n : ℕ) (x : Span) → length (replicate n x) ≡ n
+empty n x = length-replicate n x
 
 pub ready : (v p n s : List ℕ) (old spans : List Span) (old_firsts firsts : List ℕ) (nodes : ℕ) → RowsFit v p n s
     → nodes ≡ rows_of n → Spans (span_of v n) (rows_of n) old spans → rows_of n ≤ length spans

@@ -17,10 +17,15 @@ fn inherited(t: &[u8], plan: &[u32], a: u16) -> u32
     requires { of_base 0 (λ b. get_or plan.now (INHERITED + b) 0) a ≤ 65535 }
     ensures { result ≡ of_base 0 (λ b. get_or plan.now (INHERITED + b) 0 + (row_at t.now b).c) a }
 {
-    let Some(base) = (a as usize).checked_sub(1) else {
+    // By `checked_sub` each row that has no base would take as long as one that has.
+    if a == 0 {
         return 0;
-    };
-    sizes::cell(plan, INHERITED + base) + image::row_at(t, base).c as u32
+    }
+    let base = (a as usize) - 1;
+    let row = image::row_at(t, base);
+    let own = row.c;
+    let above = sizes::cell(plan, INHERITED + base);
+    above + (own as u32)
 }
 
 // Where n field rows from row k on begin in their record, the first at `at`.

@@ -1,5 +1,4 @@
-use mathlib.Core.Path.{◌≡◌, refl, sym, ◌∙◌}
-use Prim.Native.Nat.{◌-◌}
+use mathlib.Core.Path.{refl, sym, ◌∙◌}
 use native.Mathlib.Omega.{arith}
 use Rattle.relations.proofs.Climbing.{planned_other, planned_own_lem, planned_none, planned_high, planned_low}
 use Rattle.relations.proofs.field.Goals as goal
@@ -17,10 +16,10 @@ returns-then-inherited-sought c = let l = c.loop-row in
     c.own_field.ensures
     ∙ sym (l.invariant.1 ∙ planned_own_lem _ _ _ _ _ c.row_at-row.ensures c.if-row-ne4.false (rw held at c.if-inherited-sought.true) ∙ rw (← held))
 
-pub returns-in_default : goal.returns-in_default
-returns-in_default c = let l = c.loop-row in
+pub returns-then-row-eq0 : goal.returns-then-row-eq0
+returns-then-row-eq0 c = let l = c.loop-row in
     let less = rw c.cell-inherited.ensures at c.if-inherited-sought.false in
-    sym (l.invariant.1 ∙ planned_none _ _ _ _ _ c.row_at-row.ensures c.if-row-ne4.false less (omega arith))
+    sym (l.invariant.1 ∙ planned_none _ _ _ _ _ c.row_at-row.ensures c.if-row-ne4.false less c.if-row-eq0.true)
 
 pub returns-then-at-base : goal.returns-then-at-base
 returns-then-at-base c = let l = c.loop-row in
@@ -30,5 +29,4 @@ returns-then-at-base c = let l = c.loop-row in
 pub loop-row-preserved : goal.loop-row-preserved
 loop-row-preserved c = let l = c.loop-row in
     let less = rw c.cell-inherited.ensures at c.if-inherited-sought.false in
-    let base : c.in-Some.base ≡ c.row_at-row.result.a - 1 = omega arith in
-    (omega arith, l.invariant.1 ∙ rw base (planned_low _ _ _ _ _ c.row_at-row.ensures c.if-row-ne4.false less (omega arith) (omega arith)))
+    (omega arith, l.invariant.1 ∙ planned_low _ _ _ _ _ c.row_at-row.ensures c.if-row-ne4.false less (omega arith) (omega arith))

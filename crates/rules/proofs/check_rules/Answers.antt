@@ -24,7 +24,7 @@ returns-then-not-rule_by c = let l = c.loop-r in
     let more = rw c.rows_of-r-end.ensures at c.loop-r-test.true in
     let table = c.fill_spans.ensures in
     let known = ready _ _ _ _ _ _ _ _ _ c.requires c.rows_of-nodes.ensures table
-    (omega (arith, table.cells, empty 2048, c.requires.few_nodes)) c.first_variables.ensures in
+    (omega (arith, table.cells, empty 2048 (record { least = 0; past = 0 }), c.requires.few_nodes)) c.first_variables.ensures in
     let here = statement_is _ _ _ _ _ _ _ known _ l.r l.q more l.invariant.0 _ c.row_at-row.ensures _ _
     c.cell.ensures c.cell-in-loop-r.ensures in
     scan_bad _ _ _ l.invariant.1 more (sym here ∙ sym c.rule_by.ensures ∙ c.if-not-rule_by.true)
@@ -40,7 +40,7 @@ loop-r-preserved c = let l = c.loop-r in
     let more = rw c.rows_of-r-end.ensures at c.loop-r-test.true in
     let table = c.fill_spans.ensures in
     let known = ready _ _ _ _ _ _ _ _ _ c.requires c.rows_of-nodes.ensures table
-    (omega (arith, table.cells, empty 2048, c.requires.few_nodes)) c.first_variables.ensures in
+    (omega (arith, table.cells, empty 2048 (record { least = 0; past = 0 }), c.requires.few_nodes)) c.first_variables.ensures in
     let here = statement_is _ _ _ _ _ _ _ known _ l.r l.q more l.invariant.0 _ c.row_at-row.ensures _ _
     c.cell.ensures c.cell-in-loop-r.ensures in (
       c.next_procedure-q.ensures ∙ procedure_next _ _ _ l.invariant.0,

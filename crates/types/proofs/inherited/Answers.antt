@@ -1,22 +1,23 @@
 use Rattle.image.specs.declared.Row.{Row}
 use Rattle.image.specs.Rows.{row_at}
 use lib.ListN.{get_or}
-use Prim.Native.Nat.{suc, ◌+◌}
-use mathlib.Core.Path.{◌≡◌, sym, ◌∙◌, ap}
-use Rattle.shapes.proofs.Rows.{of_no_base, of_row}
+use Prim.Native.Nat.{◌+◌}
+use mathlib.Core.Path.{sym, ◌∙◌, ap}
+use Rattle.shapes.proofs.Rows.{of_no_base, of_base_lem}
 use Rattle.sizes.specs.Cells.{INHERITED}
 use native.Mathlib.Omega.{arith}
 use Rattle.types.proofs.inherited.Goals as goal
 
-pub returns-in_default : goal.returns-in_default
-returns-in_default c = sym (of_no_base _ _ _ (omega arith))
+pub returns-then-a-eq0 : goal.returns-then-a-eq0
+returns-then-a-eq0 c = sym (of_no_base _ _ _ c.if-a-eq0.true)
 
 pub overflow_add-result : goal.overflow_add-result
-overflow_add-result c = let some : c.args.a ≡ suc c.in-Some.base = omega arith in
-    let low = rw (of_row 0 (λ b. get_or c.args.plan.now (INHERITED + b) 0) some) at c.requires in
-    omega (arith, low, c.cell.ensures)
+overflow_add-result c = let on = of_base_lem 0 (λ b. get_or c.args.plan.now (INHERITED + b) 0) c.args.a (omega arith) in
+    let low = rw on at c.requires in
+    omega (arith, low, c.cell-above.ensures)
 
 pub returns : goal.returns
-returns c = let some : c.args.a ≡ suc c.in-Some.base = omega arith in
-    let own = ap (λ (x : Row). x.c) c.row_at.ensures in
-    sym (of_row 0 (λ b. get_or c.args.plan.now (INHERITED + b) 0 + (row_at c.args.t.now b).c) some ∙ rw (← c.cell.ensures, ← own))
+returns c = let own = ap (λ (x : Row). x.c) c.row_at-row.ensures in
+    sym (of_base_lem 0 (λ b. get_or c.args.plan.now (INHERITED + b) 0 + (row_at c.args.t.now b).c) c.args.a
+    (omega arith)
+    ∙ rw (← c.cell-above.ensures, ← own))
