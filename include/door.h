@@ -34,7 +34,7 @@ extern const char door_version[];
 
 /* The stack that a call needs, in bytes: measured, by painting the stack, and rounded up. It is no proven bound, and
  * holds for the libraries that this kit builds. `bash tests/stack` measures it on x86-64, `bash tests/targets/run` on
- * the other targets, of which none needs more. Check: 16,416 at most, for the longest image and all of vectors/; no
+ * the other targets, of which none needs more. Check: 16,544 at most, for the longest image and all of vectors/; no
  * function of it calls itself. Run and continue: expressions of 2,048 nodes, the deepest that an accepted image can
  * have, in a thread with this stack and four pages more for the thread itself. A continue needs hardly more than a run:
  * what question 14 takes is given back before the first step. */

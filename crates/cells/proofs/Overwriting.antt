@@ -184,6 +184,32 @@ module _ {X : Type 0} where
         length-replicate n x,
       )
 
+  -- one cell more copied to a place not above it
+  pub copy_next : (cells : List X) (from to n : ℕ) (d : X) → from + n < length cells → to ≤ from
+      → set (overwrite cells to (part_at cells from n)) (to + n)
+      (get_or (overwrite cells to (part_at cells from n)) (from + n) d)
+      ≡ overwrite cells to (part_at cells from (n + 1))
+  copy_next cells from to n d h low =
+      let size = part_length cells from n (omega arith) in
+      rw (
+        cell_behind cells (part_at cells from n) to (from + n) d (omega (arith, size)) (omega arith),
+        part_next cells from n d h,
+      )
+      (rw size at (set_behind cells (part_at cells from n) to (get_or cells (from + n) d) (omega (arith, size))))
+
+  -- one cell more copied to a place not below it
+  pub copy_before : (cells : List X) (from to n : ℕ) (d : X) → to + n < length cells → from ≤ to
+      → set (overwrite cells (to + 1) (part_at cells (from + 1) n)) to
+      (get_or (overwrite cells (to + 1) (part_at cells (from + 1) n)) from d)
+      ≡ overwrite cells to (part_at cells from (n + 1))
+  copy_before cells from to n d h low =
+      let size = part_length cells (from + 1) n (omega arith) in
+      rw (
+        cell_before cells (part_at cells (from + 1) n) (to + 1) from d (omega arith) (omega arith),
+        part_before cells from n d (omega arith),
+      )
+      (set_before cells (part_at cells (from + 1) n) to (get_or cells from d) (omega (arith, size)))
+
   -- one cell more copied to the part from top on, which is lent for it
   pub copy_lent : (old cells part : List X) (top from place n : ℕ) (d : X) → from + n < top
       → top + (place + n) < length old → cells ≡ overwrite old (top + place) (part_at old from n)

@@ -76,7 +76,28 @@ pub fn zero(store: &mut [i64], a: u32, n: u32)
 
 // ---- copying
 
-// n cells, as if all were read before any is written.
+// n cells to a place not above them: the lowest first.
+fn copy_down(store: &mut [i64], from: usize, to: usize, n: usize)
+    requires { (from + n ≤ length store.old) × (to ≤ from) }
+    ensures { store.new ≡ overwrite store.old to (part_at store.old from n) }
+{
+    for i in 0..n {
+        store[to + i] = store[from + i];
+    }
+}
+
+// n cells to a place not below them: the highest first.
+fn copy_up(store: &mut [i64], from: usize, to: usize, n: usize)
+    requires { (to + n ≤ length store.old) × (from ≤ to) }
+    ensures { store.new ≡ overwrite store.old to (part_at store.old from n) }
+{
+    for left in (0..n).rev() {
+        store[to + left] = store[from + left];
+    }
+}
+
+// n cells, as if all were read before any is written. (By `copy_within` the module would have pointers whose place hangs
+// on the processor: docs/DECISIONS.md, D121.)
 pub fn copy(store: &mut [i64], from: u32, to: u32, n: u32)
     requires { (from + n ≤ length store.old) × (to + n ≤ length store.old) }
     ensures { store.new ≡ overwrite store.old to (part_at store.old from n) }
@@ -84,7 +105,11 @@ pub fn copy(store: &mut [i64], from: u32, to: u32, n: u32)
     let source = from as usize;
     let target = to as usize;
     let count = n as usize;
-    store.copy_within(source..source + count, target);
+    if source < target {
+        copy_up(store, source, target, count);
+    } else {
+        copy_down(store, source, target, count);
+    }
 }
 
 // n cells from below top to a place in the part from top on, each written through that part.

@@ -35,7 +35,11 @@ const MIXED: u8 = 255;
 fn kind_at(even: &[u8], i: usize) -> u8
     ensures { result ≡ get_or even.now i 0 }
 {
-    even.get(i).copied().unwrap_or(0)
+    // Not by `get`: docs/DECISIONS.md, D121.
+    if i < even.len() {
+        return even[i];
+    }
+    0
 }
 
 // Cells k and then cells j.

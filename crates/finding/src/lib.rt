@@ -160,7 +160,9 @@ impl<'a, 'b> View<'a, 'b> {
         })
     }
 
-    // Node kind 1: variable row a.
+    // Node kind 1: variable row a. The compiler inlines it of itself for some processors; on the others a node of an
+    // expression takes less stack with it too (docs/FIRMWARE.md).
+    #[inline(always)]
     fn variable_place(&self, a: u16) -> Result<Place, Stop>
         ensures { result ≡ variable_place bare (program_of self.now.loaded.image.now)
             self.now.base self.now.top self.now.store.now a

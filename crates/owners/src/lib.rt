@@ -57,7 +57,11 @@ fn variable_span(v: &[u8], a: u16) -> Span
 fn span_at(spans: &[Span], k: usize) -> Span
     ensures { result ≡ span_in spans.now k }
 {
-    spans.get(k).copied().unwrap_or(Span::NONE)
+    // Not by `get`: docs/DECISIONS.md, D121.
+    if k < spans.len() {
+        return spans[k];
+    }
+    Span::NONE
 }
 
 fn both_spans(spans: &[Span], a: u16, b: u16) -> Span

@@ -71,7 +71,12 @@ fn fill_runs(n: &[u8], runs: &mut [u16])
 fn run_at(runs: &[u16], b: u16) -> u16
     ensures { result ≡ get_or runs.now b 0 }
 {
-    runs.get(b as usize).copied().unwrap_or(0)
+    // Not by `get`: docs/DECISIONS.md, D121.
+    let row = b as usize;
+    if row < runs.len() {
+        return runs[row];
+    }
+    0
 }
 
 fn arguments_kept(runs: &[u16], b: u16, parameters: u16) -> bool
