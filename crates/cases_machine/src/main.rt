@@ -62,9 +62,9 @@ fn run_case(
     let x = machine::run(image, input, store, output, steps);
     printing::print_result(rt, x)?;
     rt.print(" |")?;
-    printing::print_each(rt, " ", output)?;
+    printing::print_each(rt, b" ", output)?;
     rt.print(" |")?;
-    printing::print_each(rt, " ", store)?;
+    printing::print_each(rt, b" ", store)?;
     rt.print("\n")
 }
 

@@ -21,11 +21,11 @@ const OUTPUTS: usize = 4096;
 // The steps of a run.
 const STEPS: u32 = 100_000;
 
-// Runs an image with no inputs.
+// Runs an image with no inputs. The contract has the paper's numbers, so that a wrong constant is refused.
 fn run_image(image: &[u8], output: &mut [i32]) -> RunResult
-    ensures value { result ≡ result_of image.now [] (replicate CELLS (pos 0)) output.old STEPS }
-    ensures output { output.new ≡ output_after image.now [] (replicate CELLS (pos 0))
-        output.old STEPS }
+    ensures value { result ≡ result_of image.now [] (replicate 8192 (pos 0)) output.old 100000 }
+    ensures output { output.new ≡ output_after image.now [] (replicate 8192 (pos 0))
+        output.old 100000 }
 {
     let mut store = [0; CELLS];
     machine::run(image, &[], &mut store, output, STEPS)
@@ -56,7 +56,7 @@ fn main(rt: HostRuntime) -> io::Result<()> {
     printing::print_result(&rt, x)?;
     // No more are written than there are places.
     if let Some(written) = output.get(..x.at.written as usize) {
-        printing::print_each(&rt, "\n", written)?;
+        printing::print_each(&rt, b"\n", written)?;
     }
     rt.print("\n")
 }

@@ -17,12 +17,13 @@ pub fn print_result(rt: &impl Print, x: RunResult) -> io::Result<()>
     )
 }
 
-// Prints each number, `before` in front of it.
-pub fn print_each<T: Display>(rt: &impl Print, before: &str, numbers: &[T]) -> io::Result<()>
+// Prints each number, the bytes `before` in front of it.
+pub fn print_each<T: Display>(rt: &impl Print, before: &[u8], numbers: &[T]) -> io::Result<()>
     ensures { IfOk result (λ x. x ≡ tt) }
 {
     for number in numbers {
-        print!(rt; "{before}{number}")?;
+        rt.write_all(before)?;
+        print!(rt; "{number}")?;
     }
     Ok(())
 }
