@@ -7,13 +7,30 @@ use Rattle.image.specs.Rows.{row_at}
 use Rattle.values.specs.declared.Value.{Value}
 use Rattle.values.specs.declared.Value.TheVariants as Vs
 use Rattle.values.specs.Values.{as_integer, Answer}
+use Rattle.values.specs.declared.Trap.{Trap}
+use Rattle.values.specs.declared.Stop.{Stop}
 use Rattle.values.specs.declared.Stop.TheVariants as St
 use Rattle.values.proofs.Cases.{is_integer_lem}
 use Rattle.semantics.specs.declared.Place.{Place}
 use Rattle.semantics.specs.Layout.{Program}
 use Rattle.semantics.specs.Finding.{reach, content, index, element_place, array_place, Found}
 use Rattle.finding.specs.Missed.{lost}
-use Rattle.std.specs.Prelude.{Ok, Err}
+use Rattle.std.specs.Prelude.{Result, Ok, Err}
+
+-- an answer without a trap, where another type was sought
+pub no_trap : {T U : Type 0} (x : Result T Stop) → ((t : Trap) → x ≡ Err (St.Trap t) → ⊥) → lost {U = U} x ≡ Err St.Stuck
+unfolding lost
+no_trap (Ok v) t = refl
+no_trap (Err (St.Trap u)) t = absurd (t u refl)
+no_trap (Err St.Stuck) t = refl
+
+-- so where an object was sought
+pub no_trap_place : (x : Answer) → ((t : Trap) → x ≡ Err (St.Trap t) → ⊥) → lost {U = Place} x ≡ Err St.Stuck
+no_trap_place x = no_trap x
+
+-- and where a value was sought
+pub no_trap_value : (x : Found) → ((t : Trap) → x ≡ Err (St.Trap t) → ⊥) → lost {U = Value} x ≡ Err St.Stuck
+no_trap_value x = no_trap x
 
 -- what follows from an object: another one
 pub reach_object : {x : Found} {place : Place} → x ≡ Ok place → (next : Place → Found) → reach x next ≡ next place

@@ -18,10 +18,12 @@ use image::Row;
 #[derive(Clone, Copy, PartialEq, Eq)]
 #[repr(u8)]
 enum Often {
-    Never,
-    Once,
-    More,
+    Never = 0,
+    Once = 1,
+    More = 2,
 }
+
+const _: () = prove!(Often::Never as u8 == 0 && Often::Once as u8 == 1 && Often::More as u8 == 2);
 
 // After one name more.
 #[tactic(auto, unfolding(crate::specs::Often::more))]

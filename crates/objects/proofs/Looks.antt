@@ -49,6 +49,24 @@ module _ (deeper : ℕ → ℕ → Bool) where
   unfolding settled
   looks_on e h = rw e at h
 
+-- one that leads nowhere comes to the same answer whatever lies deeper
+settled_by : (d : ℕ → ℕ → Bool) (x : Look) → ((u o : ℕ) → x ≡ Ls.Inside u o → ⊥)
+    → settled (λ u o. false) x ≡ settled d x
+unfolding settled
+settled_by d Ls.Yes h = refl
+settled_by d Ls.No h = refl
+settled_by d (Ls.Inside u o) h = absurd (h u o refl)
+
+pub looks_end : (deeper : ℕ → ℕ → Bool) (x : Look) {b y : Bool} → y ≡ settled (λ u o. false) x
+    → ((u o : ℕ) → x ≡ Ls.Inside u o → ⊥) → settled deeper x ≡ b → y ≡ b
+looks_end deeper x is nowhere h = is ∙ settled_by deeper x nowhere ∙ h
+
+pub settled_no : (x : Look) → (x ≡ Ls.Yes → ⊥) → settled (λ u o. false) x ≡ false
+unfolding settled
+settled_no Ls.Yes h = absurd (h refl)
+settled_no Ls.No h = refl
+settled_no (Ls.Inside u o) h = refl
+
 -- ---- where they lead
 
 module _ {size : ℕ → ℕ} {m : ℕ} where

@@ -26,13 +26,13 @@ pub type Words = [u64; ROWS];
 
 // What is said of starts, and of ends.
 #[derive(Clone, Copy)]
-struct Edged<T> {
-    starts: T,
-    ends: T,
+pub struct Edged<T> {
+    pub starts: T,
+    pub ends: T,
 }
 
 // The words of one row.
-type RowWords = Edged<u64>;
+pub type EdgeWords = Edged<u64>;
 
 // The two tables.
 type Tables<'a> = Edged<&'a Words>;
@@ -218,7 +218,7 @@ fn without(word: u64, i: u16) -> u64
 }
 
 // What begins at the edges of a record's base, whose row plus 1 is a: the base's part is no object.
-fn base_edges(tables: Tables, a: u16) -> RowWords
+fn base_edges(tables: Tables, a: u16) -> EdgeWords
     requires { a ≤ ROWS }
     ensures { (w : ℕ) → (bit_of result.starts w ≡ said_of_base tables.entry.starts.now w a)
         × (bit_of result.ends w ≡ said_of_base tables.entry.ends.now w a) }
@@ -244,11 +244,11 @@ fn field_edges(
     f: &[u8],
     plan: &[u32],
     tables: Tables,
-    base: RowWords,
+    base: EdgeWords,
     before: u32,
     k: u16,
     n: u16,
-) -> RowWords
+) -> EdgeWords
     requires { LowTypes f.now k (k + n) ROWS }
     ensures { (deeper : ℕ → ℕ → Bool) (w m : ℕ) (l : List ℕ)
         → Edges deeper (held plan.now) w m tables.entry.starts.now tables.entry.ends.now
@@ -274,7 +274,7 @@ fn field_edges(
 }
 
 // What begins at the edges of the parts of type row r: an array's are its element's.
-fn part_edges(t: &[u8], f: &[u8], plan: &[u32], tables: Tables, r: usize) -> RowWords
+fn part_edges(t: &[u8], f: &[u8], plan: &[u32], tables: Tables, r: usize) -> EdgeWords
     requires { Typed t.now f.now plan.now × (r < rows_of t.now) }
     ensures { (w : ℕ) → Edges (begins_at t.now f.now w) (held plan.now) w r
         tables.entry.starts.now tables.entry.ends.now
@@ -297,7 +297,7 @@ fn part_edges(t: &[u8], f: &[u8], plan: &[u32], tables: Tables, r: usize) -> Row
 }
 
 // What begins at the edges of type row r: an object begins at its own start, which is its end where it has no cells.
-fn edges(t: &[u8], f: &[u8], plan: &[u32], tables: Tables, r: usize) -> RowWords
+fn edges(t: &[u8], f: &[u8], plan: &[u32], tables: Tables, r: usize) -> EdgeWords
     requires { Typed t.now f.now plan.now × (r < rows_of t.now) }
     ensures { (w : ℕ) → Edges (begins_at t.now f.now w) (held plan.now) w r
         tables.entry.starts.now tables.entry.ends.now

@@ -2,7 +2,7 @@
 -- finishes or traps its next step goes on, finishes, or ends in a named trap. It is never stuck.
 --
 -- The claim is `sound_after`, which is `demand3_from` at the fresh state. The definitions that it cites:
---   check_of, (Ok tt)           checker/specs/Check: questions 1 to 11
+--   check_of                     checker/specs/Check: questions 1 to 11; Ok tt where all pass
 --   Bytes                        image/specs/Rows: the image's numbers are bytes
 --   program_of, first_top, fresh specs/Running: the image's tables, G + F0, the fresh state
 --   tagged, Cell                 specs/Memory: cells with kinds

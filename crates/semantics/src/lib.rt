@@ -1,4 +1,4 @@
-// What the machine's definitions and its code share: numbers, places and answers.
+// What the machine's definitions and its code share: numbers and places.
 #![tactic(auto)]
 
 // Where a run stands: the next statement, the newest frame and its end, and what was read and written.

@@ -24,6 +24,24 @@ returns-in_default-mark_at c = let g = program_of c.args.self.now.loaded.image.n
     no_type g older _ _ _ _ c.requires.3 c.requires.0.cells
     c.mark_at-2.ensures c.in_default-mark_at.is (types_few c.args.self.now.loaded.planned) c.requires.1
 
+pub returns-else-at-base : goal.returns-else-at-base
+returns-else-at-base c =
+    let g = program_of c.args.self.now.loaded.image.now in
+    λ p qs older framed oldest start.
+    elim c.if-extends.branch [
+      | then-extends w ↦ elim c.if-at-base.either [
+        | inl (extends, high) ↦ w.t-14-is ∙ lt-leb _ _ high
+            ∙ too_high g older _ _ _ _ c.requires.3 c.requires.0.cells
+            (program_accepted _ c.args.self.now.loaded.planned.checked.accepted)
+            (older_existing g framed.walked oldest) start
+            c.mark_at.ensures c.in-Some.is high
+        | inr none ↦ clash (sym w.if-extends.true ∙ none)
+      ]
+      | else-extends w ↦ w.t-14-is ∙ w.if-extends.false
+          ∙ not_extended g older _ _ _ _ c.requires.3 c.requires.0.cells
+          c.mark_at-2.ensures c.in-Some-mark_at.is c.extends.ensures w.if-extends.false
+    ]
+
 pub object_at-requires : goal.object_at-requires
 object_at-requires c =
     let g = program_of c.args.self.now.loaded.image.now in
@@ -42,21 +60,3 @@ returns-then-at-base c =
     c.mark_at-2.ensures c.in-Some-mark_at.is
     c.extends.ensures extends low
     oldest (c.object_at.ensures p qs older framed oldest start)
-
-pub returns-else-at-base : goal.returns-else-at-base
-returns-else-at-base c =
-    let g = program_of c.args.self.now.loaded.image.now in
-    λ p qs older framed oldest start.
-    elim c.if-extends.branch [
-      | then-extends w ↦ elim c.if-at-base.either [
-        | inl (extends, high) ↦ w.t-14-is ∙ lt-leb _ _ high
-            ∙ too_high g older _ _ _ _ c.requires.3 c.requires.0.cells
-            (program_accepted _ c.args.self.now.loaded.planned.checked.accepted)
-            (older_existing g framed.walked oldest) start
-            c.mark_at.ensures c.in-Some.is high
-        | inr none ↦ clash (sym w.if-extends.true ∙ none)
-      ]
-      | else-extends w ↦ w.t-14-is ∙ w.if-extends.false
-          ∙ not_extended g older _ _ _ _ c.requires.3 c.requires.0.cells
-          c.mark_at-2.ensures c.in-Some-mark_at.is c.extends.ensures w.if-extends.false
-    ]
